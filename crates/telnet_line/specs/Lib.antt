@@ -1,0 +1,2 @@
+pub mod Telnet
+pub mod TelnetReading

@@ -1,0 +1,4 @@
+//! A table from numbers to shared records, as a tree of shared blocks.
+#![tactic(auto)]
+
+mod block;

@@ -1,9 +1,8 @@
 -- Values (Programmer's Manual, "MOO value types"), as plain data.
-use Rattle.std.specs.Prelude.{ℕ, zero, suc, ◌+◌, ℤ, pos, neg_ℤ, int_le, Bool, true, false, ◌&&◌, ◌||◌, not, List, [], ◌∷◌, ◌==◌, length, map, nat_le}
+use Rattle.std.specs.Prelude.{ℕ, suc, ◌+◌, ◌^◌, ℤ, pos, negsuc, Bool, true, false, ◌&&◌, ◌||◌, not, List, [], ◌∷◌, ◌==◌, length, map, nat_le, nat_lt}
 use Rattle.std.specs.Ordering.{int_eq}
 use Rattle.std.specs.Cmp.Lexicographic.{pointwise}
 use Rattle.std.specs.Char.{to_ascii_lowercase}
-use Rattle.std.specs.List.{list_all}
 
 -- printing ASCII, space and tab, by codes
 abbrev pub Text : Type 0
@@ -20,7 +19,8 @@ abbrev pub is_character : ℕ → Bool
 is_character c = (c == 9) || (nat_le 32 c && nat_le c 126)
 
 abbrev pub is_text : Text → Bool
-is_text t = list_all is_character t
+is_text [] = true
+is_text (c ∷ t) = is_character c && is_text t
 
 -- the errors, in their order from E_NONE on
 pub data ErrorCode : Type 0 where
@@ -77,7 +77,8 @@ joined (item x xs) ys = item x (joined xs ys)
 
 -- the numbers of this profile are those of 32 bits
 abbrev pub in_number_range : ℤ → Bool
-in_number_range z = int_le (neg_ℤ (pos 2147483648)) z && int_le z (pos 2147483647)
+in_number_range (pos n) = nat_lt n (2 ^ 31)
+in_number_range (negsuc n) = nat_lt n (2 ^ 31)
 
 -- numbers in their range and texts of their characters, at every level
 abbrev mutual

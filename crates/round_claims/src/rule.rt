@@ -5,6 +5,7 @@ use atomic_table::{Join, Play, Split, TableRule};
 use std::collections::LinkedList;
 
 /// How many positions are to be claimed, and by how many seats.
+#[derive(Clone, Copy)]
 pub struct Size {
     pub positions: u64,
     pub seats: u64,

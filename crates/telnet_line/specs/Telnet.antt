@@ -67,24 +67,24 @@ code Dont = DONT
 -- what stands between SB and the closing IAC SE: a byte other than IAC, or IAC and a byte other than SE
 pub data Parameter : Type 0 where
   Plain : ℕ → Parameter
-  After_IAC : ℕ → Parameter
+  After_iac : ℕ → Parameter
 
 abbrev pub IsParameter : Parameter → Type 0
 IsParameter (Plain b) = b ≢ IAC
-IsParameter (After_IAC b) = b ≢ SE
+IsParameter (After_iac b) = b ≢ SE
 
 abbrev pub parameter_bytes : Parameter → List ℕ
 parameter_bytes (Plain b) = b ∷ []
-parameter_bytes (After_IAC b) = IAC ∷ b ∷ []
+parameter_bytes (After_iac b) = IAC ∷ b ∷ []
 
 pub data StreamUnit : Type 0 where
   Data : ℕ → StreamUnit                         -- a byte other than LF, CR and IAC
-  Data_IAC : StreamUnit                         -- IAC IAC: the byte 255 as data
+  Data_iac : StreamUnit                         -- IAC IAC: the byte 255 as data
   Line_feed : StreamUnit                        -- LF with no CR before it
   Return_line_feed : StreamUnit                 -- CR LF
   Return_null : StreamUnit                      -- CR NUL
   Lone_return : StreamUnit                      -- CR before any other byte
-  Lone_IAC : StreamUnit                         -- IAC before a byte below SE
+  Lone_iac : StreamUnit                         -- IAC before a byte below SE
   Command : ℕ → StreamUnit                      -- IAC and a byte from SE on that is none of SB, WILL to DONT, IAC
   Negotiation : Verb → ℕ → StreamUnit           -- IAC, WILL, WONT, DO or DONT, and any byte as option
   Subnegotiation : List Parameter → StreamUnit  -- IAC SB to IAC SE
@@ -98,12 +98,12 @@ IsUnit _ = Unit {0}
 -- the bytes of a unit
 abbrev pub spelling : StreamUnit → List ℕ
 spelling (Data b) = b ∷ []
-spelling Data_IAC = IAC ∷ IAC ∷ []
+spelling Data_iac = IAC ∷ IAC ∷ []
 spelling Line_feed = LF ∷ []
 spelling Return_line_feed = CR ∷ LF ∷ []
 spelling Return_null = CR ∷ NUL ∷ []
 spelling Lone_return = CR ∷ []
-spelling Lone_IAC = IAC ∷ []
+spelling Lone_iac = IAC ∷ []
 spelling (Command c) = IAC ∷ c ∷ []
 spelling (Negotiation verb option) = IAC ∷ code verb ∷ option ∷ []
 spelling (Subnegotiation parameters) = IAC ∷ SB ∷ (flat_map parameter_bytes parameters ++ IAC ∷ SE ∷ [])
@@ -115,7 +115,7 @@ BeginsWith P (b ∷ bytes) = P b
 -- a CR and an IAC that stand for themselves are told by the byte after them, which is none of theirs
 abbrev pub MayPrecede : StreamUnit → List ℕ → Type 0
 MayPrecede Lone_return after = BeginsWith (λ b. (b ≢ LF) × (b ≢ NUL)) after
-MayPrecede Lone_IAC after = BeginsWith (λ b. b < SE) after
+MayPrecede Lone_iac after = BeginsWith (λ b. b < SE) after
 MayPrecede _ after = Unit {0}
 
 -- a beginning of a unit that is not all of it, or nothing
@@ -156,7 +156,7 @@ commanded line c = if c == EC then without_last line else (if c == EL then [] el
 -- the line so far, after a unit
 abbrev pub line_after : List ℕ → StreamUnit → List ℕ
 line_after line (Data b) = with_data line b
-line_after line Data_IAC = with_data line IAC
+line_after line Data_iac = with_data line IAC
 line_after line Line_feed = []
 line_after line Return_line_feed = []
 line_after line (Command c) = commanded line c

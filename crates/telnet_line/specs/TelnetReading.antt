@@ -1,25 +1,25 @@
 -- Where a reader of a Telnet stream stands: between two bytes it knows the line so far, and what has begun.
 use Rattle.std.specs.Prelude.{◌≡◌, ℕ, Bool, ◌==◌, nat_lt, if◌then◌else◌, List, [], ◌∷◌, ◌++◌}
 use Rattle.std.specs.List.{AllByRecursion, flat_map}
-use Rattle.telnet_line.specs.Telnet.{NUL, LF, CR, SE, SB, WILL, WONT, DO, DONT, IAC, Verb, Will, Wont, Do, Dont, code, Parameter, IsParameter, parameter_bytes, StreamUnit, Data, Data_IAC, Line_feed, Command, IsCut, Event, Line, line_after, brought, negotiated, line_of, events_of}
+use Rattle.telnet_line.specs.Telnet.{NUL, LF, CR, SE, SB, WILL, WONT, DO, DONT, IAC, Verb, Will, Wont, Do, Dont, code, Parameter, IsParameter, parameter_bytes, StreamUnit, Data, Data_iac, Line_feed, Return_line_feed, Command, IsCut, Event, Line, line_after, brought, negotiated, line_of, events_of}
 
 -- what has begun of the next unit
 pub data Begun : Type 0 where
   Nothing : Begun
   Return : Begun
-  Escape : Begun
-  Asked : Verb → Begun
-  In_subnegotiation : Begun
-  Escape_in_subnegotiation : Begun
+  Iac : Begun
+  Negotiating : Verb → Begun
+  Parameters : Begun
+  Parameters_iac : Begun
 
 -- the bytes that have begun a unit
 abbrev pub HasBegun : Begun → List ℕ → Type 0
 HasBegun Nothing bytes = bytes ≡ []
 HasBegun Return bytes = bytes ≡ CR ∷ []
-HasBegun Escape bytes = bytes ≡ IAC ∷ []
-HasBegun (Asked verb) bytes = bytes ≡ IAC ∷ code verb ∷ []
-HasBegun In_subnegotiation bytes = (ps : List Parameter) × AllByRecursion IsParameter ps × (bytes ≡ IAC ∷ SB ∷ flat_map parameter_bytes ps)
-HasBegun Escape_in_subnegotiation bytes = (ps : List Parameter) × AllByRecursion IsParameter ps × (bytes ≡ IAC ∷ SB ∷ (flat_map parameter_bytes ps ++ IAC ∷ []))
+HasBegun Iac bytes = bytes ≡ IAC ∷ []
+HasBegun (Negotiating verb) bytes = bytes ≡ IAC ∷ code verb ∷ []
+HasBegun Parameters bytes = (ps : List Parameter) × AllByRecursion IsParameter ps × (bytes ≡ IAC ∷ SB ∷ flat_map parameter_bytes ps)
+HasBegun Parameters_iac bytes = (ps : List Parameter) × AllByRecursion IsParameter ps × (bytes ≡ IAC ∷ SB ∷ (flat_map parameter_bytes ps ++ IAC ∷ []))
 
 pub record Reading : Type 0 where
   pub begun : Begun
@@ -51,29 +51,29 @@ abbrev pub takes : StreamUnit → List ℕ → Step
 takes u line = record { reading = record { begun = Nothing; line = line_after line u }; events = brought line u }
 
 abbrev pub step_data : ℕ → List ℕ → Step
-step_data b line = if b == LF then takes Line_feed line else (if b == CR then holds Return line else (if b == IAC then holds Escape line else takes (Data b) line))
+step_data b line = if b == LF then takes Line_feed line else (if b == CR then holds Return line else (if b == IAC then holds Iac line else takes (Data b) line))
 
 abbrev pub step_return : ℕ → List ℕ → Step
-step_return b line = if b == LF then takes Line_feed line else (if b == NUL then holds Nothing line else step_data b line)
+step_return b line = if b == LF then takes Return_line_feed line else (if b == NUL then holds Nothing line else step_data b line)
 
-abbrev pub step_escape : ℕ → List ℕ → Step
-step_escape b line =
+abbrev pub step_iac : ℕ → List ℕ → Step
+step_iac b line =
     if nat_lt b SE then step_data b line
-    else (if b == SB then holds In_subnegotiation line
-    else (if b == WILL then holds (Asked Will) line
-    else (if b == WONT then holds (Asked Wont) line
-    else (if b == DO then holds (Asked Do) line
-    else (if b == DONT then holds (Asked Dont) line
+    else (if b == SB then holds Parameters line
+    else (if b == WILL then holds (Negotiating Will) line
+    else (if b == WONT then holds (Negotiating Wont) line
+    else (if b == DO then holds (Negotiating Do) line
+    else (if b == DONT then holds (Negotiating Dont) line
     else (if b == IAC then holds Nothing line
     else takes (Command b) line))))))
 
 abbrev pub step_by : Begun → ℕ → List ℕ → Step
 step_by Nothing b line = step_data b line
 step_by Return b line = step_return b line
-step_by Escape b line = step_escape b line
-step_by (Asked verb) b line = record { reading = record { begun = Nothing; line = line }; events = negotiated verb b }
-step_by In_subnegotiation b line = if b == IAC then holds Escape_in_subnegotiation line else holds In_subnegotiation line
-step_by Escape_in_subnegotiation b line = if b == SE then holds Nothing line else holds In_subnegotiation line
+step_by Iac b line = step_iac b line
+step_by (Negotiating verb) b line = record { reading = record { begun = Nothing; line = line }; events = negotiated verb b }
+step_by Parameters b line = if b == IAC then holds Parameters_iac line else holds Parameters line
+step_by Parameters_iac b line = if b == SE then holds Nothing line else holds Parameters line
 
 abbrev pub step : ℕ → Reading → Step
 step b reading = step_by reading.begun b reading.line

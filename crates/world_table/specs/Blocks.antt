@@ -1,15 +1,17 @@
 -- What the fields of a place mean.
-use Rattle.std.specs.Prelude.{ℕ, ◌+◌, ◌^◌, List, [], ◌∷◌, ◌++◌, map}
+use Rattle.std.specs.Prelude.{◌≡◌, ℕ, ◌+◌, ◌<◌, List, [], ◌∷◌, length}
 use Rattle.std.specs.Arc.{arc_value}
-use Rattle.world_table.specs.Branch.{Branch}
-use Rattle.world_table.specs.declared.block.Held.{Held}
-use Rattle.world_table.specs.declared.block.Held.TheVariants.{Nothing, Record, Block}
-
-abbrev pub joined : {V : Type 0} → ℕ → ℕ → List (Branch V) → List (ℕ × V)
-joined w start [] = []
-joined w start (c ∷ cs) = map (λ e. (start + e.0, e.1)) c.entries ++ joined w (start + w) cs
+use Rattle.world_table.specs.Branch.{Branch, reach, joined, AreBranches}
+use Rattle.world_table.specs.declared.place.Held.{Held}
+use Rattle.world_table.specs.declared.place.Held.TheVariants.{Nothing, Record, Block}
 
 abbrev pub branch_of : {V : Type 0} → Held V → Branch V
 branch_of Nothing = record { height = 0; entries = [] }
 branch_of (Record r) = record { height = 0; entries = (0, arc_value r) ∷ [] }
-branch_of (Block below places) = record { height = below + 1; entries = joined (32 ^ below) 0 ((arc_value places).items) }
+branch_of (Block below places) = record { height = below + 1; entries = joined (reach below) 0 ((arc_value places).items) }
+
+-- a block has 32 places, each with a branch of the block's own height
+abbrev pub IsSound : {V : Type 0} → Held V → Type 0
+IsSound Nothing = Unit {0}
+IsSound (Record r) = Unit {0}
+IsSound (Block below places) = (below < 12) × (length ((arc_value places).items) ≡ 32) × AreBranches below ((arc_value places).items)

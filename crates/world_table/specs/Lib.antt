@@ -1,2 +1,5 @@
-pub mod Branch
 pub mod Blocks
+pub mod Branch
+pub mod Contents
+pub mod Entries
+pub mod Falls

@@ -1,4 +1,7 @@
 //! A table from numbers to shared records, as a tree of shared blocks.
 #![tactic(auto)]
 
-mod block;
+mod place;
+mod table;
+
+pub use table::Table;

@@ -1,0 +1,2 @@
+//! builtins_value
+#![tactic(auto)]

@@ -1,0 +1,2 @@
+//! moo_arith
+#![tactic(auto)]

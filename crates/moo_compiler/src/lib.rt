@@ -1,0 +1,2 @@
+//! moo_compiler
+#![tactic(auto)]

@@ -1,0 +1,2 @@
+//! moo_grammar
+#![tactic(auto)]

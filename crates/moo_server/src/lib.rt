@@ -1,0 +1,2 @@
+//! moo_server
+#![tactic(auto)]

@@ -1,0 +1,2 @@
+//! moo_syntax
+#![tactic(auto)]

@@ -1,0 +1,2 @@
+//! moo_text
+#![tactic(auto)]

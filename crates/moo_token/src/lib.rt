@@ -1,0 +1,2 @@
+//! moo_token
+#![tactic(auto)]

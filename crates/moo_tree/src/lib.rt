@@ -1,0 +1,2 @@
+//! moo_tree
+#![tactic(auto)]

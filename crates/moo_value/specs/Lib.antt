@@ -1,0 +1,5 @@
+pub mod Depth
+pub mod Errors
+pub mod Falls
+pub mod Shown
+pub mod View

@@ -1,0 +1,2 @@
+//! speculate
+#![tactic(auto)]

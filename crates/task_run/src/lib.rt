@@ -1,0 +1,2 @@
+//! task_run
+#![tactic(auto)]

@@ -1,0 +1,3 @@
+pub mod Cutter
+pub mod Unfinished
+pub mod Readings

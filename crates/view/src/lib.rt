@@ -1,0 +1,2 @@
+//! view
+#![tactic(auto)]

@@ -1,2 +1,8 @@
-//! moo_tree
+//! Source trees of programs (Programmer's Manual, "The MOO Programming Language").
+//!
+//! To contracts a tree is plain data: an `Expr`, a `Statement` or a `Program` of the definitions. The tree of a program is at most 100
+//! nodes high, so walks over it may recurse.
 #![tactic(auto)]
+
+pub mod expression;
+pub mod statement;

@@ -4,5 +4,6 @@
 #![tactic(auto)]
 
 pub mod error;
+pub mod operator;
 pub mod text;
 pub mod value;

@@ -29,6 +29,7 @@ pub record IsKept (size : Size) (words : List ℕ) (views : List SeatView) : Typ
   pub each_once : EachOnceBelow (min (slice_index words 0) size.positions) (all_claimed views)
   pub count : length (all_claimed views) ≡ min (slice_index words 0) size.positions
   pub all_seats : sum_by (λ v. v.seats) views ≡ size.seats
+  pub misses : sum_by (λ v. v.misses_left) views ≤ size.seats
   pub bounded : slice_index words 0 + sum_by (λ v. v.misses_left) views ≤ size.positions + size.seats
   pub told : EachView (IsTold size (slice_index words 0)) views
   pub positions_fit : size.positions ≤ 1099511627775

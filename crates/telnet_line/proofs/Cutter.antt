@@ -100,8 +100,10 @@ unfinished (Negotiating verb) f = (Negotiation verb 0, 0, [], tt, refl)
 unfinished (Parameters ps) f = (Subnegotiation ps, IAC, SE ∷ [], f, refl)
 unfinished (Parameters_iac ps) f = (Subnegotiation ps, SE, [], f, ap (λ x. IAC ∷ SB ∷ x) (sym (append_assoc (flat_map parameter_bytes ps) (IAC ∷ []) (SE ∷ []))))
 
-abbrev pub Made : List ℕ → List ℕ → Cut → Type 0
-Made stream bytes s = IsCut stream (s.units ++ (run s.left bytes).units) (bytes_of (run s.left bytes).left) × Fits (run s.left bytes).left
+-- the stream, of which these bytes are still to come, is cut in the units so far and those that the bytes make
+record Made (stream bytes : List ℕ) (s : Cut) : Type 0 where
+  cut : IsCut stream (s.units ++ (run s.left bytes).units) (bytes_of (run s.left bytes).left)
+  fits : Fits (run s.left bytes).left
 
 abbrev Goes : List ℕ → Type 0
 Goes bytes = (c : Cutter) → Fits c → Made (bytes_of c ++ bytes) bytes (holds c)
@@ -110,7 +112,7 @@ at_byte : (bytes : List ℕ) (s : Cut) (b n : ℕ) (front : List ℕ) → (b == 
 at_byte bytes s b n front e h = subst (λ x. Made (front ++ x ∷ bytes) bytes s) (sym (eqb-true b n e)) h
 
 after_unit : (bytes : List ℕ) (u : StreamUnit) → Goes bytes → IsUnit u → MayPrecede u bytes → Made (spelling u ++ bytes) bytes (whole u)
-after_unit bytes u go i m = let g = go Nothing tt in (unit u i m g.0, g.1)
+after_unit bytes u go i m = let g = go Nothing tt in record { cut = unit u i m g.cut; fits = g.fits }
 
 data_made : (bytes : List ℕ) → Goes bytes → (b : ℕ) → Made (b ∷ bytes) bytes (cut_data b)
 data_made bytes go b =
@@ -121,7 +123,7 @@ data_made bytes go b =
     after_unit bytes (Data b) go (eqb-false b LF lf, eqb-false b CR cr, eqb-false b IAC iac) tt)))
 
 lone : (bytes : List ℕ) (u : StreamUnit) (b : ℕ) (s : Cut) → IsUnit u → MayPrecede u (b ∷ bytes) → Made (b ∷ bytes) bytes s → Made (spelling u ++ b ∷ bytes) bytes (before u s)
-lone bytes u b s i m h = (unit u i m h.0, h.1)
+lone bytes u b s i m h = record { cut = unit u i m h.cut; fits = h.fits }
 
 return_made : (bytes : List ℕ) → Goes bytes → (b : ℕ) → Made (CR ∷ b ∷ bytes) bytes (cut_return b)
 return_made bytes go b =
@@ -164,18 +166,21 @@ parameters_iac_made bytes go ps f b =
     (λ e. at_byte bytes _ b SE (opened (flat_map parameter_bytes ps ++ IAC ∷ [])) e (subst (λ x. Made (opened x) bytes (whole (Subnegotiation ps))) (append_assoc (flat_map parameter_bytes ps) (IAC ∷ SE ∷ []) bytes ∙ sym (seam SE)) (after_unit bytes (Subnegotiation ps) go f tt)))
     (λ e. subst (λ x. Made (opened x) bytes (holds (Parameters (ps ++ After_iac b ∷ [])))) (sym (seam b)) (one_more bytes _ ps (After_iac b) (go (Parameters (ps ++ After_iac b ∷ [])) (all_snoc ps (After_iac b) f (eqb-false b SE e)))))
 
+stepped : (stream bytes : List ℕ) (c : Cutter) (b : ℕ) → Made stream bytes (cut_byte c b) → Made stream (b ∷ bytes) (holds c)
+stepped stream bytes c b h = record { cut = h.cut; fits = h.fits }
+
 goes : (bytes : List ℕ) → Goes bytes
-goes [] c f = (subst (λ x. IsCut x [] (bytes_of c)) (sym (append-nil (bytes_of c))) (rest (unfinished c f)), f)
-goes (b ∷ bytes) Nothing f = data_made bytes (goes bytes) b
-goes (b ∷ bytes) Return f = return_made bytes (goes bytes) b
-goes (b ∷ bytes) Iac f = iac_made bytes (goes bytes) b
-goes (b ∷ bytes) (Negotiating verb) f = after_unit bytes (Negotiation verb b) (goes bytes) tt tt
-goes (b ∷ bytes) (Parameters ps) f = parameters_made bytes (goes bytes) ps f b
-goes (b ∷ bytes) (Parameters_iac ps) f = parameters_iac_made bytes (goes bytes) ps f b
+goes [] c f = record { cut = subst (λ x. IsCut x [] (bytes_of c)) (sym (append-nil (bytes_of c))) (rest (unfinished c f)); fits = f }
+goes (b ∷ bytes) Nothing f = stepped _ bytes Nothing b (data_made bytes (goes bytes) b)
+goes (b ∷ bytes) Return f = stepped _ bytes Return b (return_made bytes (goes bytes) b)
+goes (b ∷ bytes) Iac f = stepped _ bytes Iac b (iac_made bytes (goes bytes) b)
+goes (b ∷ bytes) (Negotiating verb) f = stepped _ bytes (Negotiating verb) b (after_unit bytes (Negotiation verb b) (goes bytes) tt tt)
+goes (b ∷ bytes) (Parameters ps) f = stepped _ bytes (Parameters ps) b (parameters_made bytes (goes bytes) ps f b)
+goes (b ∷ bytes) (Parameters_iac ps) f = stepped _ bytes (Parameters_iac ps) b (parameters_iac_made bytes (goes bytes) ps f b)
 
 -- each stream has a cutting
 pub cut_is : (stream : List ℕ) → IsCut stream (run Nothing stream).units (bytes_of (run Nothing stream).left)
-cut_is stream = (goes stream Nothing tt).0
+cut_is stream = (goes stream Nothing tt).cut
 
 pub left_fits : (stream : List ℕ) → Fits (run Nothing stream).left
-left_fits stream = (goes stream Nothing tt).1
+left_fits stream = (goes stream Nothing tt).fits

@@ -38,3 +38,7 @@ pub record IsBranch {V : Type 0} (levels : ℕ) (b : Branch V) : Type 0 where
 abbrev pub AreBranches : {V : Type 0} → ℕ → List (Branch V) → Type 0
 AreBranches levels [] = Unit {0}
 AreBranches levels (b ∷ bs) = IsBranch levels b × AreBranches levels bs
+
+-- no branch at all
+abbrev pub nowhere : {V : Type 0} → Branch V
+nowhere = record { height = 0; entries = [] }

@@ -4,7 +4,7 @@ use Rattle.std.proofs.Common.{arith}
 use Rattle.std.specs.Arc.{arc_value}
 use denote.Param.Weighed.{most}
 use Rattle.world_table.specs.Branch.{Branch, AreBranches}
-use Rattle.world_table.specs.Blocks.{branch_of, IsSound}
+use Rattle.world_table.specs.Held.{branch_of, IsSound}
 use Rattle.world_table.specs.declared.place.Held.{Held}
 use Rattle.world_table.specs.declared.place.Held.TheVariants.{Nothing, Record, Block}
 use Rattle.world_table.specs.declared.place.Place.TheDeep.{deep-Held}

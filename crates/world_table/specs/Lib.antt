@@ -1,5 +1,5 @@
-pub mod Blocks
 pub mod Branch
 pub mod Contents
 pub mod Entries
 pub mod Falls
+pub mod Held

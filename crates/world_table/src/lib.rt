@@ -2,6 +2,3 @@
 #![tactic(auto)]
 
 mod place;
-mod table;
-
-pub use table::Table;

@@ -1,12 +1,15 @@
 //! The places of a block, and what lies below them.
-ghost use Rattle.std.specs.Prelude.{◌≡◌, ℕ, ◌+◌, ◌-◌, ◌*◌, ◌/◌, ◌%◌, ◌^◌, ◌<◌, ◌≤◌, [], ◌∷◌, IfOk, OnOk, length, slice_set, option_map};
+ghost use Rattle.std.specs.Prelude.{◌≡◌, ℕ, ◌+◌, ◌*◌, ◌/◌, ◌%◌, ◌^◌, ◌<◌, ◌≤◌, [], ◌∷◌, IfOk, option_map, IsTrue, ◌↔◌};
 ghost use Rattle.std.specs.Ordering.{nat_cmp};
-ghost use Rattle.std.specs.FinMap.{find, put};
+ghost use Rattle.std.specs.FinMap.{find};
 ghost use Rattle.std.specs.Arc.{arc_value};
-ghost use Rattle.world_table.specs.Branch.{reach, joined, IsBranch, AreBranches};
-ghost use Rattle.world_table.specs.Entries.{without, first_from};
+ghost use Rattle.world_table.specs.Branch.{reach};
 
-use std::alloc::{AllocError, Global};
+pub mod blocks;
+pub mod change;
+pub mod walk;
+
+use std::alloc::AllocError;
 use std::marker::Model;
 use std::sync::Arc;
 
@@ -33,7 +36,7 @@ impl<R> Model for Place<R> {
 
     ghost coded = { branch_code R.code };
 
-    ghost use Rattle.world_table.specs.Blocks.{branch_of, IsSound};
+    ghost use Rattle.world_table.specs.Held.{branch_of, IsSound};
 
     ghost view = { λ a. branch_of a.held };
 
@@ -56,12 +59,12 @@ impl<R> Place<R> {
     }
 
     /// A place with a record.
-    pub fn record(record: Arc<R>) -> Self
+    pub fn of_record(value: Arc<R>) -> Self
         ensures height { result.height ≡ 0 }
-        ensures entries { result.entries ≡ (0, arc_value record) ∷ [] }
+        ensures entries { result.entries ≡ (0, arc_value value) ∷ [] }
     {
         Place {
-            held: Held::Record(record),
+            held: Held::Record(value),
         }
     }
 
@@ -71,8 +74,25 @@ impl<R> Place<R> {
     {
         match &self.held {
             Held::Nothing => None,
-            Held::Record(record) => Some(record),
+            Held::Record(value) => Some(value),
             Held::Block(below, places) => places[index_of(key, *below)].get(key),
+        }
+    }
+}
+
+impl<R: Drop> Place<R> {
+    /// The same branch, with one more owner.
+    pub fn share(&self) -> Result<Place<R>, AllocError>
+        ensures { IfOk result (λ p. p ≡ self.now) }
+    {
+        match &self.held {
+            Held::Nothing => Ok(Place { held: Held::Nothing }),
+            Held::Record(value) => Ok(Place {
+                held: Held::Record(value.clone()?),
+            }),
+            Held::Block(below, places) => Ok(Place {
+                held: Held::Block(*below, places.clone()?),
+            }),
         }
     }
 }
@@ -84,17 +104,4 @@ fn index_of(key: u64, below: u32) -> usize
     ensures within { result < 32 }
 {
     ((key >> (5 * below)) & 31) as usize
-}
-
-impl<R: Drop> Place<R> {
-    /// The same branch, with one more owner.
-    pub fn share(&self) -> Result<Place<R>, AllocError>
-        ensures { IfOk result (λ p. p ≡ self.now) }
-    {
-        match &self.held {
-            Held::Nothing => Ok(Place { held: Held::Nothing }),
-            Held::Record(record) => Ok(Place { held: Held::Record(record.clone()?) }),
-            Held::Block(below, places) => Ok(Place { held: Held::Block(*below, places.clone()?) }),
-        }
-    }
 }

@@ -1,0 +1,4 @@
+pub mod Depth
+pub mod ExpressionFalls
+pub mod ExpressionView
+pub mod StatementView

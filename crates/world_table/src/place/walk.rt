@@ -1,0 +1,1 @@
+//! Walks in the order of keys.

@@ -1,2 +1,6 @@
-//! moo_server
+//! The two programs over handed-in words, files and streams: `moo-play` runs a script of steps over a world.
 #![tactic(auto)]
+
+pub mod given;
+pub mod printing;
+pub mod words;

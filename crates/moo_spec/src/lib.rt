@@ -1,2 +1,8 @@
 //! What the product means, by definitions alone: values, programs, worlds, turns, steps and lists.
 #![tactic(auto)]
+
+pub mod fixture;
+pub mod rows;
+pub mod runs;
+pub mod slots;
+pub mod values;

@@ -1,1 +1,7 @@
-mod Items
+pub mod Characters
+pub mod EscapedTexts
+pub mod Folding
+pub mod Items
+pub mod Names
+pub mod Numbers
+pub mod Reading

@@ -3,7 +3,10 @@
 //! To contracts a `Value` is plain data, a `Datum` of the definitions; how it is shared in memory is not seen.
 #![tactic(auto)]
 
+pub mod compare;
 pub mod error;
 pub mod operator;
+pub mod read;
 pub mod text;
 pub mod value;
+pub mod write;

@@ -1,5 +1,5 @@
 //! Texts, the strings of the language.
-ghost use Rattle.std.specs.Prelude.{◌≡◌, IfOk, MatchOption, IsFalse, length, string_bytes};
+ghost use Rattle.std.specs.Prelude.{◌≡◌, IfOk, MatchOption, IsFalse, IsTrue, length, string_bytes};
 ghost use Rattle.moo_spec.specs.Datum.{is_text as is_text_of};
 
 use std::alloc::AllocError;
@@ -42,6 +42,13 @@ impl Text {
         ensures { result.now ≡ self.now }
     {
         self.bytes.as_str()
+    }
+
+    /// What is known of every text: its characters are allowed.
+    pub fn know(&self)
+        ensures { IsTrue (is_text_of self.now) }
+    {
+        let _bytes = &self.bytes;
     }
 
     /// How many characters it has.

@@ -1,6 +1,6 @@
 //! Values.
-ghost use Rattle.std.specs.Prelude.{◌≡◌, IfOk, IsTrue};
-ghost use Rattle.moo_spec.specs.Datum.{Datum, integer, object, text as text_of, error, list, of_list, is_value, are_values};
+ghost use Rattle.std.specs.Prelude.{◌≡◌, IfOk, IsTrue, min};
+ghost use Rattle.moo_spec.specs.Datum.{Datum, integer, object, text as text_of, error, list, of_list, is_value, are_values, data_weight};
 
 use crate::error::MooError;
 use crate::text::Text;
@@ -22,7 +22,8 @@ enum Node {
     Object(i32),
     Text(Text),
     Error(MooError),
-    List(Arc<Vec<Value>>),
+    // the items, and what they weigh, or the greatest number where that is more
+    List(Arc<Vec<Value>>, usize),
 }
 
 impl Model for Value {
@@ -39,9 +40,9 @@ impl Model for Value {
     ghost view = { λ a. node_datum a.node };
 
     ghost use Rattle.std.specs.Prelude.{IsTrue};
-    ghost use Rattle.moo_spec.specs.Datum.{is_value};
+    ghost use Rattle.moo_value.specs.View.{is_sound};
 
-    ghost invariant = { λ a. IsTrue (is_value (node_datum a.node)) };
+    ghost invariant = { λ a. IsTrue (is_sound a.node) };
 
     ghost size = { depth };
 
@@ -97,8 +98,9 @@ impl Value {
         ensures { IfOk result (λ v. v ≡ list (of_list items.items)) }
     {
         know_all(&items);
+        let weight = items_weight(&items);
         let alloc = *items.allocator();
-        Ok(Value { node: Node::List(Arc::new(alloc, items)?) })
+        Ok(Value { node: Node::List(Arc::new(alloc, items)?, weight) })
     }
 
     /// What the value is, to match on.
@@ -110,7 +112,7 @@ impl Value {
             Node::Object(number) => Shown::Object(*number),
             Node::Text(text) => Shown::Text(text.as_str()),
             Node::Error(code) => Shown::Error(*code),
-            Node::List(items) => Shown::List(items.as_slice()),
+            Node::List(items, _) => Shown::List(items.as_slice()),
         }
     }
 
@@ -120,6 +122,32 @@ impl Value {
     {
         let _node = &self.node;
     }
+}
+
+impl Value {
+    ghost use Rattle.moo_spec.specs.Datum.{weight};
+
+    /// What the value weighs, or the greatest number where that is more. It is not counted anew: a list keeps it.
+    pub fn weight(&self) -> usize
+        ensures { result ≡ min (weight self.now) usize.MAX }
+    {
+        match &self.node {
+            Node::Integer(_) | Node::Object(_) | Node::Error(_) => 1,
+            Node::Text(text) => text.len().saturating_add(1),
+            Node::List(_, weight) => weight.saturating_add(1),
+        }
+    }
+}
+
+// What items weigh, or the greatest number where that is more.
+fn items_weight(items: &[Value]) -> usize
+    ensures { result ≡ min (data_weight (of_list items.now)) usize.MAX }
+{
+    let mut sum = 0usize;
+    for item in items {
+        sum = sum.saturating_add(item.weight());
+    }
+    sum
 }
 
 // Every item is a value.
@@ -140,7 +168,7 @@ impl Clone for Value {
             Node::Object(number) => Ok(Value { node: Node::Object(*number) }),
             Node::Text(text) => Ok(Value { node: Node::Text(text.clone()?) }),
             Node::Error(code) => Ok(Value { node: Node::Error(*code) }),
-            Node::List(items) => Ok(Value { node: Node::List(items.clone()?) }),
+            Node::List(items, weight) => Ok(Value { node: Node::List(items.clone()?, *weight) }),
         }
     }
 }

@@ -1,18 +1,18 @@
 -- Each kind of step keeps the rule.
-use Rattle.std.proofs.Common.{◌≡◌, ℕ, zero, suc, ◌+◌, ◌-◌, ◌%◌, ◌^◌, ◌<◌, ◌≤◌, ◌==◌, min, cond, Bool, true, false, ◌||◌, List, [], ◌∷◌, ◌++◌, length, slice_index, slice_set, refl, sym, ap, subst, ◌∙◌, inl, inr, arith, length-set, length-append}
-use Rattle.std.specs.Prelude.{sum_by, flat_map, nat_lt}
+use Rattle.std.proofs.Common.{◌≡◌, ℕ, ◌+◌, ◌-◌, ◌%◌, ◌^◌, ◌<◌, ◌≤◌, min, cond, Bool, true, false, ◌||◌, List, [], ◌∷◌, ◌++◌, length, slice_index, slice_set, refl, sym, ap, ◌∙◌, inl, inr, arith, length-set, length-append}
+use Rattle.std.specs.Prelude.{nat_lt}
 use Rattle.std.proofs.lemmas.Bool.{cases_lt}
 use Rattle.std.proofs.lemmas.Bool.Decides.{nat_tests}
 use Rattle.std.proofs.Math.Nat.{mod-eq_of_lt}
 use mathlib.Core.Option.{some, none, some-injective, some-ne-none}
 use lib.ListN.{get_elem?}
-use Rattle.atomic_table.specs.Table.{State, Allows, Splits, Joins, step}
+use Rattle.atomic_table.specs.Table.{State, Allows, Splits, Joins, Final, Seen, step}
 use Rattle.atomic_table.specs.Table.Act.{keeps}
-use Rattle.atomic_table.proofs.Lists.{at_set, at_snoc, set_again}
+use Rattle.atomic_table.proofs.Lists.{at_set}
 use Rattle.round_claims.specs.declared.rule.Size.{Size}
 use Rattle.round_claims.specs.declared.rule.SeatView.{SeatView}
 use Rattle.round_claims.specs.Claimed.{times, EachOnceBelow}
-use Rattle.round_claims.specs.Rule.{IsKept, IsTold, EachView, all_claimed, first_view, seat_view, left_view, joined_view, spent_view, claimed_view, closed_view, Claims, Counts}
+use Rattle.round_claims.specs.Rule.{IsKept, IsTold, all_claimed, seat_view, left_view, joined_view, spent_view, claimed_view, closed_view, Exchanges}
 use Rattle.round_claims.proofs.Views.{sum_set, sum_at, sum_push, times-append, times-all_claimed, length-all_claimed, each_set, each_push, claimed_by_one}
 
 -- the seats' lists together, after one view's list has changed
@@ -90,9 +90,9 @@ no_wrap : (size : Size) (words : List ℕ) (views : List SeatView) → IsKept si
 no_wrap size words views kept = mod-eq_of_lt (omega (arith, kept.bounded, kept.positions_fit, kept.seats_fit))
 
 -- an exchange keeps the rule, and tells what it says
-pub claims : (size : Size) (slots id : ℕ) (v : SeatView) → v.size.positions ≡ size.positions → 0 < v.seats → 0 < v.misses_left
-    → Allows (λ (s : State ℕ SeatView). IsKept size s.words s.views) slots id (v, []) 0 (λ n. (n + 1) % 2 ^ 64) (Claims (step slots 0 1 0 none) (v, []))
-claims size slots id v same some_seat some_miss s kept homes at small =
+pub exchanges : (size : Size) (slots id : ℕ) (v : SeatView) → v.size.positions ≡ size.positions → 0 < v.seats → 0 < v.misses_left
+    → Allows (λ (s : State ℕ SeatView). IsKept size s.words s.views) slots id (v, []) 0 (λ n. (n + 1) % 2 ^ 64) (Exchanges (step slots 0 1 0 none) (v, []))
+exchanges size slots id v same some_seat some_miss s kept homes at small =
     let n : ℕ = slice_index s.words 0 in
     let e = no_wrap size s.words s.views kept in
     elim (cases_lt n size.positions) [
@@ -102,31 +102,6 @@ claims size slots id v same some_seat some_miss s kept homes at small =
         (claimed_view v n, keeps, tt, rw e (claims_kept size s.words s.views id v kept at some_seat room), (refl, (λ h. (refl, few)), (λ h. absurd (omega arith))))
       | inr full ↦ (closed_view v, keeps, tt, rw e (closes_kept size s.words s.views id v kept at some_miss full), (refl, (λ h. absurd (omega arith)), (λ h. refl)))
     ]
-
--- a look at the word changes nothing
-same_kept : (size : Size) (words : List ℕ) (views : List SeatView) (i : ℕ) (v : SeatView) → IsKept size words views → get_elem? views i ≡ some v
-    → IsKept size (slice_set words 0 (slice_index words 0)) (slice_set views i v)
-same_kept size [] views i v kept at = rw (set_again views i v at) kept
-same_kept size (n ∷ ns) views i v kept at = rw (set_again views i v at) kept
-
--- and tells a seat that stands for all what is claimed
-pub counts : (size : Size) (slots id : ℕ) (v : SeatView) → v.size ≡ size
-    → Allows (λ (s : State ℕ SeatView). IsKept size s.words s.views) slots id (v, []) 0 (λ n. n) (Counts (step slots 0 0 0 none) (v, []))
-counts size slots id v same s kept homes at small =
-    let n : ℕ = slice_index s.words 0 in
-    let told : IsTold size n v = kept.told id v at in
-    let one : v.seats ≡ v.size.seats → all_claimed s.views ≡ v.claimed = λ all. claimed_by_one s.views id v at (all ∙ ap (λ (z : Size). z.seats) same ∙ sym kept.all_seats) (λ j u a. (kept.told j u a).idle) in
-    let p : v.size.positions ≡ size.positions = ap (λ (z : Size). z.positions) same in (
-      v,
-      keeps,
-      tt,
-      same_kept size s.words s.views id v kept at,
-      (
-        refl,
-        (λ all. rw (p, ← one all) (kept.each_once, kept.count)),
-        (λ closed. rw p (told.all_gone closed)),
-      ),
-    )
 
 -- one seat is cut off a view that has claimed nothing
 cut_kept : (size : Size) (words : List ℕ) (views : List SeatView) (i : ℕ) (v w u : SeatView) → IsKept size words views → get_elem? views i ≡ some v → v.size ≡ size → 0 < v.seats → 0 < v.misses_left → v.claimed ≡ []
@@ -215,20 +190,25 @@ pub merges : (size : Size) (id : ℕ) (v : SeatView) (other : ℕ) (w : SeatView
     → Joins (λ (s : State ℕ SeatView). IsKept size s.words s.views) id v other w (joined_view v w) spent_view
 merges size id v other w same some_seat s kept at apart at' = merge_kept size s.words s.views id other v w _ kept at at' apart same some_seat refl
 
-only_first : (size : Size) (i : ℕ) (v : SeatView) → get_elem? (first_view size ∷ []) i ≡ some v → first_view size ≡ v
-only_first size zero v at = some-injective (first_view size) v at
-only_first size (suc i) v at = absurd (some-ne-none v (sym at))
+index_at : (words : List ℕ) (word : ℕ) → get_elem? words 0 ≡ some word → slice_index words 0 ≡ word
+index_at [] word here = absurd (some-ne-none word (sym here))
+index_at (x ∷ xs) word here = some-injective x word here
 
--- the rule holds at the start
-pub opens : (size : Size) → size.positions ≤ 1099511627775 → size.seats ≤ 64 → IsKept size (0 ∷ []) (first_view size ∷ [])
-opens size positions_fit seats_fit = record {
-  one_word = refl;
-  each_once = λ x. grind (arith, nat_tests);
-  count = omega arith;
-  all_seats = omega arith;
-  misses = omega arith;
-  bounded = omega arith;
-  told = λ i v at. subst (IsTold size 0) (only_first size i v at) record { size_is = λ some. refl; idle = λ none. refl; all_gone = λ closed. absurd (not_both false refl closed) };
-  positions_fit = positions_fit;
-  seats_fit = seats_fit;
-}
+-- what the word says at the end, to a seat that stands for all
+pub record IsCounted (size : Size) (v : SeatView) (word : ℕ) : Type 0 where
+  pub each_once : EachOnceBelow (min word size.positions) v.claimed
+  pub count : length v.claimed ≡ min word size.positions
+  pub all_gone : v.closed ≡ true → size.positions ≤ word
+
+pub ends : (size : Size) (words slots : List ℕ) (id : ℕ) (v : SeatView) (word : ℕ) → Final (Seen (λ (s : State ℕ SeatView). IsKept size s.words s.views) id v) words slots → get_elem? words 0 ≡ some word → v.seats ≡ size.seats
+    → IsCounted size v word
+ends size words slots id v word final here all =
+    let s = final.0 in
+    let kept : IsKept size s.words s.views = final.1.0 in
+    let at : get_elem? s.views id ≡ some v = final.1.1 in
+    let one : all_claimed s.views ≡ v.claimed = claimed_by_one s.views id v at (all ∙ sym kept.all_seats) (λ j u a. (kept.told j u a).idle) in
+    let is : slice_index s.words 0 ≡ word = ap (λ ws. slice_index ws 0) final.2 ∙ index_at words word here in record {
+      each_once = rw (← is, ← one) kept.each_once;
+      count = rw (← is, ← one) kept.count;
+      all_gone = rw (← is) (kept.told id v at).all_gone;
+    }

@@ -1,5 +1,5 @@
 -- What callers see of claims and of a seat, and what it is to claim each position once.
-use Rattle.std.specs.Prelude.{◌≡◌, ℕ, ◌<◌, ◌==◌, nat_lt, if◌then◌else◌, Bool, true, false, List, [], ◌∷◌, ◌++◌, All, count_by, length}
+use Rattle.std.specs.Prelude.{◌≡◌, ℕ, ◌==◌, nat_lt, if◌then◌else◌, Bool, true, false, List, [], ◌∷◌, ◌++◌, All, count_by, length}
 use Rattle.atomic_table.specs.Seated.{TableId}
 
 -- how often x stands in the list
@@ -12,7 +12,7 @@ EachOnceBelow n xs = (x : ℕ) → times x xs ≡ (if nat_lt x n then 1 else 0)
 
 -- What callers see of claims: which they are, how many positions there are, and how many seats
 pub record Offer : Type 0 where
-  pub table : TableId
+  pub id : TableId
   pub positions : ℕ
   pub seats : ℕ
 
@@ -40,3 +40,7 @@ with_claim seat position = record seat { claimed = seat.claimed ++ position ∷ 
 -- the seat was told that all are claimed
 abbrev pub closed_seat : Holding → Holding
 closed_seat seat = record seat { closed = true }
+
+-- one seat of these claims that was told that all are claimed
+abbrev pub IsDone : Offer → Holding → Type 0
+IsDone offer seat = (seat.offer ≡ offer) × (seat.seats ≡ 1) × (seat.closed ≡ true)

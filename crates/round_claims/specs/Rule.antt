@@ -3,10 +3,22 @@
 use Rattle.std.specs.Prelude.{◌≡◌, ℕ, ◌+◌, ◌-◌, ◌<◌, ◌≤◌, min, ◌||◌, Bool, true, false, List, [], ◌∷◌, ◌++◌, length, slice_index, flat_map, sum_by}
 use mathlib.Core.Option.{some}
 use lib.ListN.{get_elem?}
+use Rattle.atomic_table.specs.Seated.{TableId}
 use Rattle.atomic_table.specs.Table.{Me, Step}
+use Rattle.round_claims.specs.declared.claims.TheConstants.{MOST_POSITIONS, MOST_SEATS}
 use Rattle.round_claims.specs.declared.rule.Size.{Size}
 use Rattle.round_claims.specs.declared.rule.SeatView.{SeatView}
-use Rattle.round_claims.specs.Claimed.{EachOnceBelow}
+use Rattle.round_claims.specs.Claimed.{EachOnceBelow, Offer, Holding}
+
+-- what callers see of a table and of a seat's view, and the size that callers see
+abbrev pub offer_of : TableId → Size → Offer
+offer_of id size = record { id = id; positions = size.positions; seats = size.seats }
+
+abbrev pub holding_of : TableId → SeatView → Holding
+holding_of id v = record { offer = offer_of id v.size; seats = v.seats; claimed = v.claimed; closed = v.closed }
+
+abbrev pub size_of : Offer → Size
+size_of offer = record { positions = offer.positions; seats = offer.seats }
 
 -- the positions that the seats claimed, one seat's after another's
 abbrev pub all_claimed : List SeatView → List ℕ
@@ -32,8 +44,15 @@ pub record IsKept (size : Size) (words : List ℕ) (views : List SeatView) : Typ
   pub misses : sum_by (λ v. v.misses_left) views ≤ size.seats
   pub bounded : slice_index words 0 + sum_by (λ v. v.misses_left) views ≤ size.positions + size.seats
   pub told : EachView (IsTold size (slice_index words 0)) views
-  pub positions_fit : size.positions ≤ 1099511627775
-  pub seats_fit : size.seats ≤ 64
+  pub positions_fit : size.positions ≤ MOST_POSITIONS
+  pub seats_fit : size.seats ≤ MOST_SEATS
+
+-- A worker's seat holds no slot of the table, stands for one seat at least, and may miss once more while it is open
+pub record IsSeat (me : Me ℕ SeatView) (closed : Bool) : Type 0 where
+  pub no_slot : me.1 ≡ []
+  pub closed_is : me.0.closed ≡ closed
+  pub some_seat : 0 < me.0.seats
+  pub may_miss : closed ≡ false → 0 < me.0.misses_left
 
 -- the view that stands for all seats
 abbrev pub first_view : Size → SeatView
@@ -68,15 +87,8 @@ abbrev pub closed_view : SeatView → SeatView
 closed_view v = record v { misses_left = v.misses_left - 1; closed = true }
 
 -- What an exchange tells: the number found is claimed if it is a position, and otherwise the seat closes. A seat has claimed no more numbers than the word counted
-abbrev pub Claims : {S : Type 0} → Step S → Me S SeatView → ℕ → Me S SeatView → Type 0
-Claims s v found w =
+abbrev pub Exchanges : {S : Type 0} → Step S → Me S SeatView → ℕ → Me S SeatView → Type 0
+Exchanges s v found w =
     (w.1 ≡ v.1)
     × (found < v.0.size.positions → (w.0 ≡ claimed_view v.0 found) × (length v.0.claimed ≤ found))
     × (v.0.size.positions ≤ found → w.0 ≡ closed_view v.0)
-
--- What a look at the word tells: where the seat stands for all, its list has the numbers below the word
-abbrev pub Counts : {S : Type 0} → Step S → Me S SeatView → ℕ → Me S SeatView → Type 0
-Counts s v found w =
-    (w ≡ v)
-    × (v.0.seats ≡ v.0.size.seats → EachOnceBelow (min found v.0.size.positions) v.0.claimed × (length v.0.claimed ≡ min found v.0.size.positions))
-    × (v.0.closed ≡ true → v.0.size.positions ≤ found)

@@ -1,13 +1,19 @@
 // The claim word, the seats and the tickets.
 ghost use Rattle.std.specs.Prelude.{◌≡◌, ℕ, ◌+◌, ◌<◌, ◌≤◌, ◌↔◌, ◌⊎◌, ◌++◌, ◌||◌, [], true, length, All, IfOk, IfSome, IfNone, IsOk, IsSome, IsErrOf, None};
 ghost use Rattle.round_claims.specs.Claimed.{EachOnceBelow, Opens, fresh_seat, with_claim, closed_seat};
-ghost use Rattle.round_claims.specs.Rule.{first_view, left_view};
+ghost use Rattle.round_claims.specs.Rule.{size_of, first_view, left_view};
 
 use crate::refusal::Refusal;
-use crate::rule::{Claim, ClaimRule, Count, Cut, Merge, SeatView, Size};
+use crate::rule::{ClaimRule, Cut, Exchange, Merge, SeatView, Size};
 use atomic_table::{Seat, Table};
 use std::alloc::{AllocError, Global};
 use std::marker::Model;
+
+/// The most positions that claims can have: the word counts one more exchange for each seat, and is never to wrap.
+pub const MOST_POSITIONS: usize = 1_099_511_627_775;
+
+/// The most seats that claims can have.
+pub const MOST_SEATS: usize = 64;
 
 /// The right to a position, which is below the number of positions. Contracts see it as the position.
 #[derive(Drop)]
@@ -40,12 +46,14 @@ pub struct Claims {
 impl Model for Claims {
     ghost use Rattle.std.specs.Prelude.{◌≡◌};
     ghost use Rattle.round_claims.specs.Claimed.{Offer};
+    ghost use Rattle.round_claims.specs.Rule.{offer_of};
 
     ghost Value = { Offer };
 
-    ghost view = { λ c. record { table = c.table.shared.table_id; positions = c.table.shared.key.positions; seats = c.table.shared.key.seats } };
+    ghost view = { λ c. offer_of c.table.shared.table_id c.table.shared.key };
 
-    ghost invariant = { λ c. (c.table.shared.key.positions ≡ c.positions) × (c.table.shared.table_id.words ≡ 1) };
+    ghost invariant = { λ c. (c.table.shared.key.positions ≡ c.positions)
+        × (c.table.shared.table_id.words ≡ 1) × (c.table.shared.table_id.slots ≡ 0) };
 }
 
 /// What one worker claims with. It has no memory of its own, and may go to another thread.
@@ -56,14 +64,14 @@ pub struct ClaimSeat {
 }
 
 impl Model for ClaimSeat {
-    ghost use Rattle.std.specs.Prelude.{◌≡◌, ◌<◌, [], false};
     ghost use Rattle.round_claims.specs.Claimed.{Holding};
+    ghost use Rattle.round_claims.specs.Rule.{holding_of, IsSeat};
 
     ghost Value = { Holding };
 
-    ghost view = { λ s. record { offer = record { table = s.seat.table_id; positions = s.seat.me.0.size.positions; seats = s.seat.me.0.size.seats }; seats = s.seat.me.0.seats; claimed = s.seat.me.0.claimed; closed = s.closed } };
+    ghost view = { λ s. holding_of s.seat.table_id s.seat.me.0 };
 
-    ghost invariant = { λ s. (s.seat.me.1 ≡ []) × (s.seat.me.0.closed ≡ s.closed) × (0 < s.seat.me.0.seats) × (s.closed ≡ false → 0 < s.seat.me.0.misses_left) };
+    ghost invariant = { λ s. IsSeat s.seat.me s.closed };
 }
 
 impl Claims {
@@ -75,12 +83,12 @@ impl Claims {
         positions: usize,
         seats: usize,
     ) -> Result<(Claims, Vec<ClaimSeat>), Refusal>
-        requires { positions ≤ 1099511627775 }
+        requires { positions ≤ MOST_POSITIONS }
         ensures ok { IfOk result (λ made. Opens positions seats made.0 made.1.items) }
-        ensures workers { IsErrOf result Refusal.Workers ↔ ((seats ≡ 0) ⊎ (64 < seats)) }
-        ensures right { IsOk result → (0 < seats) × (seats ≤ 64) }
+        ensures workers { IsErrOf result Refusal.Workers ↔ ((seats ≡ 0) ⊎ (MOST_SEATS < seats)) }
+        ensures right { IsOk result → (0 < seats) × (seats ≤ MOST_SEATS) }
     {
-        if seats == 0 || seats > 64 {
+        if seats == 0 || seats > MOST_SEATS {
             return Err(Refusal::Workers);
         }
         let size = Size {
@@ -103,8 +111,8 @@ impl Claims {
         origin: &mut Seat<u8, SeatView>,
         count: usize,
     ) -> Result<Vec<ClaimSeat>, AllocError>
-        requires table { origin.old.table_id ≡ self.now.table }
-        requires view { origin.old.me ≡ (first_view record { positions = self.now.positions; seats = self.now.seats }, []) }
+        requires table { origin.old.table_id ≡ self.now.id }
+        requires view { origin.old.me ≡ (first_view (size_of self.now), []) }
         requires count { count ≡ self.now.seats }
         ensures count { IfOk result (λ all. length all.items ≡ count) }
         ensures fresh { IfOk result (λ all. All (λ seat. seat ≡ fresh_seat self.now) all.items) }
@@ -119,8 +127,8 @@ impl Claims {
 
     // One seat of a view that stands for several.
     fn cut(&self, origin: &mut Seat<u8, SeatView>) -> ClaimSeat
-        requires table { origin.old.table_id ≡ self.now.table }
-        requires size { origin.old.me.0.size ≡ record { positions = self.now.positions; seats = self.now.seats } }
+        requires table { origin.old.table_id ≡ self.now.id }
+        requires size { origin.old.me.0.size ≡ size_of self.now }
         requires empty { (origin.old.me.1 ≡ []) × (origin.old.me.0.claimed ≡ []) }
         requires some { (0 < origin.old.me.0.seats) × (0 < origin.old.me.0.misses_left) }
         ensures seat { result ≡ fresh_seat self.now }
@@ -151,7 +159,7 @@ impl Claims {
         let found = self
             .table
             .shared
-            .fetch_add::<Claim>(&mut seat.seat, 0, 1);
+            .fetch_add::<Exchange>(&mut seat.seat, 0, 1);
         if found < self.positions {
             return Some(Ticket {
                 position: found as usize,
@@ -180,18 +188,26 @@ impl Claims {
         seat.closed = seat.closed || closed;
     }
 
-    /// How many positions are claimed, for a seat that stands for all of them: it has claimed each position below this
-    /// number once and no other, and all positions if it is closed.
-    pub fn count(&self, seat: &mut ClaimSeat) -> usize
-        requires offer { seat.old.offer ≡ self.now }
-        requires all { seat.old.seats ≡ self.now.seats }
-        ensures same { seat.new ≡ seat.old }
-        ensures each_once { EachOnceBelow result seat.old.claimed }
-        ensures count { length seat.old.claimed ≡ result }
-        ensures within { result ≤ self.now.positions }
-        ensures all { seat.old.closed ≡ true → result ≡ self.now.positions }
+    /// Ends the claims with a seat that stands for all of them, and says how many positions are claimed.
+    ///
+    /// The seat's list has each position below this number once, and no other. If the seat is closed, these are all
+    /// positions.
+    pub fn finish(self, seat: ClaimSeat) -> usize
+        requires offer { seat.offer ≡ self }
+        requires all { seat.seats ≡ self.seats }
+        ensures each_once { EachOnceBelow result seat.claimed }
+        ensures count { length seat.claimed ≡ result }
+        ensures within { result ≤ self.positions }
+        ensures closed { seat.closed ≡ true → result ≡ self.positions }
     {
-        let found = self.table.shared.load::<Count>(&mut seat.seat, 0);
-        found.min(self.positions) as usize
+        let Claims { table, positions } = self;
+        let ClaimSeat {
+            seat: token,
+            closed: _,
+        } = seat;
+        let ended = table.close_with(token);
+        let exchanges = ended.word(0);
+        ended.free();
+        exchanges.min(positions) as usize
     }
 }

@@ -1,5 +1,5 @@
 // The rule of the claim word, and what each kind of step does to a seat. No value of a seat's view is made: it is for the proofs.
-ghost use Rattle.round_claims.specs.Rule.{IsKept, first_view, seat_view, left_view, joined_view, spent_view, Claims, Counts};
+ghost use Rattle.round_claims.specs.Rule.{IsKept, first_view, seat_view, left_view, joined_view, spent_view, Exchanges};
 
 use atomic_table::{Join, Play, Split, TableRule};
 use std::collections::LinkedList;
@@ -32,18 +32,11 @@ impl TableRule<u8, SeatView, Size> for ClaimRule {
     ghost first = { first_view };
 }
 
-/// One exchange of a seat.
-pub struct Claim;
+/// One exchange of a seat, which adds one to the word.
+pub struct Exchange;
 
-impl Play<u8, SeatView> for Claim {
-    ghost then = { Claims };
-}
-
-/// A look at the word.
-pub struct Count;
-
-impl Play<u8, SeatView> for Count {
-    ghost then = { Counts };
+impl Play<u8, SeatView> for Exchange {
+    ghost then = { Exchanges };
 }
 
 /// One seat is cut off a view that stands for several.

@@ -1,3 +1,5 @@
 pub mod Cutter
 pub mod Unfinished
 pub mod Readings
+pub mod Texts
+pub mod Characters

@@ -1,10 +1,13 @@
 -- The byte machine reads what the cutting spells.
 use Rattle.std.proofs.Common.{◌≡◌, ℕ, Bool, true, false, cond, List, [], ◌∷◌, ◌++◌, refl, sym, ap, ◌∙◌, subst, append_assoc, append-nil}
 use Rattle.std.specs.Prelude.{◌==◌, nat_lt}
-use Rattle.telnet_line.specs.Telnet.{NUL, LF, CR, SE, SB, WILL, WONT, DO, DONT, IAC, Verb, Will, Wont, Do, Dont, StreamUnit, Data, Data_iac, Line_feed, Return_line_feed, Return_null, Lone_return, Lone_iac, Command, Negotiation, Subnegotiation, IsCut, Event, line_after, brought, negotiated, line_of, events_of}
+use Rattle.std.specs.List.{AllByRecursion}
+use Rattle.telnet_line.specs.Telnet.{NUL, LF, CR, SE, SB, WILL, WONT, DO, DONT, IAC, Verb, Will, Wont, Do, Dont, StreamUnit, Data, Data_iac, Line_feed, Return_line_feed, Return_null, Lone_return, Lone_iac, Command, Negotiation, Subnegotiation, IsCut, Event, Spells, IsText, IsEvent, line_after, brought, negotiated, line_of, events_of}
 use Rattle.telnet_line.specs.TelnetReading as reading
-use Rattle.telnet_line.specs.TelnetReading.{Begun, HasBegun, Reading, HasRead, fresh, Step, takes, step_data, step_return, step_iac, step_by, step, reading_after, events_after}
+use Rattle.telnet_line.specs.TelnetReading.{Begun, HasBegun, Reading, HasRead}
+use Rattle.telnet_line.specs.TelnetSteps.{fresh, Step, takes, step_data, step_return, step_iac, step_by, step, reading_after, events_after}
 use Rattle.telnet_line.proofs.Cutter.{Cutter, Nothing, Return, Iac, Negotiating, Parameters, Parameters_iac, bytes_of, Fits, Cut, holds, whole, before, cut_data, cut_return, cut_iac, cut_byte, joined, run, cut_is, left_fits}
+use Rattle.telnet_line.proofs.Texts.{texts}
 use Rattle.telnet_line.proofs.Unfinished.{complete, begun_run}
 
 -- what has begun, without its parameters
@@ -108,31 +111,31 @@ has_read stream =
     let s = run Nothing stream in
     let e = reading_is stream Nothing [] in
     record {
-      units = s.units;
-      rest = bytes_of s.left;
-      cut = cut_is stream;
-      meant = events_is stream Nothing [];
+      spells = record { units = s.units; rest = bytes_of s.left; cut = cut_is stream; meant = events_is stream Nothing [] };
       line = ap (λ (x : Reading). x.line) e;
       begun = subst (λ (x : Reading). HasBegun x.begun (bytes_of s.left)) (sym e) (has_begun s.left (left_fits stream));
     }
 
--- and nothing else has
-pub only_reading : (stream : List ℕ) (events : List Event) (reading : Reading) → HasRead stream events reading → (events ≡ events_after fresh stream) × (reading ≡ reading_after fresh stream)
+-- and the stream spells nothing else
+pub only_events : (stream : List ℕ) (events : List Event) → Spells stream events → events ≡ events_after fresh stream
+only_events stream events h = h.meant ∙ ap (events_of []) (sym (complete h.cut).0) ∙ sym (events_is stream Nothing [])
+
+pub only_reading : (stream : List ℕ) (events : List Event) (reading : Reading) → HasRead stream events reading → reading ≡ reading_after fresh stream
 only_reading stream events reading h =
     let s = run Nothing stream in
-    let k = complete h.cut in
-    let begun : reading.begun ≡ shape s.left = begun_shape reading.begun h.rest h.begun ∙ ap (λ x. shape (run Nothing x).left) (sym k.1) ∙ ap (λ (x : Cut). shape x.left) (begun_run s.left (left_fits stream)) in
+    let k = complete h.spells.cut in
+    let begun : reading.begun ≡ shape s.left = begun_shape reading.begun h.spells.rest h.begun ∙ ap (λ x. shape (run Nothing x).left) (sym k.1) ∙ ap (λ (x : Cut). shape x.left) (begun_run s.left (left_fits stream)) in
     let line : reading.line ≡ line_of [] s.units = h.line ∙ ap (line_of []) (sym k.0) in
-    (h.meant ∙ ap (events_of []) (sym k.0) ∙ sym (events_is stream Nothing []),
-    (let e : reading ≡ stands s.left (line_of [] s.units) = ap (λ x. record { begun = x; line = reading.line }) begun ∙ ap (stands s.left) line in e) ∙ sym (reading_is stream Nothing []))
+    let e : reading ≡ stands s.left (line_of [] s.units) = ap (λ x. record { begun = x; line = reading.line }) begun ∙ ap (stands s.left) line in
+    e ∙ sym (reading_is stream Nothing [])
 
 -- ---- pieces
 
-reading_after-append : (xs ys : List ℕ) (r : Reading) → reading_after r (xs ++ ys) ≡ reading_after (reading_after r xs) ys
+pub reading_after-append : (xs ys : List ℕ) (r : Reading) → reading_after r (xs ++ ys) ≡ reading_after (reading_after r xs) ys
 reading_after-append [] ys r = refl
 reading_after-append (x ∷ xs) ys r = reading_after-append xs ys (step x r).reading
 
-events_after-append : (xs ys : List ℕ) (r : Reading) → events_after r (xs ++ ys) ≡ events_after r xs ++ events_after (reading_after r xs) ys
+pub events_after-append : (xs ys : List ℕ) (r : Reading) → events_after r (xs ++ ys) ≡ events_after r xs ++ events_after (reading_after r xs) ys
 events_after-append [] ys r = refl
 events_after-append (x ∷ xs) ys r =
     ap (λ (e : List Event). (step x r).events ++ e) (events_after-append xs ys (step x r).reading)
@@ -141,7 +144,43 @@ events_after-append (x ∷ xs) ys r =
 -- a reader that goes on has read the stream with the piece after it
 pub goes_on : (stream piece : List ℕ) (events : List Event) (r : Reading) → HasRead stream events r → HasRead (stream ++ piece) (events ++ events_after r piece) (reading_after r piece)
 goes_on stream piece events r h =
-    let k = only_reading stream events r h in
-    let e : events_after fresh (stream ++ piece) ≡ events ++ events_after r piece = events_after-append stream piece fresh ∙ ap (λ (x : List Event × Reading). x.0 ++ events_after x.1 piece) (let p : ◌≡◌ {A = List Event × Reading} (events_after fresh stream, reading_after fresh stream) (events, r) = ap (λ x. (x, reading_after fresh stream)) (sym k.0) ∙ ap (λ x. (events, x)) (sym k.1) in p) in
-    let f : reading_after fresh (stream ++ piece) ≡ reading_after r piece = reading_after-append stream piece fresh ∙ ap (λ x. reading_after x piece) (sym k.1) in
+    let told = only_events stream events h.spells in
+    let stood = only_reading stream events r h in
+    let e : events_after fresh (stream ++ piece) ≡ events ++ events_after r piece = events_after-append stream piece fresh ∙ ap (λ x. x ++ events_after (reading_after fresh stream) piece) (sym told) ∙ ap (λ x. events ++ events_after x piece) (sym stood) in
+    let f : reading_after fresh (stream ++ piece) ≡ reading_after r piece = reading_after-append stream piece fresh ∙ ap (λ x. reading_after x piece) (sym stood) in
     subst (λ x. HasRead (stream ++ piece) x (reading_after r piece)) e (subst (λ x. HasRead (stream ++ piece) (events_after fresh (stream ++ piece)) x) f (has_read (stream ++ piece)))
+
+-- ---- lines
+
+-- where each has read nothing of a subnegotiation
+abbrev cutter_of : Begun → Cutter
+cutter_of reading.Nothing = Nothing
+cutter_of reading.Return = Return
+cutter_of reading.Iac = Iac
+cutter_of (reading.Negotiating verb) = Negotiating verb
+cutter_of reading.Parameters = Parameters []
+cutter_of reading.Parameters_iac = Parameters_iac []
+
+shape-cutter_of : (begun : Begun) → shape (cutter_of begun) ≡ begun
+shape-cutter_of reading.Nothing = refl
+shape-cutter_of reading.Return = refl
+shape-cutter_of reading.Iac = refl
+shape-cutter_of (reading.Negotiating verb) = refl
+shape-cutter_of reading.Parameters = refl
+shape-cutter_of reading.Parameters_iac = refl
+
+-- the events of a piece, each line of which may be kept
+pub events_texts : (piece : List ℕ) (r : Reading) → IsText r.line → AllByRecursion IsEvent (events_after r piece)
+events_texts piece r h =
+    let e : events_after r piece ≡ events_of r.line (run (cutter_of r.begun) piece).units = ap (λ x. events_after (record { begun = x; line = r.line }) piece) (sym (shape-cutter_of r.begun)) ∙ events_is piece (cutter_of r.begun) r.line in
+    subst (AllByRecursion IsEvent) (sym e) (texts (run (cutter_of r.begun) piece).units r.line h)
+
+-- what a call leaves, from a draft that stands where the reader did
+pub fed : (stream piece : List ℕ) (past : List Event) (r d new : Reading) (none events : List Event) → d ≡ r → none ≡ [] → new ≡ reading_after d piece → events ≡ none ++ events_after d piece → HasRead stream past r → HasRead (stream ++ piece) (past ++ events) new
+fed stream piece past r d new none events same empty reading told h =
+    let e : events_after r piece ≡ events = sym (told ∙ ap (λ x. x ++ events_after d piece) empty ∙ ap (λ x. events_after x piece) same) in
+    let f : reading_after r piece ≡ new = sym (reading ∙ ap (λ x. reading_after x piece) same) in
+    subst (λ x. HasRead (stream ++ piece) (past ++ x) new) e (subst (λ x. HasRead (stream ++ piece) (past ++ events_after r piece) x) f (goes_on stream piece past r h))
+
+pub fed_texts : (piece : List ℕ) (d : Reading) (none events : List Event) → IsText d.line → none ≡ [] → events ≡ none ++ events_after d piece → AllByRecursion IsEvent events
+fed_texts piece d none events h empty told = subst (AllByRecursion IsEvent) (sym (told ∙ ap (λ x. x ++ events_after d piece) empty)) (events_texts piece d h)

@@ -1,6 +1,6 @@
 -- Telnet (RFC 854): the units of a byte stream, and the lines and replies that they spell.
-use Rattle.std.specs.Prelude.{◌≡◌, ◌≢◌, ℕ, ◌+◌, ◌-◌, ◌<◌, ◌≤◌, Bool, ◌==◌, ◌&&◌, ◌||◌, nat_lt, nat_le, if◌then◌else◌, List, [], ◌∷◌, ◌++◌, length, take}
-use Rattle.std.specs.List.{AllByRecursion, flat_map}
+use Rattle.std.specs.Prelude.{◌≡◌, ◌≢◌, ℕ, ◌+◌, ◌-◌, ◌<◌, ◌≤◌, Bool, true, ◌==◌, ◌&&◌, ◌||◌, nat_lt, nat_le, if◌then◌else◌, List, [], ◌∷◌, ◌++◌, length, take}
+use Rattle.std.specs.List.{AllByRecursion, flat_map, list_all}
 
 -- ---- bytes, by their names in RFC 854
 
@@ -141,6 +141,14 @@ is_kept b = b == 9 || (nat_le 32 b && nat_le b 126)
 -- the most characters that are kept of a line
 abbrev pub max_line : ℕ
 max_line = 4096
+
+-- what may be kept of a line
+abbrev pub IsText : List ℕ → Type 0
+IsText text = (length text ≤ max_line) × (list_all is_kept text ≡ true)
+
+abbrev pub IsEvent : Event → Type 0
+IsEvent (Line text) = IsText text
+IsEvent (Reply bytes) = Unit {0}
 
 -- the line, and a byte of data after it
 abbrev pub with_data : List ℕ → ℕ → List ℕ

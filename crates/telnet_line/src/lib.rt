@@ -1,4 +1,13 @@
 //! Lines and replies of a Telnet byte stream (RFC 854).
 #![tactic(auto)]
 
+mod command;
+pub mod event;
 pub mod laws;
+mod line_buffer;
+pub mod reader;
+#[cfg(test)]
+mod tests;
+
+pub use event::Event;
+pub use reader::Reader;

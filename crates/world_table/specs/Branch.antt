@@ -1,5 +1,5 @@
 -- What lies below a place of a block.
-use Rattle.std.specs.Prelude.{◌≡◌, ℕ, ◌+◌, ◌*◌, ◌^◌, ◌<◌, ◌≤◌, List, [], ◌∷◌, ◌++◌, map, length, refl}
+use Rattle.std.specs.Prelude.{◌≡◌, ◌≢◌, ℕ, ◌+◌, ◌*◌, ◌^◌, ◌<◌, ◌≤◌, List, [], ◌∷◌, ◌++◌, map, length, get_or, replicate, refl}
 use Rattle.std.specs.Coded.{Coded, code_by, coded×, coded_ℕ, coded_list}
 
 -- how many levels of blocks there are, and the entries by the part of the key that those levels read
@@ -42,3 +42,16 @@ AreBranches levels (b ∷ bs) = IsBranch levels b × AreBranches levels bs
 -- no branch at all
 abbrev pub nowhere : {V : Type 0} → Branch V
 nowhere = record { height = 0; entries = [] }
+
+-- the 32 places of a block that has nothing
+unfoldable pub vacant_row : {V : Type 0} → List (Branch V)
+vacant_row = replicate 32 nowhere
+
+-- the places of a block: 32 branches, each with so many levels
+pub record IsRow {V : Type 0} (levels : ℕ) (bs : List (Branch V)) : Type 0 where
+  pub size : length bs ≡ 32
+  pub branches : AreBranches levels bs
+
+-- the branches at other places have no entries
+abbrev pub AreVacantBut : {V : Type 0} → ℕ → List (Branch V) → Type 0
+AreVacantBut at bs = (i : ℕ) → i < length bs → i ≢ at → (get_or bs i nowhere).entries ≡ []

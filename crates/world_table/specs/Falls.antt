@@ -16,4 +16,4 @@ most_le levels (b ∷ bs) h = let rest = most_le levels bs h.1 in let own = h.0.
 pub height_falls : {V : Type 0} (held : Held V) → IsSound held → max (deep-Held V held) 0 ≤ (branch_of held).height
 height_falls Nothing h = omega arith
 height_falls (Record r) h = omega arith
-height_falls (Block below places) h = omega (arith, most_le below ((arc_value places).items) h.2)
+height_falls (Block below places) h = omega (arith, most_le below ((arc_value places).items) h.1.branches)

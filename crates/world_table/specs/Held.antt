@@ -1,7 +1,7 @@
 -- What the fields of a place mean.
-use Rattle.std.specs.Prelude.{◌≡◌, ℕ, ◌+◌, ◌<◌, List, [], ◌∷◌, length}
+use Rattle.std.specs.Prelude.{ℕ, ◌+◌, ◌<◌, List, [], ◌∷◌}
 use Rattle.std.specs.Arc.{arc_value}
-use Rattle.world_table.specs.Branch.{Branch, reach, joined, AreBranches}
+use Rattle.world_table.specs.Branch.{Branch, reach, joined, IsRow}
 use Rattle.world_table.specs.declared.place.Held.{Held}
 use Rattle.world_table.specs.declared.place.Held.TheVariants.{Nothing, Record, Block}
 
@@ -14,4 +14,4 @@ branch_of (Block below places) = record { height = below + 1; entries = joined (
 abbrev pub IsSound : {V : Type 0} → Held V → Type 0
 IsSound Nothing = Unit {0}
 IsSound (Record r) = Unit {0}
-IsSound (Block below places) = (below < 12) × (length ((arc_value places).items) ≡ 32) × AreBranches below ((arc_value places).items)
+IsSound (Block below places) = (below < 12) × IsRow below ((arc_value places).items)

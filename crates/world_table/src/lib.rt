@@ -2,3 +2,6 @@
 #![tactic(auto)]
 
 mod place;
+mod table;
+
+pub use table::Table;

@@ -13,6 +13,9 @@ use std::alloc::AllocError;
 use std::marker::Model;
 use std::sync::Arc;
 
+/// How many places a block has: as many as five bits tell apart.
+const PLACES: usize = 32;
+
 /// A place of a block: nothing, a record, or a block of the level below.
 #[cycle(place)]
 #[derive(Drop)]

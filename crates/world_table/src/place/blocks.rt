@@ -1,8 +1,8 @@
 //! How blocks are built.
-ghost use Rattle.std.specs.Prelude.{◌≡◌, ◌+◌, ◌<◌, ◌^◌, IfOk, OnOk, OnErr, length, slice_set, vec_len, if◌then◌else◌, is_ok, replicate, List, ℕ};
-ghost use Rattle.world_table.specs.Branch.{reach, joined, AreBranches, nowhere};
+ghost use Rattle.std.specs.Prelude.{◌≡◌, ◌+◌, ◌<◌, IfOk, slice_set, if◌then◌else◌, is_ok, vec_len};
+ghost use Rattle.world_table.specs.Branch.{reach, joined, IsBranch, IsRow, vacant_row};
 
-use super::{Held, Place};
+use super::{Held, PLACES, Place};
 use std::alloc::{AllocError, Global};
 use std::sync::Arc;
 
@@ -22,10 +22,9 @@ impl BlockBuilder {
     }
 
     /// A block of these places, above so many levels.
-    pub fn block<R: Drop>(&mut self, below: u32, places: Vec<Place<R>>) -> Result<Place<R>, AllocError>
+    fn block<R: Drop>(&mut self, below: u32, places: Vec<Place<R>>) -> Result<Place<R>, AllocError>
         requires levels { below < 12 }
-        requires places { length places.items ≡ 32 }
-        requires branches { AreBranches below places.items }
+        requires places { IsRow below places.items }
         requires room { self.old.count < usize.MAX }
         ensures height { IfOk result (λ p. p.height ≡ below + 1) }
         ensures entries { IfOk result (λ p. p.entries ≡ joined (reach below) 0 places.items) }
@@ -38,29 +37,64 @@ impl BlockBuilder {
         })
     }
 
-    /// Copies of places, save that one of them has another branch.
-    pub fn replaced<R: Drop>(&self, places: &[Place<R>], at: usize, branch: Place<R>) -> Result<Vec<Place<R>>, AllocError>
-        requires { at < length places.now }
-        ensures { IfOk result (λ v. v.items ≡ slice_set places.now at branch) }
+    /// A block of these places, save that one of them has another branch.
+    pub fn changed<R: Drop>(
+        &mut self,
+        below: u32,
+        places: &[Place<R>],
+        at: usize,
+        branch: Place<R>,
+    ) -> Result<Place<R>, AllocError>
+        requires levels { below < 12 }
+        requires places { IsRow below places.now }
+        requires at { at < 32 }
+        requires branch { IsBranch below branch }
+        requires room { self.old.count < usize.MAX }
+        ensures height { IfOk result (λ p. p.height ≡ below + 1) }
+        ensures entries { IfOk result (λ p. p.entries ≡ joined (reach below) 0 (slice_set places.now at branch)) }
+        ensures counted { self.new.count ≡ self.old.count + (if is_ok result then 1 else 0) }
     {
-        let mut copies = Vec::with_capacity(self.alloc, places.len())?;
-        for place in places {
-            copies.push(place.share()?)?;
-        }
+        let mut copies = copied(self.alloc, places)?;
         copies[at] = branch;
-        Ok(copies)
+        self.block(below, copies)
     }
 
-    /// 32 places, which are empty but for one.
-    pub fn lone<R: Drop>(&self, at: usize, branch: Place<R>) -> Result<Vec<Place<R>>, AllocError>
-        requires { at < 32 }
-        ensures { IfOk result (λ v. v.items ≡ slice_set (replicate 32 nowhere) at branch) }
+    /// A block with one branch.
+    pub fn lone<R: Drop>(&mut self, below: u32, at: usize, branch: Place<R>) -> Result<Place<R>, AllocError>
+        requires levels { below < 12 }
+        requires at { at < 32 }
+        requires branch { IsBranch below branch }
+        requires room { self.old.count < usize.MAX }
+        ensures height { IfOk result (λ p. p.height ≡ below + 1) }
+        ensures entries { IfOk result (λ p. p.entries ≡ joined (reach below) 0 (slice_set vacant_row at branch)) }
+        ensures counted { self.new.count ≡ self.old.count + (if is_ok result then 1 else 0) }
     {
-        let mut places = Vec::with_capacity(self.alloc, 32)?;
-        for _ in 0..32 {
-            places.push(Place::nothing())?;
-        }
+        let mut places = vacant(self.alloc)?;
         places[at] = branch;
-        Ok(places)
+        self.block(below, places)
     }
+}
+
+// The same branches, each with one more owner.
+fn copied<R: Drop>(alloc: Global, places: &[Place<R>]) -> Result<Vec<Place<R>>, AllocError>
+    ensures { IfOk result (λ v. v.items ≡ places.now) }
+{
+    let mut copies = Vec::with_capacity(alloc, places.len())?;
+    for place in places {
+        copies.push(place.share()?)?;
+    }
+    Ok(copies)
+}
+
+// The places of a block that has nothing.
+#[tactic(auto, unfolding(crate::specs::Branch::vacant_row))]
+fn vacant<R: Drop>(alloc: Global) -> Result<Vec<Place<R>>, AllocError>
+    ensures items { IfOk result (λ v. v.items ≡ vacant_row) }
+    ensures len { IfOk result (λ v. vec_len v ≡ 32) }
+{
+    let mut places = Vec::with_capacity(alloc, PLACES)?;
+    for _i in 0..PLACES {
+        places.push(Place::nothing())?;
+    }
+    Ok(places)
 }

@@ -1,8 +1,12 @@
-use Rattle.std.proofs.Common.{rules, ◌≡◌, ℕ, ◌+◌, ◌<◌, ◌≤◌, ◌↔◌, ◌⊎◌, ◌++◌, ◌||◌, [], true, length, All, IfOk, IfSome, IfNone, IsOk, IsSome, IsErrOf, None, ◌-◌, ◌*◌, ◌/◌, ◌%◌, Bool, false, nat_eq, nat_lt, List, ◌∷◌, slice_index_or, slice_set, bit_and, bit_or, Fits, w8, w32, w64, Bor, MutBor}
-use Rattle.round_claims.specs.Claimed.{EachOnceBelow, Opens, fresh_seat, with_claim, closed_seat}
-use Rattle.round_claims.specs.Rule.{first_view, left_view}
+use Rattle.std.proofs.Common.{◌∙◌, sym, ap, arith}
+use Rattle.round_claims.specs.Claimed.{Offer}
+use Rattle.round_claims.specs.Rule.{size_of}
+use Rattle.round_claims.proofs.Keeps.{cuts}
 use Rattle.round_claims.proofs.claims.Claims.cut.Goals as goal
 
--- src/claims.rt:130:13
 pub split_seat-seat-requires : goal.split_seat-seat-requires
-split_seat-seat-requires c = ?
+split_seat-seat-requires c =
+    let same = sym c.self.view_is in
+    let origin = c.args.origin.now in
+    let step = cuts c.self.inside.table.shared.key origin.id origin.me.0 (c.requires.size ∙ ap size_of same) c.requires.some.0 c.requires.some.1 c.requires.empty.1 in
+    (c.requires.table ∙ ap (λ (o : Offer). o.id) same, omega arith, step)

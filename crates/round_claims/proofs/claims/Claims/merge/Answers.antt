@@ -1,8 +1,14 @@
-use Rattle.std.proofs.Common.{rules, ◌≡◌, ℕ, ◌+◌, ◌<◌, ◌≤◌, ◌↔◌, ◌⊎◌, ◌++◌, ◌||◌, [], true, length, All, IfOk, IfSome, IfNone, IsOk, IsSome, IsErrOf, None, ◌-◌, ◌*◌, ◌/◌, ◌%◌, Bool, false, nat_eq, nat_lt, List, ◌∷◌, slice_index_or, slice_set, bit_and, bit_or, Fits, w8, w32, w64, Bor, MutBor}
-use Rattle.round_claims.specs.Claimed.{EachOnceBelow, Opens, fresh_seat, with_claim, closed_seat}
-use Rattle.round_claims.specs.Rule.{first_view, left_view}
+use Rattle.std.proofs.Common.{◌∙◌, sym, ap, arith}
+use Rattle.round_claims.specs.Claimed.{Holding, Offer}
+use Rattle.round_claims.specs.Rule.{size_of}
+use Rattle.round_claims.proofs.Keeps.{merges}
 use Rattle.round_claims.proofs.claims.Claims.merge.Goals as goal
 
--- src/claims.rt:177:9
 pub join_seat-requires : goal.join_seat-requires
-join_seat-requires c = ?
+join_seat-requires c =
+    let same = ap (λ (h : Holding). h.offer) c.seat.view_is ∙ c.requires.seat ∙ sym c.self.view_is in
+    let same_other = ap (λ (h : Holding). h.offer) c.other.view_is ∙ c.requires.other ∙ sym c.self.view_is in
+    let seat = c.seat.inside.seat in
+    let other = c.other.inside.seat in
+    let step = merges c.self.inside.table.shared.key seat.id seat.me.0 other.id other.me.0 (ap size_of same) c.seat.invariant.some_seat in
+    (ap (λ (o : Offer). o.id) same, ap (λ (o : Offer). o.id) same_other, c.other.invariant.no_slot, omega arith, step)

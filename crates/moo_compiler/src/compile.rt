@@ -1,0 +1,132 @@
+//! From a tree to its code.
+ghost use Rattle.std.specs.Prelude.{◌≡◌, ◌++◌, [], ◌∷◌, IfOk, OnOk};
+ghost use Rattle.moo_spec.specs.Tree.{Program};
+ghost use Rattle.moo_tree.specs.ExpressionView.{target_place};
+ghost use Rattle.moo_tree.specs.StatementView.{program_of};
+ghost use Rattle.moo_compiler.specs.Names.{expr_names, target_names, statement_names, program_names, names_of};
+ghost use Rattle.moo_compiler.specs.Code.{expr_code, statement_code, program_code, code_of};
+
+use crate::code::{Code, Instruction};
+use crate::names::{add_mention, slot};
+use moo_tree::expression::{Expression, ExpressionNode, Target};
+use moo_tree::statement::{Statement, StatementNode, Tree};
+use moo_value::operator::BinaryOperator;
+use moo_value::text::Text;
+use std::alloc::{AllocError, Global};
+
+/// The code of a tree.
+pub fn compile(alloc: Global, tree: &Tree) -> Result<Code, AllocError>
+    ensures instructions { IfOk result (λ code. code.instructions.items ≡ code_of tree.now) }
+    ensures names { IfOk result (λ code. code.names.items ≡ names_of tree.now) }
+{
+    let statements = tree.statements();
+    let mut names = Vec::new(alloc);
+    for statement in statements {
+        name_statement(&mut names, statement)?;
+    }
+    let mut instructions = Vec::new(alloc);
+    for statement in statements {
+        emit_statement(&mut instructions, &names, statement)?;
+    }
+    Ok(Code { instructions, names })
+}
+
+// Adds the names of a statement's variables.
+fn name_statement(names: &mut Vec<Text>, statement: &Statement) -> Result<(), AllocError>
+    ensures { OnOk result (names.new.items ≡ statement_names statement.now names.old.items) }
+{
+    match &statement.node {
+        StatementNode::Evaluate(value) => name_expression(names, value),
+        StatementNode::Return(Some(value)) => name_expression(names, value),
+        StatementNode::Return(None) => Ok(()),
+    }
+}
+
+// Adds the names of an expression's variables.
+fn name_expression(names: &mut Vec<Text>, expression: &Expression) -> Result<(), AllocError>
+    ensures { OnOk result (names.new.items ≡ expr_names expression.now names.old.items) }
+{
+    match &expression.node {
+        ExpressionNode::Literal(_) => Ok(()),
+        ExpressionNode::Variable(name) => add_mention(names, name),
+        ExpressionNode::Binary(_, left, right) => {
+            name_expression(names, left)?;
+            name_expression(names, right)
+        }
+        ExpressionNode::Property(object, name) => {
+            name_expression(names, object)?;
+            name_expression(names, name)
+        }
+        ExpressionNode::Assignment(Target::Property(object, name), value) => {
+            name_expression(names, object)?;
+            name_expression(names, name)?;
+            name_expression(names, value)
+        }
+    }
+}
+
+// Adds the instructions of a statement.
+fn emit_statement(
+    code: &mut Vec<Instruction>,
+    names: &[Text],
+    statement: &Statement,
+) -> Result<(), AllocError>
+    ensures { OnOk result (code.new.items ≡ code.old.items ++ statement_code names.now statement.now) }
+{
+    match &statement.node {
+        StatementNode::Evaluate(value) => {
+            emit_expression(code, names, value)?;
+            put(code, Instruction::Pop)
+        }
+        StatementNode::Return(Some(value)) => {
+            emit_expression(code, names, value)?;
+            put(code, Instruction::Return)
+        }
+        StatementNode::Return(None) => put(code, Instruction::ReturnZero),
+    }
+}
+
+// Adds the instructions of an expression.
+fn emit_expression(
+    code: &mut Vec<Instruction>,
+    names: &[Text],
+    expression: &Expression,
+) -> Result<(), AllocError>
+    ensures { OnOk result (code.new.items ≡ code.old.items ++ expr_code names.now expression.now) }
+{
+    match &expression.node {
+        ExpressionNode::Literal(value) => {
+            let value = value.clone()?;
+            put(code, Instruction::Push(value))
+        }
+        ExpressionNode::Variable(name) => {
+            let slot = slot(names, name.as_str());
+            put(code, Instruction::Load(slot))
+        }
+        ExpressionNode::Binary(BinaryOperator::Plus, left, right) => {
+            emit_expression(code, names, left)?;
+            emit_expression(code, names, right)?;
+            put(code, Instruction::Binary(BinaryOperator::Plus))
+        }
+        ExpressionNode::Binary(_, _, _) => put(code, Instruction::Missing),
+        ExpressionNode::Property(object, name) => {
+            emit_expression(code, names, object)?;
+            emit_expression(code, names, name)?;
+            put(code, Instruction::ReadProperty)
+        }
+        ExpressionNode::Assignment(Target::Property(object, name), value) => {
+            emit_expression(code, names, object)?;
+            emit_expression(code, names, name)?;
+            emit_expression(code, names, value)?;
+            put(code, Instruction::WriteProperty)
+        }
+    }
+}
+
+// One more instruction.
+fn put(code: &mut Vec<Instruction>, instruction: Instruction) -> Result<(), AllocError>
+    ensures { OnOk result (code.new.items ≡ code.old.items ++ instruction ∷ []) }
+{
+    code.push(instruction)?;
+    Ok(())
+}

@@ -1,0 +1,73 @@
+//! Programs.
+ghost use Rattle.std.specs.Prelude.{◌≡◌, IfOk};
+ghost use Rattle.moo_compiler.specs.Code.{code_of};
+ghost use Rattle.moo_compiler.specs.Names.{names_of};
+
+use crate::code::Code;
+use crate::compile::compile;
+use moo_tree::statement::Tree;
+use std::alloc::{AllocError, Global};
+use std::marker::Model;
+use std::sync::Arc;
+
+/// A program: its source tree with the code of it, shared by their owners. A clone is a count.
+#[derive(Drop)]
+pub struct Program {
+    compiled: Arc<Compiled>,
+}
+
+#[derive(Drop)]
+struct Compiled {
+    tree: Tree,
+    code: Code,
+}
+
+impl Model for Program {
+    ghost use Rattle.moo_spec.specs.Tree.{Program as Source};
+    ghost use Rattle.moo_spec.specs.TreeCode.{program_code};
+    ghost use Rattle.std.specs.Arc.{arc_value};
+
+    ghost Value = { Source };
+
+    ghost coded = { program_code };
+
+    ghost use Rattle.moo_compiler.specs.Compiled.{IsCompiled};
+
+    ghost view = { λ a. (arc_value a.compiled).tree };
+
+    ghost invariant = { λ a. IsCompiled (arc_value a.compiled) };
+}
+
+impl Program {
+    /// The program of this tree.
+    pub fn compile(alloc: Global, tree: Tree) -> Result<Program, AllocError>
+        ensures { IfOk result (λ program. program ≡ tree) }
+    {
+        let code = compile(alloc, &tree)?;
+        Ok(Program { compiled: Arc::new(alloc, Compiled { tree, code })? })
+    }
+
+    /// Its source tree.
+    pub fn tree(&self) -> &Tree
+        ensures { result.now ≡ self.now }
+    {
+        &self.compiled.tree
+    }
+
+    /// Its code.
+    pub fn code(&self) -> &Code
+        ensures instructions { result.now.instructions.items ≡ code_of self.now }
+        ensures names { result.now.names.items ≡ names_of self.now }
+    {
+        &self.compiled.code
+    }
+}
+
+impl Clone for Program {
+    ghost is_clone = { λ program copy. copy ≡ program };
+
+    fn clone(&self) -> Result<Program, AllocError> {
+        let compiled = self.compiled.clone()?;
+        Ok(Program { compiled })
+    }
+}

@@ -1,0 +1,7 @@
+//! Scripts of steps, as `moo-play` reads them.
+#![tactic(auto)]
+
+pub mod fault;
+pub mod fields;
+pub mod number;
+pub mod script;

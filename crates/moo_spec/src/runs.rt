@@ -1,0 +1,27 @@
+//! Laws of segments, steps and lists.
+ghost use Rattle.moo_spec.specs.Laws.{SizeSuffices, StagesSuffice, OneStop, SegmentStops, StopsAsSegment, TicksFall};
+
+/// The bounds of a segment suffice: the size of what is pending for turns that cost nothing, the stages of begun
+/// built-ins between two charges, the ticks for the whole.
+#[tactic(auto, using(crate::proofs::Sizes::size_suffices, crate::proofs::Sizes::stages_suffice, crate::proofs::Courses::ticks_fall))]
+pub fn bounds()
+    ensures sizes { SizeSuffices }
+    ensures stages { StagesSuffice }
+    ensures ticks { TicksFall }
+{}
+
+/// Turn by turn, a task comes to the end of its segment and to no other.
+pub fn courses()
+    ensures one { OneStop }
+    ensures segment { SegmentStops }
+    ensures no_other { StopsAsSegment }
+{}
+
+ghost use Rattle.moo_spec.specs.Laws.{NextRises, PlayGoesOn};
+
+/// The next number never falls, and a list of steps goes on where a shorter one ends.
+#[tactic(auto, using(crate::proofs::Steps::next_rises, crate::proofs::Steps::play_goes_on))]
+pub fn lists()
+    ensures next { NextRises }
+    ensures sum { PlayGoesOn }
+{}

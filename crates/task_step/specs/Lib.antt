@@ -1,0 +1,2 @@
+pub mod OutcomeView
+pub mod StepView

@@ -1,0 +1,5 @@
+//! Steps of a world and their outcomes: what goes into a list of steps, and what comes out of it.
+#![tactic(auto)]
+
+pub mod outcome;
+pub mod step;

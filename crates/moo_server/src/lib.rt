@@ -3,4 +3,5 @@
 
 pub mod given;
 pub mod printing;
+pub mod stack;
 pub mod words;

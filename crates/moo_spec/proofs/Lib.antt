@@ -5,3 +5,9 @@ pub mod Courses
 pub mod Steps
 pub mod SlotChanges
 pub mod Same
+pub mod Shapes
+pub mod Keys
+pub mod SlotKeeps
+pub mod StepKeeps
+pub mod Lines
+pub mod TurnsStay

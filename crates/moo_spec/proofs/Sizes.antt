@@ -1,7 +1,7 @@
 -- The bounds of a segment suffice: each turn that costs nothing leaves less to do.
 use Rattle.std.proofs.Common.{◌≡◌, ℕ, zero, suc, ◌+◌, ◌≤◌, ◌<◌, Bool, true, false, List, [], ◌∷◌, ◌++◌, drop, Option, Some, None, refl, ap, arith, if◌then◌else◌}
 use Rattle.moo_spec.specs.Datum.{Datum, error, ErrorCode}
-use Rattle.moo_spec.specs.Tree.{literal, variable, binary, plus, property, assignment, to_property, evaluate, give, give_zero, Program, the_end, seq}
+use Rattle.moo_spec.specs.Tree.{literal, variable, binary, plus, property, assignment, to_property, evaluate, give, give_zero, guarded, finished, leave_loop, next_turn, Program, the_end, seq}
 use Rattle.moo_spec.specs.World.{World, Construct, of_expr, of_target, of_default, of_statement, of_program, Piece, Entry, frame_entry, native_entry}
 use Rattle.moo_spec.specs.Table.{named}
 use Rattle.moo_spec.specs.Place.{Part, parts, program_parts, nth}
@@ -93,6 +93,10 @@ unfolding operated
 operated_less w p ps (of_statement (evaluate e)) (v ∷ []) n is h = to_less w p next ps n (entries_stages p.outer) (omega arith) (omega arith)
 operated_less w p ps (of_statement (evaluate e)) [] n is h = tt
 operated_less w p ps (of_statement (evaluate e)) (v ∷ u ∷ vs) n is h = tt
+operated_less w p ps (of_statement (guarded q arms)) vs n is h = tt
+operated_less w p ps (of_statement (finished q r)) vs n is h = tt
+operated_less w p ps (of_statement (leave_loop x)) vs n is h = tt
+operated_less w p ps (of_statement (next_turn x)) vs n is h = tt
 operated_less w p ps (of_target t) vs n is h = tt
 operated_less w p ps (of_default x e) vs n is h = tt
 operated_less w p ps (of_program q) vs n is h = tt
@@ -144,6 +148,10 @@ turn_less w p is b = turn_on_less w p p.frame.pieces p.focus is b
 ticks_one : (f : Focus) (k : ℕ) → ticks_of f ≡ suc k → ticks_of f ≡ 1
 ticks_one (operate (of_expr e) vs) k h = refl
 ticks_one (operate (of_statement (evaluate e)) vs) k h = absurd (omega arith)
+ticks_one (operate (of_statement (guarded q arms)) vs) k h = absurd (omega arith)
+ticks_one (operate (of_statement (finished q r)) vs) k h = absurd (omega arith)
+ticks_one (operate (of_statement (leave_loop x)) vs) k h = absurd (omega arith)
+ticks_one (operate (of_statement (next_turn x)) vs) k h = absurd (omega arith)
 ticks_one (operate (of_statement s) vs) k h = refl
 ticks_one _ k h = absurd (omega arith)
 

@@ -1,5 +1,5 @@
 -- What an operation answers (Programmer's Manual, "The MOO Programming Language"): a value, or the error that it raises.
-use Rattle.std.specs.Prelude.{ℕ, Bool, nat_le, if◌then◌else◌, ℤ, pos}
+use Rattle.std.specs.Prelude.{ℕ, ◌-◌, ◌^◌, min, Bool, nat_le, if◌then◌else◌, ℤ, pos}
 use Rattle.moo_spec.specs.Datum.{Datum, integer, ErrorCode, limit_exceeded, weight}
 
 pub data Answer : Type 0 where
@@ -24,3 +24,7 @@ limited_answer (raises e) = raises e
 -- a truth value of the language
 abbrev pub truth : Bool → Datum
 truth b = integer (if b then pos 1 else pos 0)
+
+-- a count as a value: the greatest number for what is more
+abbrev pub count : ℕ → Datum
+count n = integer (pos (min n (2 ^ 31 - 1)))

@@ -1,12 +1,14 @@
 -- Laws of the definitions, in the subject's own words.
-use Rattle.std.specs.Prelude.{IsTrue, ◌↔◌, ◌≡◌, ◌≢◌, ◌≤◌, ℕ, ℤ, List, ◌++◌, Some, true}
-use Rattle.moo_spec.specs.Datum.{Datum, same, Text, fold_case}
-use Rattle.moo_spec.specs.Table.{with_name}
-use Rattle.moo_spec.specs.World.{World, Object, Slot, object_at}
-use Rattle.moo_spec.specs.Inherit.{slot_at, with_slot}
+use Rattle.std.specs.Prelude.{IsTrue, ◌↔◌, ◌≡◌, ◌≢◌, ◌≤◌, ℕ, ℤ, List, ◌++◌, Some, true, is_some}
+use Rattle.moo_spec.specs.Datum.{Datum, Data, same, Text, fold_case}
+use Rattle.moo_spec.specs.Table.{with_name, is_named}
+use Rattle.moo_spec.specs.World.{World, Object, Slot, Call, Start, object_at}
+use Rattle.moo_spec.specs.Inherit.{IsLine, ancestors, property_value, slot_at, with_slot}
 use Rattle.moo_spec.specs.Turn.{Pending, cost}
 use Rattle.moo_spec.specs.Segment.{Settled, charges, begins, ends, begins_stage, settled, reached, Ended, segment, Course, runs, stops, Leads}
-use Rattle.moo_spec.specs.Step.{Step, play1, play}
+use Rattle.moo_spec.specs.Commands.{starting}
+use Rattle.moo_spec.specs.Step.{Step, in_range, AllInRange, play1, play}
+use Rattle.moo_spec.specs.WellFormed.{IsWellFormed}
 
 -- ---- segments
 
@@ -90,3 +92,44 @@ OtherObjectsStay = (w : World) (o q : ℤ) (p : Text) (s : Slot) → (o ≢ q) �
 -- and the rest of the world
 abbrev pub WorldStays : Type 0
 WorldStays = (w : World) (o : ℤ) (p : Text) (s : Slot) → record (with_slot w o p s) { objects = w.objects } ≡ w
+
+-- ---- well-formed worlds stay well formed
+
+-- a slot that is there takes another value
+abbrev pub SlotKeeps : Type 0
+SlotKeeps =
+    (w : World) (o : ℤ) (p : Text) (s t : Slot)
+    → IsWellFormed w → slot_at w o p ≡ Some s → IsTrue (is_some t.content) → IsWellFormed (with_slot w o p t)
+
+-- in a segment
+abbrev pub SegmentKeeps : Type 0
+SegmentKeeps = (t : ℕ) (w : World) (p : Pending) → IsWellFormed w → IsWellFormed (segment t w p).world
+
+-- (so far a task changes nothing but the values of slots)
+abbrev pub SegmentChangesObjects : Type 0
+SegmentChangesObjects = (t : ℕ) (w : World) (p : Pending) → record ((segment t w p).world) { objects = w.objects } ≡ w
+
+-- in a step, and in a list of steps
+abbrev pub StepKeeps : Type 0
+StepKeeps = (w : World) (s : Step) → IsWellFormed w → IsTrue (in_range s) → IsWellFormed (play1 w s).0
+
+abbrev pub PlayKeeps : Type 0
+PlayKeeps = (w : World) (ss : List Step) → IsWellFormed w → AllInRange ss → IsWellFormed (play w ss).0
+
+-- ---- inheritance
+
+-- in a well-formed world the ancestors go up along parent to the first that is not there
+abbrev pub AncestorsAreALine : Type 0
+AncestorsAreALine = (w : World) (o : ℤ) → IsWellFormed w → IsLine w o (ancestors w o)
+
+-- and a slot that is not clear gives its own value
+abbrev pub OwnValue : Type 0
+OwnValue =
+    (w : World) (o : ℤ) (p : Text) (s : Slot) (v : Datum)
+    → IsWellFormed w → slot_at w o p ≡ Some s → s.content ≡ Some v → property_value w o p ≡ Some v
+
+-- ---- the start of a verb
+
+-- its variables stand in the order of their names
+abbrev pub StartsInOrder : Type 0
+StartsInOrder = (player : ℤ) (c : Call) (s : Start) (args : Data) → is_named (starting player c s args) ≡ true

@@ -21,3 +21,8 @@ pub mod Rows
 pub mod StepCode
 pub mod Questions
 pub mod Laws
+pub mod Places
+pub mod Operators
+pub mod Indexing
+pub mod TextSearch
+pub mod Standing

@@ -6,3 +6,5 @@ pub mod rows;
 pub mod runs;
 pub mod slots;
 pub mod values;
+pub mod inheritance;
+pub mod keeping;

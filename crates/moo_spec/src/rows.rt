@@ -1,9 +1,74 @@
-//! Worked rows, by computation: the bodies are empty, and the clauses are the rows.
-ghost use Rattle.moo_spec.specs.Rows.{OneCount, TwoCounts};
+//! Worked rows: the bodies are empty, and the clauses are the rows, true by computation.
+ghost use Rattle.moo_spec.specs.Rows.{OneCount, TwoCounts, NoSteps, LooselyTyped};
 
-/// What the definitions answer to the lines `count`.
+/// What the lines `count` of two players answer.
 #[tactic(auto, unfolding(crate::specs::Opened::opened))]
 pub fn counts()
     ensures one { OneCount }
     ensures two { TwoCounts }
+    ensures no_steps { NoSteps }
+    ensures loosely { LooselyTyped }
+{}
+
+ghost use Rattle.moo_spec.specs.Rows.{ClosedLink, UnknownWord, PartOfAName, TwoWords, EmptyLine, SpacesAlone, Ending, LaterNumber};
+
+/// Lines that run nothing, and the next number.
+#[tactic(auto, unfolding(crate::specs::Opened::opened))]
+pub fn idle_lines()
+    ensures closed { ClosedLink }
+    ensures unknown { UnknownWord }
+    ensures part { PartOfAName }
+    ensures two_words { TwoWords }
+    ensures empty { EmptyLine }
+    ensures spaces { SpacesAlone }
+    ensures ending { Ending }
+    ensures later { LaterNumber }
+{}
+
+ghost use Rattle.moo_spec.specs.Rows.{EmptyProgram, ReturnAlone, FirstReturn, Sums, Wraps, Starts, Assigned, MayRead, GreatestWeight};
+
+/// Programs that end with a value.
+#[tactic(auto, unfolding(crate::specs::Opened::opened))]
+pub fn values()
+    ensures empty { EmptyProgram }
+    ensures alone { ReturnAlone }
+    ensures first { FirstReturn }
+    ensures sums { Sums }
+    ensures wraps { Wraps }
+    ensures starts { Starts }
+    ensures assigned { Assigned }
+    ensures read { MayRead }
+    ensures weight { GreatestWeight }
+{}
+
+ghost use Rattle.moo_spec.specs.Rows.{WrongKinds, WithoutDebug, Unset, NoProperty, NoObject, MayNotWrite, TooHeavy};
+
+/// Programs that raise an error, and what their players are told.
+#[tactic(auto, unfolding(crate::specs::Opened::opened))]
+pub fn errors()
+    ensures kinds { WrongKinds }
+    ensures no_debug { WithoutDebug }
+    ensures unset { Unset }
+    ensures no_property { NoProperty }
+    ensures no_object { NoObject }
+    ensures not_allowed { MayNotWrite }
+    ensures heavy { TooHeavy }
+{}
+
+ghost use Rattle.moo_spec.specs.Rows.{FourTicks, TwoTicks, SixTicks};
+
+/// What a task does with few ticks.
+#[tactic(auto, unfolding(crate::specs::Opened::opened))]
+pub fn few_ticks()
+    ensures four { FourTicks }
+    ensures two { TwoTicks }
+    ensures six { SixTicks }
+{}
+
+ghost use Rattle.moo_spec.specs.Rows.{InRange, Numbers};
+
+/// The ranges of a step's fields, and numbers that run on.
+pub fn ranges()
+    ensures fields { InRange }
+    ensures numbers { Numbers }
 {}

@@ -17,11 +17,26 @@ pub fn courses()
     ensures no_other { StopsAsSegment }
 {}
 
-ghost use Rattle.moo_spec.specs.Laws.{NextRises, PlayGoesOn};
+ghost use Rattle.moo_spec.specs.Laws.{NextRises, PlayGoesOn, StartsInOrder};
 
 /// The next number never falls, and a list of steps goes on where a shorter one ends.
 #[tactic(auto, using(crate::proofs::Steps::next_rises, crate::proofs::Steps::play_goes_on))]
 pub fn lists()
     ensures next { NextRises }
     ensures sum { PlayGoesOn }
+{}
+
+/// A verb's variables at its start stand in the order of their names.
+#[tactic(auto, using(crate::proofs::Lines::starts_in_order))]
+pub fn starts()
+    ensures { StartsInOrder }
+{}
+
+ghost use Rattle.moo_spec.specs.Standing.{StartsStand, TurnsStay};
+
+/// A verb begins in its program, and no turn leaves it: the pieces lead from what is looked at to the whole program,
+/// and each holds what its construct holds in that part.
+pub fn places()
+    ensures starts { StartsStand }
+    ensures turns { TurnsStay }
 {}

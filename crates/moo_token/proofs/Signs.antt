@@ -9,7 +9,7 @@ use Rattle.moo_token.specs.Tokens.{spelling, sign_of}
 use Rattle.moo_token.specs.Cutting.{longer}
 use Rattle.moo_token.proofs.Lists.{tested}
 
-pub head_of : Text → ℕ
+abbrev pub head_of : Text → ℕ
 head_of [] = 0
 head_of (b ∷ bs) = b
 
@@ -88,16 +88,15 @@ longer_spelled b sign.Greater n h = one_longer b 61 sign.GreaterOrEqual n (62 �
 longer_spelled b sign.Bar n h = one_longer b 124 sign.Or n (124 ∷ []) h refl
 longer_spelled b _ n h = cc
 
-is_nonempty : Text → Bool
+abbrev is_nonempty : Text → Bool
 is_nonempty [] = false
 is_nonempty (b ∷ bs) = true
 
 nonempty : (m : Sign) → is_nonempty (spelling m) ≡ true
-unfolding is_nonempty
+nonempty sign.And = refl
 nonempty _ = refl
 
 pub never_empty : (m : Sign) → [] ≡ spelling m → ⊥
-unfolding is_nonempty
 never_empty m h = let e : false ≡ true = ap is_nonempty h ∙ nonempty m in cc
 
 -- a sign of one byte is that byte's
@@ -121,13 +120,11 @@ single : (a : ℕ) (m : Sign) → spelling m ≡ a ∷ [] → sign_of a ≡ Some
 single a m h = subst (λ w. IsByBytes w m) h (by_bytes m)
 
 split_one : (w more : Text) (c a : ℕ) → is_nonempty w ≡ true → w ++ c ∷ more ≡ a ∷ [] → ⊥
-unfolding is_nonempty
 split_one [] more c a h e = cc
 split_one (x ∷ []) more c a h e = cc
 split_one (x ∷ y ∷ w) more c a h e = cc
 
 split_two : (w more : Text) (c a b : ℕ) → is_nonempty w ≡ true → w ++ c ∷ more ≡ a ∷ b ∷ [] → (w ≡ a ∷ []) × (c ≡ b)
-unfolding is_nonempty
 split_two [] more c a b h e = cc
 split_two (x ∷ []) more c a b h e = let f : x ≡ a = cc in let g : c ≡ b = cc in (ap (λ z. z ∷ []) f, g)
 split_two (x ∷ y ∷ []) more c a b h e = cc

@@ -10,7 +10,7 @@ use Rattle.std.proofs.lemmas.Fmt.{decimal_nonempty}
 use Rattle.moo_spec.specs.Datum.{Datum, integer, object, text, error, list, Data, ErrorCode, no_error, type_mismatch, zero_division, permission_denied, property_not_found, verb_not_found, variable_not_found, invalid_indirection, recursive_move, too_many_calls, range_error, wrong_argument_count, move_refused, invalid_argument, limit_exceeded, float_error, of_list, to_list}
 use Rattle.moo_spec.specs.Datum.{is_value, in_number_range, are_values}
 use Rattle.moo_spec.specs.Literal.{literal, data_text, more_text, escaped, error_name}
-use Rattle.moo_value.proofs.Items.{of_list-to_list}
+use Rattle.moo_value.proofs.Listing.{of_list-to_list}
 use Rattle.moo_value.specs.declared.error.MooError.{MooError}
 use Rattle.moo_value.specs.declared.error.MooError.TheVariants.{NoError, TypeMismatch, ZeroDivision, PermissionDenied, PropertyNotFound, VerbNotFound, VariableNotFound, InvalidIndirection, RecursiveMove, TooManyCalls, RangeError, WrongArgumentCount, MoveRefused, InvalidArgument, LimitExceeded, FloatError}
 use Rattle.moo_value.specs.Read.{is_digit, digit_run, mark, Found, found, first_named, FindsNumber, FindsError, FindsText, FindsValue, FindsItems}

@@ -1,3 +1,4 @@
+pub mod Answers
 pub mod Depth
 pub mod Errors
 pub mod Falls

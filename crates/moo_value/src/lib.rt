@@ -3,8 +3,10 @@
 //! To contracts a `Value` is plain data, a `Datum` of the definitions; how it is shared in memory is not seen.
 #![tactic(auto)]
 
+pub mod answer;
 pub mod compare;
 pub mod error;
+mod items;
 pub mod operator;
 pub mod read;
 pub mod text;

@@ -1,8 +1,8 @@
 //! Texts, the strings of the language.
-ghost use Rattle.std.specs.Prelude.{◌≡◌, IfOk, MatchOption, IsFalse, IsTrue, length, string_bytes};
+ghost use Rattle.std.specs.Prelude.{◌≡◌, ◌↔◌, ◌≤◌, ◌++◌, take, drop, IfOk, MatchOption, IsTrue, IsFalse, length, string_bytes};
 ghost use Rattle.moo_spec.specs.Datum.{is_text as is_text_of};
 
-use std::alloc::AllocError;
+use std::alloc::{AllocError, Global};
 use std::marker::Model;
 use std::sync::ArcStr;
 
@@ -37,6 +37,45 @@ impl Text {
         Ok(Some(Text { bytes }))
     }
 
+    /// A text whose characters are known to be allowed.
+    pub fn from_str(alloc: Global, text: &str) -> Result<Text, AllocError>
+        requires { IsTrue (is_text_of text.now) }
+        ensures { IfOk result (λ t. t ≡ text.now) }
+    {
+        let bytes = ArcStr::from_str(alloc, text)?;
+        Ok(Text { bytes })
+    }
+
+    /// The text of an owned string whose characters are known to be allowed.
+    pub fn from_string(text: String) -> Result<Text, AllocError>
+        requires { IsTrue (is_text_of (string_bytes text)) }
+        ensures { IfOk result (λ t. t ≡ string_bytes text) }
+    {
+        let bytes = ArcStr::from_string(text)?;
+        Ok(Text { bytes })
+    }
+
+    /// Three texts whose characters are known to be allowed, one behind the other.
+    pub fn joined(alloc: Global, first: &str, second: &str, third: &str) -> Result<Text, AllocError>
+        requires first { IsTrue (is_text_of first.now) }
+        requires second { IsTrue (is_text_of second.now) }
+        requires third { IsTrue (is_text_of third.now) }
+        ensures { IfOk result (λ t. t ≡ first.now ++ (second.now ++ third.now)) }
+    {
+        let mut text = String::new(alloc);
+        text.push_str(first)?;
+        text.push_str(second)?;
+        text.push_str(third)?;
+        Text::from_string(text)
+    }
+
+    /// Whether it has no character.
+    pub fn is_empty(&self) -> bool
+        ensures { IsTrue result ↔ length self.now ≡ 0 }
+    {
+        self.bytes.len() == 0
+    }
+
     /// The characters.
     pub fn as_str(&self) -> &str
         ensures { result.now ≡ self.now }
@@ -57,6 +96,26 @@ impl Text {
     {
         self.bytes.len()
     }
+}
+
+/// The first characters of a text whose characters are known to be allowed.
+pub fn front(text: &str, count: usize) -> &str
+    requires text { IsTrue (is_text_of text.now) }
+    requires count { count ≤ length text.now }
+    ensures value { result.now ≡ take count text.now }
+    ensures allowed { IsTrue (is_text_of result.now) }
+{
+    &text[..count]
+}
+
+/// The characters behind the first ones of a text whose characters are known to be allowed.
+pub fn back(text: &str, count: usize) -> &str
+    requires text { IsTrue (is_text_of text.now) }
+    requires count { count ≤ length text.now }
+    ensures value { result.now ≡ drop count text.now }
+    ensures allowed { IsTrue (is_text_of result.now) }
+{
+    &text[count..]
 }
 
 fn is_allowed(bytes: &[u8]) -> bool

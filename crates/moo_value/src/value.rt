@@ -1,8 +1,9 @@
 //! Values.
-ghost use Rattle.std.specs.Prelude.{◌≡◌, IfOk, IsTrue, min};
-ghost use Rattle.moo_spec.specs.Datum.{Datum, integer, object, text as text_of, error, list, of_list, is_value, are_values, data_weight};
+ghost use Rattle.std.specs.Prelude.{◌≡◌, ◌<◌, ◌≤◌, IfOk, IsTrue, min, is_ok, Some, if◌then◌else◌};
+ghost use Rattle.moo_spec.specs.Datum.{Datum, integer, object, text as text_of, error, list, of_list, is_value};
 
 use crate::error::MooError;
+use crate::items;
 use crate::text::Text;
 use std::alloc::AllocError;
 use std::marker::Model;
@@ -64,12 +65,31 @@ pub enum Shown<'a> {
 impl Value {
     ghost use Rattle.moo_value.specs.Errors.{code_of};
     ghost use Rattle.moo_value.specs.Shown.{shown_datum};
+    ghost use Rattle.moo_spec.specs.Datum.{is_true as is_true_of};
+    ghost use Rattle.moo_spec.specs.Answer.{count, truth as truth_of};
 
     /// An integer.
     pub fn integer(number: i32) -> Value
         ensures { result ≡ integer number }
     {
         Value { node: Node::Integer(number) }
+    }
+
+    /// A count, as an integer: the greatest one for what is more.
+    pub fn count(number: usize) -> Value
+        ensures { result ≡ count number }
+    {
+        match i32::try_from(number) {
+            Ok(number) => Value::integer(number),
+            Err(_) => Value::integer(i32::MAX),
+        }
+    }
+
+    /// 1 or 0.
+    pub fn truth(truth: bool) -> Value
+        ensures { result ≡ truth_of truth }
+    {
+        Value::integer(if truth { 1 } else { 0 })
     }
 
     /// An object number, of an object that exists or not.
@@ -97,8 +117,8 @@ impl Value {
     pub fn list(items: Vec<Value>) -> Result<Value, AllocError>
         ensures { IfOk result (λ v. v ≡ list (of_list items.items)) }
     {
-        know_all(&items);
-        let weight = items_weight(&items);
+        items::know_all(&items);
+        let weight = items::weight(&items);
         let alloc = *items.allocator();
         Ok(Value { node: Node::List(Arc::new(alloc, items)?, weight) })
     }
@@ -113,6 +133,18 @@ impl Value {
             Node::Text(text) => Shown::Text(text.as_str()),
             Node::Error(code) => Shown::Error(*code),
             Node::List(items, _) => Shown::List(items.as_slice()),
+        }
+    }
+
+    /// Whether the value counts as true: a nonzero integer, a nonempty text or a nonempty list.
+    pub fn is_true(&self) -> bool
+        ensures { result ≡ is_true_of self.now }
+    {
+        match self.shown() {
+            Shown::Integer(number) => number != 0,
+            Shown::Text(text) => !text.is_empty(),
+            Shown::List(items) => !items.is_empty(),
+            Shown::Object(_) | Shown::Error(_) => false,
         }
     }
 
@@ -139,23 +171,68 @@ impl Value {
     }
 }
 
-// What items weigh, or the greatest number where that is more.
-fn items_weight(items: &[Value]) -> usize
-    ensures { result ≡ min (data_weight (of_list items.now)) usize.MAX }
-{
-    let mut sum = 0usize;
-    for item in items {
-        sum = sum.saturating_add(item.weight());
-    }
-    sum
-}
+impl Value {
+    ghost use Rattle.moo_spec.specs.Places.{length_of_list, list_item, list_with, list_inserted, list_without, list_appended};
 
-// Every item is a value.
-fn know_all(items: &[Value])
-    ensures { IsTrue (are_values (of_list items.now)) }
-{
-    for item in items {
+    /// Puts an item at the end of a list, in place where no other owner shares the list. Another kind of value stays.
+    pub fn push(&mut self, item: Value) -> Result<(), AllocError>
+        ensures { self.new ≡ (if is_ok result then list_appended self.old item else self.old) }
+    {
         item.know();
+        let added = item.weight();
+        let Node::List(items, weight) = &mut self.node else {
+            return Ok(());
+        };
+        items::push(items, item)?;
+        *weight = weight.saturating_add(added);
+        Ok(())
+    }
+
+    /// Puts another item in a place of a list and gives the one that was there, in place where no other owner shares the list.
+    pub fn replace(&mut self, place: usize, item: Value) -> Result<Value, AllocError>
+        requires { place < length_of_list self.old }
+        ensures after { self.new ≡ (if is_ok result then list_with self.old place item else self.old) }
+        ensures item { IfOk result (λ v. list_item self.old place ≡ Some v) }
+    {
+        item.know();
+        let added = item.weight();
+        let Node::List(items, weight) = &mut self.node else {
+            return Ok(item);
+        };
+        let others = items::weight_without(items, *weight, place);
+        let taken = items::replace(items, place, item)?;
+        *weight = others.saturating_add(added);
+        Ok(taken)
+    }
+
+    /// Puts an item into a list before a place, or at its end, in place where no other owner shares the list.
+    pub fn insert(&mut self, place: usize, item: Value) -> Result<(), AllocError>
+        requires { place ≤ length_of_list self.old }
+        ensures { self.new ≡ (if is_ok result then list_inserted self.old place item else self.old) }
+    {
+        item.know();
+        let added = item.weight();
+        let Node::List(items, weight) = &mut self.node else {
+            return Ok(());
+        };
+        items::insert(items, place, item)?;
+        *weight = weight.saturating_add(added);
+        Ok(())
+    }
+
+    /// Takes an item out of a list, in place where no other owner shares the list.
+    pub fn remove(&mut self, place: usize) -> Result<Value, AllocError>
+        requires { place < length_of_list self.old }
+        ensures after { self.new ≡ (if is_ok result then list_without self.old place else self.old) }
+        ensures item { IfOk result (λ v. list_item self.old place ≡ Some v) }
+    {
+        let Node::List(items, weight) = &mut self.node else {
+            return Ok(Value::integer(0));
+        };
+        let others = items::weight_without(items, *weight, place);
+        let taken = items::remove(items, place)?;
+        *weight = others;
+        Ok(taken)
     }
 }
 

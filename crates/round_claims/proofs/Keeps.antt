@@ -16,18 +16,32 @@ use Rattle.round_claims.specs.Rule.{IsKept, IsTold, all_claimed, seat_view, left
 use Rattle.round_claims.proofs.Views.{sum_set, sum_at, sum_push, times-append, times-all_claimed, length-all_claimed, each_set, each_push, claimed_by_one}
 
 -- the seats' lists together, after one view's list has changed
-times_set : (x : ℕ) (views : List SeatView) (i : ℕ) (v w : SeatView) → get_elem? views i ≡ some v → times x (all_claimed (slice_set views i w)) + times x v.claimed ≡ times x (all_claimed views) + times x w.claimed
+times_set : (x : ℕ) (views : List SeatView) (i : ℕ) (v w : SeatView) → get_elem? views i ≡ some v
+    → times x (all_claimed (slice_set views i w)) + times x v.claimed ≡ times x (all_claimed views) + times x w.claimed
 times_set x views i v w at =
-    omega (arith, times-all_claimed x views, times-all_claimed x (slice_set views i w), sum_set (λ u. times x u.claimed) views i v w at)
+    omega (
+      arith,
+      times-all_claimed x views,
+      times-all_claimed x (slice_set views i w),
+      sum_set (λ u. times x u.claimed) views i v w at,
+    )
 
-length_set : (views : List SeatView) (i : ℕ) (v w : SeatView) → get_elem? views i ≡ some v → length (all_claimed (slice_set views i w)) + length v.claimed ≡ length (all_claimed views) + length w.claimed
-length_set views i v w at = omega (arith, length-all_claimed views, length-all_claimed (slice_set views i w), sum_set (λ u. length u.claimed) views i v w at)
+length_set : (views : List SeatView) (i : ℕ) (v w : SeatView) → get_elem? views i ≡ some v
+    → length (all_claimed (slice_set views i w)) + length v.claimed ≡ length (all_claimed views) + length w.claimed
+length_set views i v w at = omega (
+  arith,
+  length-all_claimed views,
+  length-all_claimed (slice_set views i w),
+  sum_set (λ u. length u.claimed) views i v w at,
+)
 
 -- the counts of x before and after one more number
-once_more : (x n limit : ℕ) → n < limit → cond (nat_lt x (min (n + 1) limit)) 1 0 ≡ cond (nat_lt x (min n limit)) 1 0 + times x (n ∷ [])
+once_more : (x n limit : ℕ) → n < limit
+    → cond (nat_lt x (min (n + 1) limit)) 1 0 ≡ cond (nat_lt x (min n limit)) 1 0 + times x (n ∷ [])
 once_more x n limit room = grind (arith, nat_tests)
 
-once_same : (x n limit : ℕ) → limit ≤ n → ◌≡◌ {A = ℕ} (cond (nat_lt x (min (n + 1) limit)) 1 0) (cond (nat_lt x (min n limit)) 1 0)
+once_same : (x n limit : ℕ) → limit ≤ n
+    → ◌≡◌ {A = ℕ} (cond (nat_lt x (min (n + 1) limit)) 1 0) (cond (nat_lt x (min n limit)) 1 0)
 once_same x n limit full = grind (arith, nat_tests)
 
 one_word : (words : List ℕ) (n : ℕ) → length words ≡ 1 → slice_index (slice_set words 0 n) 0 ≡ n
@@ -36,10 +50,18 @@ one_word (x ∷ xs) n one = refl
 
 -- what a seat is told holds where the word is larger
 told_later : (size : Size) (m n : ℕ) (v : SeatView) → m ≤ n → IsTold size m v → IsTold size n v
-told_later size m n v later told = record { size_is = told.size_is; idle = told.idle; all_gone = λ closed. omega (arith, told.all_gone closed) }
+told_later size m n v later told = record {
+  size_is = told.size_is;
+  idle = told.idle;
+  all_gone = λ closed. omega (
+    arith,
+    told.all_gone closed,
+  );
+}
 
 -- a position found is claimed
-claims_kept : (size : Size) (words : List ℕ) (views : List SeatView) (i : ℕ) (v : SeatView) → IsKept size words views → get_elem? views i ≡ some v → 0 < v.seats → slice_index words 0 < size.positions
+claims_kept : (size : Size) (words : List ℕ) (views : List SeatView) (i : ℕ) (v : SeatView) → IsKept size words views
+    → get_elem? views i ≡ some v → 0 < v.seats → slice_index words 0 < size.positions
     → IsKept size (slice_set words 0 (slice_index words 0 + 1)) (slice_set views i (claimed_view v (slice_index words 0)))
 claims_kept size words views i v kept at some_seat room =
     let n : ℕ = slice_index words 0 in
@@ -49,19 +71,33 @@ claims_kept size words views i v kept at some_seat room =
     let m = sum_set (λ u. u.misses_left) views i v w at in
     let told : IsTold size n v = kept.told i v at in record {
       one_word = length-set words 0 (n + 1) ∙ kept.one_word;
-      each_once = λ x. rw e (omega (arith, times_set x views i v w at, kept.each_once x, times-append x v.claimed (n ∷ []), once_more x n size.positions room));
+      each_once = λ x. rw e (omega (
+        arith,
+        times_set x views i v w at,
+        kept.each_once x,
+        times-append x v.claimed (n ∷ []),
+        once_more x n size.positions room,
+      ));
       count = rw e (omega (arith, length_set views i v w at, kept.count, length-append v.claimed (n ∷ [])));
       all_seats = omega (arith, kept.all_seats);
       misses = omega (arith, kept.misses);
       bounded = rw e (omega (arith, kept.bounded, kept.misses));
       told = rw e (each_set (IsTold size n) (IsTold size (n + 1)) views i w (λ u t. told_later size n (n + 1) u (omega arith) t)
-          record { size_is = told.size_is; idle = λ none. absurd (omega arith); all_gone = λ closed. omega (arith, told.all_gone closed) } kept.told);
+          record {
+            size_is = told.size_is;
+            idle = λ none. absurd (omega arith);
+            all_gone = λ closed. omega (
+              arith,
+              told.all_gone closed,
+            );
+          } kept.told);
       positions_fit = kept.positions_fit;
       seats_fit = kept.seats_fit;
     }
 
 -- none was left: the seat closes, with one miss less to make
-closes_kept : (size : Size) (words : List ℕ) (views : List SeatView) (i : ℕ) (v : SeatView) → IsKept size words views → get_elem? views i ≡ some v → 0 < v.misses_left → size.positions ≤ slice_index words 0
+closes_kept : (size : Size) (words : List ℕ) (views : List SeatView) (i : ℕ) (v : SeatView) → IsKept size words views
+    → get_elem? views i ≡ some v → 0 < v.misses_left → size.positions ≤ slice_index words 0
     → IsKept size (slice_set words 0 (slice_index words 0 + 1)) (slice_set views i (closed_view v))
 closes_kept size words views i v kept at some_miss full =
     let n : ℕ = slice_index words 0 in
@@ -86,7 +122,8 @@ not_both : (b : Bool) → b ≡ false → b ≡ true → ⊥
 not_both b e f = cc
 
 -- the word does not wrap
-no_wrap : (size : Size) (words : List ℕ) (views : List SeatView) → IsKept size words views → (slice_index words 0 + 1) % 2 ^ 64 ≡ slice_index words 0 + 1
+no_wrap : (size : Size) (words : List ℕ) (views : List SeatView) → IsKept size words views
+    → (slice_index words 0 + 1) % 2 ^ 64 ≡ slice_index words 0 + 1
 no_wrap size words views kept = mod-eq_of_lt (omega (arith, kept.bounded, kept.positions_fit, kept.seats_fit))
 
 -- an exchange keeps the rule, and tells what it says
@@ -97,14 +134,26 @@ exchanges size slots id v same some_seat some_miss s kept homes at small =
     let e = no_wrap size s.words s.views kept in
     elim (cases_lt n size.positions) [
       | inl room ↦
-        let own = sum_at (λ u. length u.claimed) s.views id v at in
-        let few : length v.claimed ≤ n = omega (arith, length-all_claimed s.views, kept.count) in
-        (claimed_view v n, keeps, tt, rw e (claims_kept size s.words s.views id v kept at some_seat room), (refl, (λ h. (refl, few)), (λ h. absurd (omega arith))))
-      | inr full ↦ (closed_view v, keeps, tt, rw e (closes_kept size s.words s.views id v kept at some_miss full), (refl, (λ h. absurd (omega arith)), (λ h. refl)))
+          let own = sum_at (λ u. length u.claimed) s.views id v at in
+          let few : length v.claimed ≤ n = omega (arith, length-all_claimed s.views, kept.count) in (
+            claimed_view v n,
+            keeps,
+            tt,
+            rw e (claims_kept size s.words s.views id v kept at some_seat room),
+            (refl, (λ h. (refl, few)), (λ h. absurd (omega arith))),
+          )
+      | inr full ↦ (
+        closed_view v,
+        keeps,
+        tt,
+        rw e (closes_kept size s.words s.views id v kept at some_miss full),
+        (refl, (λ h. absurd (omega arith)), (λ h. refl)),
+      )
     ]
 
 -- one seat is cut off a view that has claimed nothing
-cut_kept : (size : Size) (words : List ℕ) (views : List SeatView) (i : ℕ) (v w u : SeatView) → IsKept size words views → get_elem? views i ≡ some v → v.size ≡ size → 0 < v.seats → 0 < v.misses_left → v.claimed ≡ []
+cut_kept : (size : Size) (words : List ℕ) (views : List SeatView) (i : ℕ) (v w u : SeatView) → IsKept size words views
+    → get_elem? views i ≡ some v → v.size ≡ size → 0 < v.seats → 0 < v.misses_left → v.claimed ≡ []
     → w ≡ left_view v → u ≡ seat_view v.size → IsKept size words (slice_set views i w ++ u ∷ [])
 cut_kept size words views i v w u kept at same some_seat some_miss empty w_is u_is =
     let n : ℕ = slice_index words 0 in
@@ -131,8 +180,26 @@ cut_kept size words views i v w u kept at same some_seat some_miss empty w_is u_
       all_gone = λ closed. absurd (not_both u.closed (ap (λ (z : SeatView). z.closed) u_is) closed);
     } in record {
       one_word = kept.one_word;
-      each_once = λ x. omega (arith, times-all_claimed x (rest ++ u ∷ []), sum_push (λ z. times x z.claimed) rest u, times-all_claimed x rest, times_set x views i v w at, ap (times x) w_claimed, ap (times x) u_claimed, kept.each_once x);
-      count = omega (arith, length-all_claimed (rest ++ u ∷ []), sum_push (λ z. length z.claimed) rest u, length-all_claimed rest, length_set views i v w at, ap length w_claimed, ap length u_claimed, kept.count);
+      each_once = λ x. omega (
+        arith,
+        times-all_claimed x (rest ++ u ∷ []),
+        sum_push (λ z. times x z.claimed) rest u,
+        times-all_claimed x rest,
+        times_set x views i v w at,
+        ap (times x) w_claimed,
+        ap (times x) u_claimed,
+        kept.each_once x,
+      );
+      count = omega (
+        arith,
+        length-all_claimed (rest ++ u ∷ []),
+        sum_push (λ z. length z.claimed) rest u,
+        length-all_claimed rest,
+        length_set views i v w at,
+        ap length w_claimed,
+        ap length u_claimed,
+        kept.count,
+      );
       all_seats = omega (arith, kept.all_seats);
       misses = omega (arith, kept.misses);
       bounded = omega (arith, kept.bounded);
@@ -151,7 +218,8 @@ either_gone true b P f g h = f refl
 either_gone false b P f g h = g h
 
 -- two seats are made one
-merge_kept : (size : Size) (words : List ℕ) (views : List SeatView) (i j : ℕ) (v w b : SeatView) → IsKept size words views → get_elem? views i ≡ some v → get_elem? (slice_set views i b) j ≡ some w → ¬ (j ≡ i)
+merge_kept : (size : Size) (words : List ℕ) (views : List SeatView) (i j : ℕ) (v w b : SeatView) → IsKept size words views
+    → get_elem? views i ≡ some v → get_elem? (slice_set views i b) j ≡ some w → ¬ (j ≡ i)
     → v.size ≡ size → 0 < v.seats → b ≡ joined_view v w → IsKept size words (slice_set (slice_set views i b) j spent_view)
 merge_kept size words views i j v w b kept at at' apart same some_seat b_is =
     let n : ℕ = slice_index words 0 in
@@ -176,8 +244,22 @@ merge_kept size words views i j v w b kept at at' apart same some_seat b_is =
       all_gone = λ closed. absurd (not_both false refl closed);
     } in record {
       one_word = kept.one_word;
-      each_once = λ x. omega (arith, times_set x with_b j w spent_view at', times_set x views i v b at, ap (times x) b_claimed, times-append x v.claimed w.claimed, kept.each_once x);
-      count = omega (arith, length_set with_b j w spent_view at', length_set views i v b at, ap length b_claimed, length-append v.claimed w.claimed, kept.count);
+      each_once = λ x. omega (
+        arith,
+        times_set x with_b j w spent_view at',
+        times_set x views i v b at,
+        ap (times x) b_claimed,
+        times-append x v.claimed w.claimed,
+        kept.each_once x,
+      );
+      count = omega (
+        arith,
+        length_set with_b j w spent_view at',
+        length_set views i v b at,
+        ap length b_claimed,
+        length-append v.claimed w.claimed,
+        kept.count,
+      );
       all_seats = omega (arith, kept.all_seats);
       misses = omega (arith, kept.misses);
       bounded = omega (arith, kept.bounded);
@@ -200,7 +282,9 @@ pub record IsCounted (size : Size) (v : SeatView) (word : ℕ) : Type 0 where
   pub count : length v.claimed ≡ min word size.positions
   pub all_gone : v.closed ≡ true → size.positions ≤ word
 
-pub ends : (size : Size) (words slots : List ℕ) (id : ℕ) (v : SeatView) (word : ℕ) → Final (Seen (λ (s : State ℕ SeatView). IsKept size s.words s.views) id v) words slots → get_elem? words 0 ≡ some word → v.seats ≡ size.seats
+pub ends : (size : Size) (words slots : List ℕ) (id : ℕ) (v : SeatView) (word : ℕ)
+    → Final (Seen (λ (s : State ℕ SeatView). IsKept size s.words s.views) id v) words slots → get_elem? words 0 ≡ some word
+    → v.seats ≡ size.seats
     → IsCounted size v word
 ends size words slots id v word final here all =
     let s = final.0 in

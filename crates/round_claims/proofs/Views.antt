@@ -12,7 +12,8 @@ use Rattle.round_claims.specs.Claimed.{times}
 use Rattle.round_claims.specs.Rule.{all_claimed, EachView}
 
 -- a sum after a change of one view
-pub sum_set : (f : SeatView → ℕ) (views : List SeatView) (i : ℕ) (v w : SeatView) → get_elem? views i ≡ some v → sum_by f (slice_set views i w) + f v ≡ sum_by f views + f w
+pub sum_set : (f : SeatView → ℕ) (views : List SeatView) (i : ℕ) (v w : SeatView) → get_elem? views i ≡ some v
+    → sum_by f (slice_set views i w) + f v ≡ sum_by f views + f w
 sum_set f [] i v w at = absurd (some-ne-none v (sym at))
 sum_set f (x ∷ xs) zero v w at =
     let e : f x ≡ f v = ap f (some-injective x v at) in omega (arith, sum_by-cons f w xs, sum_by-cons f x xs)
@@ -36,28 +37,40 @@ times-append x xs ys = sum_by-append _ xs ys
 pub times-all_claimed : (x : ℕ) (views : List SeatView) → times x (all_claimed views) ≡ sum_by (λ v. times x v.claimed) views
 times-all_claimed x [] = refl
 times-all_claimed x (v ∷ vs) =
-    omega (arith, times-append x v.claimed (all_claimed vs), times-all_claimed x vs, sum_by-cons (λ (u : SeatView). times x u.claimed) v vs)
+    omega (
+      arith,
+      times-append x v.claimed (all_claimed vs),
+      times-all_claimed x vs,
+      sum_by-cons (λ (u : SeatView). times x u.claimed) v vs,
+    )
 
 pub length-all_claimed : (views : List SeatView) → length (all_claimed views) ≡ sum_by (λ v. length v.claimed) views
 length-all_claimed views = length-flat_map (λ (v : SeatView). v.claimed) views
 
 -- what holds of each view after a change of one
-pub each_set : (P Q : SeatView → Type 0) (views : List SeatView) (i : ℕ) (w : SeatView) → ((u : SeatView) → P u → Q u) → Q w → EachView P views → EachView Q (slice_set views i w)
+pub each_set : (P Q : SeatView → Type 0) (views : List SeatView) (i : ℕ) (w : SeatView) → ((u : SeatView) → P u → Q u) → Q w
+    → EachView P views → EachView Q (slice_set views i w)
 each_set P Q views i w more new each j u at = elim (at_set views i j w u at) [ inl a ↦ subst Q a.1 new | inr a ↦ more u (each j u a.1) ]
 
 -- and with one view more
-pub each_push : (P : SeatView → Type 0) (views : List SeatView) (w : SeatView) → P w → EachView P views → EachView P (views ++ w ∷ [])
+pub each_push : (P : SeatView → Type 0) (views : List SeatView) (w : SeatView) → P w → EachView P views
+    → EachView P (views ++ w ∷ [])
 each_push P views w new each j u at = elim (at_snoc views w u j at) [ inl a ↦ each j u a | inr a ↦ subst P a new ]
 
 -- where the views stand for no seat, and none of those has claimed anything, nothing is claimed
-none_claimed : (views : List SeatView) → sum_by (λ v. v.seats) views ≡ 0 → EachView (λ v. v.seats ≡ 0 → v.claimed ≡ []) views → all_claimed views ≡ []
+none_claimed : (views : List SeatView) → sum_by (λ v. v.seats) views ≡ 0 → EachView (λ v. v.seats ≡ 0 → v.claimed ≡ []) views
+    → all_claimed views ≡ []
 none_claimed [] none idle = refl
 none_claimed (x ∷ xs) none idle =
     let s = sum_by-cons (λ (v : SeatView). v.seats) x xs in
-    let here : x.claimed ≡ [] = idle 0 x refl (omega arith) in rw (here, none_claimed xs (omega arith) (λ i v at. idle (suc i) v at)) refl
+    let here : x.claimed ≡ [] = idle 0 x refl (omega arith) in rw (
+      here,
+      none_claimed xs (omega arith) (λ i v at. idle (suc i) v at),
+    ) refl
 
 -- a view that stands for all seats has all that is claimed
-pub claimed_by_one : (views : List SeatView) (i : ℕ) (v : SeatView) → get_elem? views i ≡ some v → v.seats ≡ sum_by (λ u. u.seats) views → EachView (λ u. u.seats ≡ 0 → u.claimed ≡ []) views
+pub claimed_by_one : (views : List SeatView) (i : ℕ) (v : SeatView) → get_elem? views i ≡ some v
+    → v.seats ≡ sum_by (λ u. u.seats) views → EachView (λ u. u.seats ≡ 0 → u.claimed ≡ []) views
     → all_claimed views ≡ v.claimed
 claimed_by_one [] i v at all idle = absurd (some-ne-none v (sym at))
 claimed_by_one (x ∷ xs) zero v at all idle =

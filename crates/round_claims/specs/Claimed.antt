@@ -29,9 +29,11 @@ abbrev pub fresh_seat : Offer → Holding
 fresh_seat offer = record { offer = offer; seats = 1; claimed = []; closed = false }
 
 -- claims of so many positions, and so many seats, each open and with nothing claimed
-abbrev pub Opens : ℕ → ℕ → Offer → List Holding → Type 0
-Opens positions seats offer all =
-    (offer.positions ≡ positions) × (offer.seats ≡ seats) × (length all ≡ seats) × All (λ seat. seat ≡ fresh_seat offer) all
+pub record Opens (positions seats : ℕ) (offer : Offer) (all : List Holding) : Type 0 where
+  pub positions_are : offer.positions ≡ positions
+  pub seats_are : offer.seats ≡ seats
+  pub count : length all ≡ seats
+  pub fresh : All (λ seat. seat ≡ fresh_seat offer) all
 
 -- the seat claimed one more position
 abbrev pub with_claim : Holding → ℕ → Holding
@@ -42,5 +44,7 @@ abbrev pub closed_seat : Holding → Holding
 closed_seat seat = record seat { closed = true }
 
 -- one seat of these claims that was told that all are claimed
-abbrev pub IsDone : Offer → Holding → Type 0
-IsDone offer seat = (seat.offer ≡ offer) × (seat.seats ≡ 1) × (seat.closed ≡ true)
+pub record IsDone (offer : Offer) (seat : Holding) : Type 0 where
+  pub offer_is : seat.offer ≡ offer
+  pub one : seat.seats ≡ 1
+  pub closed : seat.closed ≡ true

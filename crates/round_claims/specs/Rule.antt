@@ -1,5 +1,5 @@
--- What the claim word and the seats' lists have in common whenever nobody is in the middle of a step.
--- The word counts the exchanges: each adds one to it, and claims the number found if that is a position.
+-- What the claim word and the seats' lists have in common between any two steps.
+-- The word counts the exchanges: each adds one to it, and claims the number that it found, if that is a position.
 use Rattle.std.specs.Prelude.{◌≡◌, ℕ, ◌+◌, ◌-◌, ◌<◌, ◌≤◌, min, ◌||◌, Bool, true, false, List, [], ◌∷◌, ◌++◌, length, slice_index, flat_map, sum_by}
 use mathlib.Core.Option.{some}
 use lib.ListN.{get_elem?}
@@ -35,7 +35,8 @@ pub record IsTold (size : Size) (word : ℕ) (v : SeatView) : Type 0 where
   pub all_gone : v.closed ≡ true → size.positions ≤ word
 
 -- The positions in all seats' lists are the numbers below the word, each once and none left out.
--- The views stand for as many seats as there are, and the word stays below the positions and one miss for each seat
+-- The views stand for as many seats as there are. Each seat may miss once, so the word ends at most at the number of
+-- positions and one more for each seat
 pub record IsKept (size : Size) (words : List ℕ) (views : List SeatView) : Type 0 where
   pub one_word : length words ≡ 1
   pub each_once : EachOnceBelow (min (slice_index words 0) size.positions) (all_claimed views)
@@ -86,7 +87,8 @@ claimed_view v n = record v { claimed = v.claimed ++ n ∷ [] }
 abbrev pub closed_view : SeatView → SeatView
 closed_view v = record v { misses_left = v.misses_left - 1; closed = true }
 
--- What an exchange tells: the number found is claimed if it is a position, and otherwise the seat closes. A seat has claimed no more numbers than the word counted
+-- What an exchange tells: the number found is claimed if it is a position, and otherwise the seat closes. A seat has
+-- claimed no more numbers than the word counted
 abbrev pub Exchanges : {S : Type 0} → Step S → Me S SeatView → ℕ → Me S SeatView → Type 0
 Exchanges s v found w =
     (w.1 ≡ v.1)

@@ -148,7 +148,8 @@ impl Claims {
     /// says that all positions are claimed. It closes the seat, which from then on answers None with no step.
     pub fn claim(&self, seat: &mut ClaimSeat) -> Option<Ticket>
         requires { seat.old.offer ≡ self.now }
-        ensures some { IfSome result (λ position. (position < self.now.positions) × (seat.new ≡ with_claim seat.old position)) }
+        ensures some { IfSome result (λ position. (position < self.now.positions)
+            × (seat.new ≡ with_claim seat.old position)) }
         ensures none { IfNone result (seat.new ≡ closed_seat seat.old) }
         ensures closed { seat.old.closed ≡ true → result ≡ None }
         ensures ends { IsSome result → length seat.old.claimed < self.now.positions }
@@ -182,9 +183,7 @@ impl Claims {
             seat: token,
             closed,
         } = other;
-        self.table
-            .shared
-            .join_seat::<Merge>(&mut seat.seat, token);
+        self.table.shared.join_seat::<Merge>(&mut seat.seat, token);
         seat.closed = seat.closed || closed;
     }
 

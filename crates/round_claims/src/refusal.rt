@@ -1,4 +1,4 @@
-// Why claims were not made.
+// The refusals of the crate.
 ghost use Rattle.std.specs.Prelude.{◌≡◌};
 ghost use Rattle.round_claims.specs.declared.refusal.Refusal.TheVariants.{Memory};
 
@@ -11,7 +11,7 @@ pub enum Refusal {
     /// There was no memory for the claim word or for the seats.
     #[error("out of memory")]
     Memory,
-    /// The number of seats is not one to 64.
+    /// The number of seats is not 1 to 64.
     #[error("the number of workers is not 1 to 64")]
     Workers,
 }

@@ -1,4 +1,5 @@
-// The rule of the claim word, and what each kind of step does to a seat. No value of a seat's view is made: it is for the proofs.
+// The rule of the claim word, and what each kind of step does to a seat's view. No value of a view is made: it is for
+// the proofs.
 ghost use Rattle.round_claims.specs.Rule.{IsKept, first_view, seat_view, left_view, joined_view, spent_view, Exchanges};
 
 use atomic_table::{Join, Play, Split, TableRule};

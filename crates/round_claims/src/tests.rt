@@ -22,7 +22,7 @@ fn wait_for_others(begun: &AtomicU64, workers: u64) {
     }
 }
 
-// One worker: it claims until nothing is left, and gives its seat back beside its positions.
+// One worker: it claims until nothing is left, with a pause now and then, and gives its seat back beside its positions.
 fn work(
     alloc: Global,
     claims: &Claims,
@@ -37,6 +37,9 @@ fn work(
     let mut positions = Vec::new(alloc);
     'claim: while let Some(ticket) = claims.claim(&mut seat) {
         positions.push(ticket.position())?;
+        if ticket.position() % 16 == 0 {
+            thread::yield_now();
+        }
     }
     Ok((seat, positions))
 }
@@ -48,7 +51,8 @@ fn union(
 ) -> Result<Vec<usize>, AllocError>
     requires some { 0 < claims.seats }
     requires all { length workers.items ≡ claims.seats }
-    requires done { All (λ worker. IfOk worker (λ done. IsDone claims done.0 × (done.1.items ≡ done.0.claimed))) workers.items }
+    requires done { All (λ worker. IfOk worker (λ done. IsDone claims done.0
+        × (done.1.items ≡ done.0.claimed))) workers.items }
     ensures { IfOk result (λ all. EachOnceBelow claims.positions all.items) }
 {
     let Some(first) = workers.pop() else {
@@ -92,7 +96,10 @@ fn each_position_is_claimed_once(rt: HostRuntime) -> Result<(), Fail> {
         assert_eq!(rt; all.len(), 10_000, "{workers} workers");
         let mut times = vec![in rt.alloc(); 0u8; 10_000]?;
         for position in &all {
-            assert!(rt; *position < times.len(), "position {position} of {workers} workers");
+            assert!(rt;
+                *position < times.len(),
+                "position {position} of {workers} workers"
+            );
             times[*position] = times[*position].saturating_add(1);
         }
         assert!(rt; times.iter().all(|n| *n == 1), "{workers} workers");

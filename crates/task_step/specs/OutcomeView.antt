@@ -1,5 +1,5 @@
 -- What the fields of an outcome mean.
-use Rattle.std.specs.Prelude.{ℕ, ℤ, pos, List, map}
+use Rattle.std.specs.Prelude.{ℕ, ℤ, pos, List, map, string_bytes}
 use Rattle.moo_spec.specs.Datum.{Text}
 use Rattle.moo_spec.specs.Step.{Result, value_of, raised_by, suspended, reading, ran_out, killed, none, absent, early, ended, Due as DueMoment, at_moment, never, when_read, Queued as QueuedTask}
 use Rattle.task_step.specs.declared.outcome.Ending.{Ending}
@@ -22,7 +22,7 @@ result_of Early = early
 result_of Ended = ended
 
 abbrev pub lines_of : List OutputLine → List (ℤ × Text)
-lines_of = map (λ l. (pos l.connection, l.text))
+lines_of = map (λ l. (pos l.connection, string_bytes l.text))
 
 abbrev pub due_of : Due → DueMoment
 due_of (At t) = at_moment t

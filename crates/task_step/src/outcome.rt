@@ -1,5 +1,4 @@
 //! What a step gives back.
-use moo_value::text::Text;
 use moo_value::value::Value;
 use std::marker::Model;
 
@@ -59,11 +58,11 @@ pub enum Ending {
     Ended,
 }
 
-/// A line of text for a connection.
+/// A line of text for a connection, of printing ASCII, spaces and tabs.
 #[derive(Drop)]
 pub struct OutputLine {
     pub connection: u32,
-    pub text: Text,
+    pub text: String,
 }
 
 /// A task that was put in the queue, with its due moment at that time.

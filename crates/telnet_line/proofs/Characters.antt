@@ -1,14 +1,14 @@
 -- Characters that are kept, all at once.
-use Rattle.std.proofs.Common.{◌≡◌, ℕ, zero, suc, ◌+◌, ◌-◌, ◌<◌, ◌≤◌, Bool, true, false, cond, ◌&&◌, List, [], ◌∷◌, ◌++◌, length, take, get_or, refl, sym, ap, ◌∙◌, subst, arith, append_assoc, append-nil, length-append, add-one}
-use Rattle.std.specs.Prelude.{◌==◌, ◌||◌, nat_lt, nat_le}
+use Rattle.std.proofs.Common.{◌≡◌, ℕ, zero, suc, ◌+◌, ◌-◌, ◌<◌, Bool, true, false, cond, ◌&&◌, List, [], ◌∷◌, ◌++◌, length, take, get_or, refl, sym, ap, ◌∙◌, arith, append_assoc, append-nil, length-append, add-one}
+use Rattle.std.specs.Prelude.{◌==◌, nat_lt}
 use Rattle.std.specs.List.{list_all}
 use Rattle.std.proofs.Math.Seq.{take-suc}
-use Rattle.std.proofs.lemmas.Bool.{ltb-true, ltb-false}
+use Rattle.std.proofs.lemmas.Bool.{cond-false, ltb-true, ltb-false}
 use Rattle.std.proofs.lemmas.Bool.Decides.{nat_tests}
-use Rattle.telnet_line.specs.Telnet.{is_kept, max_line, Event, Data, with_data}
+use Rattle.telnet_line.specs.Telnet.{is_kept, max_line, Data, with_data}
 use Rattle.telnet_line.specs.TelnetReading.{Nothing, Reading}
 use Rattle.telnet_line.specs.TelnetSteps.{Step, takes, step_data, reading_after, events_after, with_all}
-use Rattle.telnet_line.specs.declared.reader.Draft.{Draft}
+use Rattle.telnet_line.specs.declared.draft.Draft.{Draft}
 use Rattle.telnet_line.specs.Events.{events_given}
 use Rattle.telnet_line.specs.Drafts.{begun_of, reading_of, ReadsUpTo, ReadsAll}
 use Rattle.telnet_line.proofs.Texts.{and_true, all_snoc}
@@ -27,12 +27,8 @@ not_returned b h = grind (arith, nat_tests)
 not_iac : (b : ℕ) → is_kept b ≡ true → (b == 255) ≡ false
 not_iac b h = grind (arith, nat_tests)
 
-pick_false : {A : Type 0} (c : Bool) (x y : A) → c ≡ false → cond c x y ≡ y
-pick_false true x y h = cc
-pick_false false x y h = refl
-
 kept_step : (b : ℕ) (line : List ℕ) → is_kept b ≡ true → step_data b line ≡ takes (Data b) line
-kept_step b line h = pick_false (b == 10) _ _ (not_ended b h) ∙ pick_false (b == 13) _ _ (not_returned b h) ∙ pick_false (b == 255) _ _ (not_iac b h)
+kept_step b line h = cond-false (b == 10) _ _ (not_ended b h) ∙ cond-false (b == 13) _ _ (not_returned b h) ∙ cond-false (b == 255) _ _ (not_iac b h)
 
 stuck : (t : Bool) (b : ℕ) (line : List ℕ) → is_kept b ≡ true → cond (is_kept b && t) (line ++ b ∷ []) line ≡ cond t (line ++ b ∷ []) line
 stuck t b line h = ap (λ x. cond (x && t) (line ++ b ∷ []) line) h
@@ -82,7 +78,7 @@ up_to piece front left old new e h =
     record {
       reading = ap (λ r. reading_after r left) h.reading ∙ sym (reading_after-append front left (reading_of old)) ∙ ap (reading_after (reading_of old)) e;
       events =
-        ap (λ x. x ++ events_after (reading_of new) left) h.events
-        ∙ append_assoc (events_given old.events.items) (events_after (reading_of old) front) (events_after (reading_of new) left)
-        ∙ ap (λ x. events_given old.events.items ++ x) (ap (λ r. events_after (reading_of old) front ++ events_after r left) h.reading ∙ sym (events_after-append front left (reading_of old)) ∙ ap (events_after (reading_of old)) e);
+          ap (λ x. x ++ events_after (reading_of new) left) h.events
+          ∙ append_assoc (events_given old.events.items) (events_after (reading_of old) front) (events_after (reading_of new) left)
+          ∙ ap (λ x. events_given old.events.items ++ x) (ap (λ r. events_after (reading_of old) front ++ events_after r left) h.reading ∙ sym (events_after-append front left (reading_of old)) ∙ ap (events_after (reading_of old)) e);
     }

@@ -1,15 +1,9 @@
 -- A machine that takes a byte at a time and makes the units. What it makes is a cutting.
-use Rattle.std.proofs.Common.{◌≡◌, ◌≢◌, ℕ, Bool, true, false, cond, List, [], ◌∷◌, ◌++◌, refl, sym, ap, ◌∙◌, subst, append_assoc, append-nil}
+use Rattle.std.proofs.Common.{◌≡◌, ℕ, true, List, [], ◌∷◌, ◌++◌, refl, sym, ap, ◌∙◌, subst, append_assoc, append-nil}
 use Rattle.std.specs.Prelude.{◌==◌, nat_lt, if◌then◌else◌}
 use Rattle.std.specs.List.{AllByRecursion, flat_map}
-use Rattle.std.proofs.lemmas.Bool.{eqb-true, eqb-false, ltb-true, ltb-false}
+use Rattle.std.proofs.lemmas.Bool.{cond_both, eqb-true, eqb-false, ltb-true, ltb-false}
 use Rattle.telnet_line.specs.Telnet.{NUL, LF, CR, SE, SB, WILL, WONT, DO, DONT, IAC, Verb, Will, Wont, Do, Dont, code, Parameter, Plain, After_iac, IsParameter, parameter_bytes, StreamUnit, Data, Data_iac, Line_feed, Return_line_feed, Return_null, Lone_return, Lone_iac, Command, Negotiation, Subnegotiation, IsUnit, spelling, MayPrecede, IsUnfinished, IsCut, rest, unit}
-
--- ---- tests
-
-pub by_cond : {A : Type 0} (P : A → Type 0) (c : Bool) (x y : A) → (c ≡ true → P x) → (c ≡ false → P y) → P (cond c x y)
-by_cond P true x y f g = f refl
-by_cond P false x y f g = g refl
 
 -- ---- the machine
 
@@ -117,9 +111,9 @@ after_unit bytes u go i m = let g = go Nothing tt in record { cut = unit u i m g
 data_made : (bytes : List ℕ) → Goes bytes → (b : ℕ) → Made (b ∷ bytes) bytes (cut_data b)
 data_made bytes go b =
     let P : Cut → Type 0 = λ s. Made (b ∷ bytes) bytes s in
-    by_cond P (b == LF) _ _ (λ e. at_byte bytes _ b LF [] e (after_unit bytes Line_feed go tt tt)) (λ lf.
-    by_cond P (b == CR) _ _ (λ e. at_byte bytes _ b CR [] e (go Return tt)) (λ cr.
-    by_cond P (b == IAC) _ _ (λ e. at_byte bytes _ b IAC [] e (go Iac tt)) (λ iac.
+    cond_both (b == LF) _ _ P (λ e. at_byte bytes _ b LF [] e (after_unit bytes Line_feed go tt tt)) (λ lf.
+    cond_both (b == CR) _ _ P (λ e. at_byte bytes _ b CR [] e (go Return tt)) (λ cr.
+    cond_both (b == IAC) _ _ P (λ e. at_byte bytes _ b IAC [] e (go Iac tt)) (λ iac.
     after_unit bytes (Data b) go (eqb-false b LF lf, eqb-false b CR cr, eqb-false b IAC iac) tt)))
 
 lone : (bytes : List ℕ) (u : StreamUnit) (b : ℕ) (s : Cut) → IsUnit u → MayPrecede u (b ∷ bytes) → Made (b ∷ bytes) bytes s → Made (spelling u ++ b ∷ bytes) bytes (before u s)
@@ -128,20 +122,20 @@ lone bytes u b s i m h = record { cut = unit u i m h.cut; fits = h.fits }
 return_made : (bytes : List ℕ) → Goes bytes → (b : ℕ) → Made (CR ∷ b ∷ bytes) bytes (cut_return b)
 return_made bytes go b =
     let P : Cut → Type 0 = λ s. Made (CR ∷ b ∷ bytes) bytes s in
-    by_cond P (b == LF) _ _ (λ e. at_byte bytes _ b LF (CR ∷ []) e (after_unit bytes Return_line_feed go tt tt)) (λ lf.
-    by_cond P (b == NUL) _ _ (λ e. at_byte bytes _ b NUL (CR ∷ []) e (after_unit bytes Return_null go tt tt)) (λ nul.
+    cond_both (b == LF) _ _ P (λ e. at_byte bytes _ b LF (CR ∷ []) e (after_unit bytes Return_line_feed go tt tt)) (λ lf.
+    cond_both (b == NUL) _ _ P (λ e. at_byte bytes _ b NUL (CR ∷ []) e (after_unit bytes Return_null go tt tt)) (λ nul.
     lone bytes Lone_return b _ tt (eqb-false b LF lf, eqb-false b NUL nul) (data_made bytes go b)))
 
 iac_made : (bytes : List ℕ) → Goes bytes → (b : ℕ) → Made (IAC ∷ b ∷ bytes) bytes (cut_iac b)
 iac_made bytes go b =
     let P : Cut → Type 0 = λ s. Made (IAC ∷ b ∷ bytes) bytes s in
-    by_cond P (nat_lt b SE) _ _ (λ e. lone bytes Lone_iac b _ tt (ltb-true b SE e) (data_made bytes go b)) (λ low.
-    by_cond P (b == SB) _ _ (λ e. at_byte bytes _ b SB (IAC ∷ []) e (go (Parameters []) tt)) (λ sb.
-    by_cond P (b == WILL) _ _ (λ e. at_byte bytes _ b WILL (IAC ∷ []) e (go (Negotiating Will) tt)) (λ will.
-    by_cond P (b == WONT) _ _ (λ e. at_byte bytes _ b WONT (IAC ∷ []) e (go (Negotiating Wont) tt)) (λ wont.
-    by_cond P (b == DO) _ _ (λ e. at_byte bytes _ b DO (IAC ∷ []) e (go (Negotiating Do) tt)) (λ do_it.
-    by_cond P (b == DONT) _ _ (λ e. at_byte bytes _ b DONT (IAC ∷ []) e (go (Negotiating Dont) tt)) (λ dont.
-    by_cond P (b == IAC) _ _ (λ e. at_byte bytes _ b IAC (IAC ∷ []) e (after_unit bytes Data_iac go tt tt)) (λ iac.
+    cond_both (nat_lt b SE) _ _ P (λ e. lone bytes Lone_iac b _ tt (ltb-true b SE e) (data_made bytes go b)) (λ low.
+    cond_both (b == SB) _ _ P (λ e. at_byte bytes _ b SB (IAC ∷ []) e (go (Parameters []) tt)) (λ sb.
+    cond_both (b == WILL) _ _ P (λ e. at_byte bytes _ b WILL (IAC ∷ []) e (go (Negotiating Will) tt)) (λ will.
+    cond_both (b == WONT) _ _ P (λ e. at_byte bytes _ b WONT (IAC ∷ []) e (go (Negotiating Wont) tt)) (λ wont.
+    cond_both (b == DO) _ _ P (λ e. at_byte bytes _ b DO (IAC ∷ []) e (go (Negotiating Do) tt)) (λ do_it.
+    cond_both (b == DONT) _ _ P (λ e. at_byte bytes _ b DONT (IAC ∷ []) e (go (Negotiating Dont) tt)) (λ dont.
+    cond_both (b == IAC) _ _ P (λ e. at_byte bytes _ b IAC (IAC ∷ []) e (after_unit bytes Data_iac go tt tt)) (λ iac.
     after_unit bytes (Command b) go (ltb-false b SE low, eqb-false b SB sb, eqb-false b WILL will, eqb-false b WONT wont, eqb-false b DO do_it, eqb-false b DONT dont, eqb-false b IAC iac) tt)))))))
 
 -- the bytes of a subnegotiation, and those that go on
@@ -154,7 +148,7 @@ one_more bytes s ps p h = subst (λ x. Made (opened x) bytes s) (ap (λ x. x ++ 
 parameters_made : (bytes : List ℕ) → Goes bytes → (ps : List Parameter) → AllByRecursion IsParameter ps → (b : ℕ) → Made (opened (flat_map parameter_bytes ps ++ b ∷ bytes)) bytes (cut_byte (Parameters ps) b)
 parameters_made bytes go ps f b =
     let P : Cut → Type 0 = λ s. Made (opened (flat_map parameter_bytes ps ++ b ∷ bytes)) bytes s in
-    by_cond P (b == IAC) _ _
+    cond_both (b == IAC) _ _ P
     (λ e. at_byte bytes _ b IAC (opened (flat_map parameter_bytes ps)) e (subst (λ x. Made (opened x) bytes (holds (Parameters_iac ps))) (append_assoc (flat_map parameter_bytes ps) (IAC ∷ []) bytes) (go (Parameters_iac ps) f)))
     (λ e. one_more bytes _ ps (Plain b) (go (Parameters (ps ++ Plain b ∷ [])) (all_snoc ps (Plain b) f (eqb-false b IAC e))))
 
@@ -162,7 +156,7 @@ parameters_iac_made : (bytes : List ℕ) → Goes bytes → (ps : List Parameter
 parameters_iac_made bytes go ps f b =
     let P : Cut → Type 0 = λ s. Made (opened ((flat_map parameter_bytes ps ++ IAC ∷ []) ++ b ∷ bytes)) bytes s in
     let seam : (x : ℕ) → (flat_map parameter_bytes ps ++ IAC ∷ []) ++ x ∷ bytes ≡ flat_map parameter_bytes ps ++ IAC ∷ x ∷ bytes = λ x. append_assoc (flat_map parameter_bytes ps) (IAC ∷ []) (x ∷ bytes) in
-    by_cond P (b == SE) _ _
+    cond_both (b == SE) _ _ P
     (λ e. at_byte bytes _ b SE (opened (flat_map parameter_bytes ps ++ IAC ∷ [])) e (subst (λ x. Made (opened x) bytes (whole (Subnegotiation ps))) (append_assoc (flat_map parameter_bytes ps) (IAC ∷ SE ∷ []) bytes ∙ sym (seam SE)) (after_unit bytes (Subnegotiation ps) go f tt)))
     (λ e. subst (λ x. Made (opened x) bytes (holds (Parameters (ps ++ After_iac b ∷ [])))) (sym (seam b)) (one_more bytes _ ps (After_iac b) (go (Parameters (ps ++ After_iac b ∷ [])) (all_snoc ps (After_iac b) f (eqb-false b SE e)))))
 

@@ -1,11 +1,11 @@
 -- Lines keep what may be kept.
-use Rattle.std.proofs.Common.{◌≡◌, ℕ, zero, suc, ◌+◌, ◌-◌, ◌<◌, ◌≤◌, Bool, true, false, cond, ◌&&◌, List, [], ◌∷◌, ◌++◌, length, take, get_or, refl, sym, ap, ◌∙◌, arith, length-append, length-take}
-use Rattle.std.specs.Prelude.{◌==◌, ◌||◌, nat_le, nat_lt}
+use Rattle.std.proofs.Common.{◌≡◌, ℕ, zero, suc, ◌-◌, ◌<◌, ◌≤◌, Bool, true, false, cond, ◌&&◌, List, [], ◌∷◌, ◌++◌, length, take, refl, ap, ◌∙◌, arith, length-append, length-take}
+use Rattle.std.specs.Prelude.{◌==◌, nat_lt}
 use Rattle.std.specs.List.{list_all, AllByRecursion}
 use Rattle.std.specs.Str.{IsAscii}
-use Rattle.std.proofs.lemmas.Bool.{ltb-true}
+use Rattle.std.proofs.lemmas.Bool.{cond_both, ltb-true}
 use Rattle.std.proofs.lemmas.Bool.Decides.{nat_tests}
-use Rattle.telnet_line.specs.Telnet.{AYT, EC, EL, Verb, Will, Wont, Do, Dont, StreamUnit, Data, Data_iac, Line_feed, Return_line_feed, Command, Negotiation, Event, Reply, is_kept, max_line, IsText, IsEvent, with_data, line_after, yes, brought, line_of, events_of}
+use Rattle.telnet_line.specs.Telnet.{AYT, EC, EL, Will, Wont, Do, Dont, StreamUnit, Data, Data_iac, Line_feed, Return_line_feed, Command, Negotiation, Event, Reply, is_kept, max_line, IsText, IsEvent, with_data, line_after, yes, brought, line_of, events_of}
 use Rattle.telnet_line.specs.TelnetSteps.{with_all}
 
 pub and_true : (a b : Bool) → (a && b) ≡ true → (a ≡ true) × (b ≡ true)
@@ -54,19 +54,15 @@ text_ascii (x ∷ text) h (suc i) = text_ascii text (and_true (is_kept x) (list_
 
 -- ---- lines of units
 
-by_cond : (P : List ℕ → Type 0) (c : Bool) (x y : List ℕ) → (c ≡ true → P x) → (c ≡ false → P y) → P (cond c x y)
-by_cond P true x y f g = f refl
-by_cond P false x y f g = g refl
-
 data_text : (line : List ℕ) (b : ℕ) → IsText line → IsText (with_data line b)
-data_text line b h = by_cond IsText (is_kept b && nat_lt (length line) 4096) _ _ (λ e. let k = and_true (is_kept b) (nat_lt (length line) 4096) e in text_more line b h k.0 (ltb-true (length line) 4096 k.1)) (λ _. h)
+data_text line b h = cond_both (is_kept b && nat_lt (length line) 4096) _ _ IsText (λ e. let k = and_true (is_kept b) (nat_lt (length line) 4096) e in text_more line b h k.0 (ltb-true (length line) 4096 k.1)) (λ _. h)
 
 line_text : (u : StreamUnit) (line : List ℕ) → IsText line → IsText (line_after line u)
 line_text (Data b) line h = data_text line b h
 line_text Data_iac line h = h
 line_text Line_feed line h = (omega arith, refl)
 line_text Return_line_feed line h = (omega arith, refl)
-line_text (Command c) line h = by_cond IsText (c == EC) _ _ (λ _. text_take _ line h) (λ _. by_cond IsText (c == EL) _ _ (λ _. (omega arith, refl)) (λ _. h))
+line_text (Command c) line h = cond_both (c == EC) _ _ IsText (λ _. text_take _ line h) (λ _. cond_both (c == EL) _ _ IsText (λ _. (omega arith, refl)) (λ _. h))
 line_text _ line h = h
 
 all_events : (u : StreamUnit) (line : List ℕ) (later : List Event) → IsText line → AllByRecursion IsEvent later → AllByRecursion IsEvent (brought line u ++ later)

@@ -1,21 +1,13 @@
 -- Each cutting of a stream is the one that the machine makes.
-use Rattle.std.proofs.Common.{◌≡◌, ◌≢◌, ℕ, ◌+◌, ◌<◌, ◌≤◌, Bool, true, false, cond, List, [], ◌∷◌, ◌++◌, length, refl, sym, ap, ◌∙◌, subst, append_assoc, append-nil, length-append, arith}
+use Rattle.std.proofs.Common.{◌≡◌, ◌≢◌, ℕ, true, cond, List, [], ◌∷◌, ◌++◌, length, refl, sym, ap, ◌∙◌, subst, append_assoc, append-nil, length-append, arith}
 use Rattle.std.specs.Prelude.{◌==◌, nat_lt}
 use Rattle.std.specs.List.{AllByRecursion, flat_map}
-use Rattle.std.proofs.lemmas.Bool.{ne_eqb, le-ltb, lt-ltb}
-use Rattle.telnet_line.specs.Telnet.{NUL, LF, CR, SE, SB, WILL, WONT, DO, DONT, IAC, Verb, Will, Wont, Do, Dont, code, Parameter, Plain, After_iac, IsParameter, parameter_bytes, StreamUnit, Data, Data_iac, Line_feed, Return_line_feed, Return_null, Lone_return, Lone_iac, Command, Negotiation, Subnegotiation, IsUnit, spelling, MayPrecede, IsUnfinished, IsCut, rest, unit}
+use Rattle.std.proofs.lemmas.Bool.{cond-true, cond-false, ne_eqb, le-ltb, lt-ltb}
+use Rattle.telnet_line.specs.Telnet.{NUL, LF, CR, SE, SB, WILL, WONT, DO, DONT, IAC, Will, Wont, Do, Dont, Parameter, Plain, After_iac, IsParameter, parameter_bytes, StreamUnit, Data, Data_iac, Line_feed, Return_line_feed, Return_null, Lone_return, Lone_iac, Command, Negotiation, Subnegotiation, IsUnit, spelling, MayPrecede, IsCut, rest, unit}
 use Rattle.telnet_line.proofs.Cutter.{Cutter, Nothing, Return, Iac, Negotiating, Parameters, Parameters_iac, bytes_of, Fits, Cut, holds, whole, before, cut_data, cut_return, cut_iac, cut_byte, joined, run, cut_is}
 
-pick_true : {A : Type 0} (c : Bool) (x y : A) → c ≡ true → cond c x y ≡ x
-pick_true true x y h = refl
-pick_true false x y h = cc
-
-pick_false : {A : Type 0} (c : Bool) (x y : A) → c ≡ false → cond c x y ≡ y
-pick_false true x y h = cc
-pick_false false x y h = refl
-
 other : {A : Type 0} (b n : ℕ) (x y : A) → b ≢ n → cond (b == n) x y ≡ y
-other b n x y h = pick_false (b == n) x y (ne_eqb b n h)
+other b n x y h = cond-false (b == n) x y (ne_eqb b n h)
 
 -- ---- a unit is made whole
 
@@ -23,13 +15,13 @@ data_unit : (b : ℕ) → (b ≢ LF) × (b ≢ CR) × (b ≢ IAC) → cut_data b
 data_unit b h = other b LF _ _ h.0 ∙ other b CR _ _ h.1 ∙ other b IAC _ _ h.2
 
 command_unit : (c : ℕ) → IsUnit (Command c) → cut_iac c ≡ whole (Command c)
-command_unit c h = pick_false (nat_lt c SE) _ _ (le-ltb c SE h.0) ∙ other c SB _ _ h.1 ∙ other c WILL _ _ h.2 ∙ other c WONT _ _ h.3 ∙ other c DO _ _ h.4 ∙ other c DONT _ _ h.5 ∙ other c IAC _ _ h.6
+command_unit c h = cond-false (nat_lt c SE) _ _ (le-ltb c SE h.0) ∙ other c SB _ _ h.1 ∙ other c WILL _ _ h.2 ∙ other c WONT _ _ h.3 ∙ other c DO _ _ h.4 ∙ other c DONT _ _ h.5 ∙ other c IAC _ _ h.6
 
 lone_return : (b : ℕ) → (b ≢ LF) × (b ≢ NUL) → cut_return b ≡ before Lone_return (cut_data b)
 lone_return b h = other b LF _ _ h.0 ∙ other b NUL _ _ h.1
 
 lone_iac : (b : ℕ) → nat_lt b SE ≡ true → cut_iac b ≡ before Lone_iac (cut_data b)
-lone_iac b h = pick_true (nat_lt b SE) _ _ h
+lone_iac b h = cond-true (nat_lt b SE) _ _ h
 
 then_run : (s t : Cut) (bytes : List ℕ) → s ≡ t → joined s (λ d. run d bytes) ≡ joined t (λ d. run d bytes)
 then_run s t bytes e = ap (λ x. joined x (λ d. run d bytes)) e

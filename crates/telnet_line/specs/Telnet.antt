@@ -1,5 +1,5 @@
 -- Telnet (RFC 854): the units of a byte stream, and the lines and replies that they spell.
-use Rattle.std.specs.Prelude.{◌≡◌, ◌≢◌, ℕ, ◌+◌, ◌-◌, ◌<◌, ◌≤◌, Bool, true, ◌==◌, ◌&&◌, ◌||◌, nat_lt, nat_le, if◌then◌else◌, List, [], ◌∷◌, ◌++◌, length, take}
+use Rattle.std.specs.Prelude.{◌≡◌, ◌≢◌, ℕ, ◌-◌, ◌<◌, ◌≤◌, Bool, true, ◌==◌, ◌&&◌, ◌||◌, nat_lt, nat_le, if◌then◌else◌, List, [], ◌∷◌, ◌++◌, length, take}
 use Rattle.std.specs.List.{AllByRecursion, flat_map, list_all}
 
 -- ---- bytes, by their names in RFC 854
@@ -78,15 +78,15 @@ parameter_bytes (Plain b) = b ∷ []
 parameter_bytes (After_iac b) = IAC ∷ b ∷ []
 
 pub data StreamUnit : Type 0 where
-  Data : ℕ → StreamUnit                         -- a byte other than LF, CR and IAC
-  Data_iac : StreamUnit                         -- IAC IAC: the byte 255 as data
-  Line_feed : StreamUnit                        -- LF with no CR before it
-  Return_line_feed : StreamUnit                 -- CR LF
-  Return_null : StreamUnit                      -- CR NUL
-  Lone_return : StreamUnit                      -- CR before any other byte
-  Lone_iac : StreamUnit                         -- IAC before a byte below SE
-  Command : ℕ → StreamUnit                      -- IAC and a byte from SE on that is none of SB, WILL to DONT, IAC
-  Negotiation : Verb → ℕ → StreamUnit           -- IAC, WILL, WONT, DO or DONT, and any byte as option
+  Data : ℕ → StreamUnit  -- a byte other than LF, CR and IAC
+  Data_iac : StreamUnit  -- IAC IAC: the byte 255 as data
+  Line_feed : StreamUnit  -- LF with no CR before it
+  Return_line_feed : StreamUnit  -- CR LF
+  Return_null : StreamUnit  -- CR NUL
+  Lone_return : StreamUnit  -- CR before any other byte
+  Lone_iac : StreamUnit  -- IAC before a byte below SE
+  Command : ℕ → StreamUnit  -- IAC and a byte from SE on that is none of SB, WILL to DONT, IAC
+  Negotiation : Verb → ℕ → StreamUnit  -- IAC, WILL, WONT, DO or DONT, and any byte as option
   Subnegotiation : List Parameter → StreamUnit  -- IAC SB to IAC SE
 
 abbrev pub IsUnit : StreamUnit → Type 0
@@ -118,7 +118,7 @@ MayPrecede Lone_return after = BeginsWith (λ b. (b ≢ LF) × (b ≢ NUL)) afte
 MayPrecede Lone_iac after = BeginsWith (λ b. b < SE) after
 MayPrecede _ after = Unit {0}
 
--- a beginning of a unit that is not all of it, or nothing
+-- a beginning of a unit, also the empty one, that is not all of it
 abbrev pub IsUnfinished : List ℕ → Type 0
 IsUnfinished bytes = (u : StreamUnit) × (b : ℕ) × (more : List ℕ) × IsUnit u × (spelling u ≡ bytes ++ b ∷ more)
 

@@ -5,11 +5,11 @@ use Rattle.telnet_line.specs.Telnet.{CR, SB, IAC, Verb, code, Parameter, IsParam
 
 pub data Begun : Type 0 where
   Nothing : Begun
-  Return : Begun              -- CR
-  Iac : Begun                 -- IAC
+  Return : Begun  -- CR
+  Iac : Begun  -- IAC
   Negotiating : Verb → Begun  -- IAC and a verb
-  Parameters : Begun          -- IAC SB and parameters
-  Parameters_iac : Begun      -- the same, and an IAC
+  Parameters : Begun  -- IAC SB and parameters
+  Parameters_iac : Begun  -- the same, and an IAC
 
 -- the bytes that have begun a unit
 abbrev pub HasBegun : Begun → List ℕ → Type 0

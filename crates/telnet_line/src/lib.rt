@@ -2,10 +2,11 @@
 #![tactic(auto)]
 
 mod command;
-pub mod event;
+mod draft;
+mod event;
 pub mod laws;
 mod line_buffer;
-pub mod reader;
+mod reader;
 #[cfg(test)]
 mod tests;
 

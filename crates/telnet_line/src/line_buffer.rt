@@ -1,6 +1,6 @@
 //! The line that has not ended.
 
-ghost use Rattle.std.specs.Prelude.{◌≡◌, true, [], IfOk, OnOk, OnErr};
+ghost use Rattle.std.specs.Prelude.{◌≡◌, ◌≤◌, true, [], length, take, IfOk, OnOk, OnErr};
 ghost use Rattle.std.specs.List.{list_all};
 ghost use Rattle.std.specs.String.{string_bytes};
 ghost use Rattle.telnet_line.specs.Telnet as telnet;
@@ -14,7 +14,7 @@ use std::marker::Model;
 const MAX_LINE: usize = 4096;
 
 /// The characters of a line that are kept.
-#[derive(Drop)]
+#[derive(Debug, Drop)]
 pub struct LineBuffer {
     text: Vec<u8>,
 }
@@ -31,10 +31,23 @@ impl Model for LineBuffer {
 }
 
 /// Tab, and space to tilde.
-pub fn is_kept(byte: u8) -> bool
+fn is_kept(byte: u8) -> bool
     ensures { result ≡ telnet.is_kept byte }
 {
     byte == b'\t' || (b' ' <= byte && byte <= b'~')
+}
+
+/// How many characters that may be kept stand at the beginning of a piece.
+pub fn kept_count(piece: &[u8]) -> usize
+    ensures within { result ≤ length piece.now }
+    ensures kept { list_all telnet.is_kept (take result piece.now) ≡ true }
+{
+    for (place, byte) in piece.iter().enumerate() {
+        if !is_kept(*byte) {
+            return place;
+        }
+    }
+    piece.len()
 }
 
 impl LineBuffer {

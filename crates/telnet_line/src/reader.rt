@@ -1,252 +1,23 @@
 //! The reader of a stream.
 
-ghost use Rattle.std.specs.Prelude.{◌≡◌, ◌++◌, ◌<◌, ◌≤◌, ℕ, true, List, [], length, take, OnOk, IfOk, OnErr};
-ghost use Rattle.std.specs.List.{AllByRecursion, list_all};
+ghost use Rattle.std.specs.Prelude.{◌≡◌, ◌++◌, ℕ, List, [], IfOk, OnErr};
+ghost use Rattle.std.specs.List.{AllByRecursion};
 ghost use Rattle.telnet_line.specs.Telnet as telnet;
 ghost use Rattle.telnet_line.specs.TelnetReading.{HasRead};
-ghost use Rattle.telnet_line.specs.TelnetSteps.{takes, holds, step_data, step_return, step_iac, step_by, step, reading_after, events_after, replies};
-ghost use Rattle.telnet_line.specs.TelnetReading as reading;
 ghost use Rattle.telnet_line.specs.Events.{events_given};
-ghost use Rattle.telnet_line.specs.Drafts.{verb_of, begun_of, reading_of, Stepped, ReadsUpTo, ReadsAll};
 
-use crate::command;
+use crate::draft::{Begun, Draft};
 use crate::event::Event;
-use crate::line_buffer::{LineBuffer, is_kept};
+use crate::line_buffer::LineBuffer;
 use std::alloc::{AllocError, Global};
 use std::marker::Model;
 
-/// What the other side says of an option.
-#[derive(Clone, Copy)]
-enum Verb {
-    Will,
-    Wont,
-    Do,
-    Dont,
-}
-
-/// What has begun of the next unit.
-#[derive(Clone, Copy)]
-enum Begun {
-    Nothing,
-    /// A carriage return.
-    Return,
-    /// An `IAC`.
-    Iac,
-    /// An `IAC` and one of the four verbs.
-    Negotiating(Verb),
-    /// A subnegotiation.
-    Parameters,
-    /// An `IAC` in a subnegotiation.
-    ParametersIac,
-}
-
-/// How many characters that may be kept stand at the beginning.
-fn kept_count(piece: &[u8]) -> usize
-    ensures within { result ≤ length piece.now }
-    ensures kept { list_all telnet.is_kept (take result piece.now) ≡ true }
-{
-    for (place, byte) in piece.iter().enumerate() {
-        if !is_kept(*byte) {
-            return place;
-        }
-    }
-    piece.len()
-}
-
-/// A reader in the middle of a piece.
-#[derive(Drop)]
-struct Draft {
-    begun: Begun,
-    line: LineBuffer,
-    events: Vec<Event>,
-}
-
-impl Draft {
-    fn wait(&mut self, begun: Begun)
-        ensures { Stepped (holds (begun_of begun) self.old.line) self.old self.new }
-    {
-        self.begun = begun;
-    }
-
-    fn end_line(&mut self, alloc: Global) -> Result<(), AllocError>
-        ensures { OnOk result (Stepped (takes telnet.Line_feed self.old.line) self.old self.new) }
-    {
-        let text = self.line.finish(alloc);
-        self.events.push(Event::Line(text))?;
-        self.begun = Begun::Nothing;
-        Ok(())
-    }
-
-    fn reply(&mut self, alloc: Global, bytes: &[u8]) -> Result<(), AllocError>
-        ensures { OnOk result (Stepped (replies bytes.now self.old.line) self.old self.new) }
-    {
-        let reply = Vec::from_slice(alloc, bytes)?;
-        self.events.push(Event::Reply(reply))?;
-        self.begun = Begun::Nothing;
-        Ok(())
-    }
-
-    fn data(&mut self, alloc: Global, byte: u8) -> Result<(), AllocError>
-        ensures { OnOk result (Stepped (step_data byte self.old.line) self.old self.new) }
-    {
-        match byte {
-            command::LF => self.end_line(alloc)?,
-            command::CR => self.wait(Begun::Return),
-            command::IAC => self.wait(Begun::Iac),
-            _ => {
-                self.line.push(byte)?;
-                self.begun = Begun::Nothing;
-            }
-        }
-        Ok(())
-    }
-
-    fn after_return(&mut self, alloc: Global, byte: u8) -> Result<(), AllocError>
-        ensures { OnOk result (Stepped (step_return byte self.old.line) self.old self.new) }
-    {
-        match byte {
-            command::LF => self.end_line(alloc)?,
-            command::NUL => self.wait(Begun::Nothing),
-            _ => self.data(alloc, byte)?,
-        }
-        Ok(())
-    }
-
-    fn command(&mut self, alloc: Global, byte: u8) -> Result<(), AllocError>
-        ensures { OnOk result (Stepped (takes (telnet.Command byte) self.old.line) self.old self.new) }
-    {
-        match byte {
-            command::AYT => self.reply(alloc, b"[Yes]\r\n")?,
-            command::EC => {
-                self.line.erase_last();
-                self.begun = Begun::Nothing;
-            }
-            command::EL => {
-                self.line.erase();
-                self.begun = Begun::Nothing;
-            }
-            _ => self.begun = Begun::Nothing,
-        }
-        Ok(())
-    }
-
-    fn after_iac(&mut self, alloc: Global, byte: u8) -> Result<(), AllocError>
-        ensures { OnOk result (Stepped (step_iac byte self.old.line) self.old self.new) }
-    {
-        if byte < command::SE {
-            return self.data(alloc, byte);
-        }
-        match byte {
-            command::SB => self.wait(Begun::Parameters),
-            command::WILL => self.wait(Begun::Negotiating(Verb::Will)),
-            command::WONT => self.wait(Begun::Negotiating(Verb::Wont)),
-            command::DO => self.wait(Begun::Negotiating(Verb::Do)),
-            command::DONT => self.wait(Begun::Negotiating(Verb::Dont)),
-            command::IAC => self.wait(Begun::Nothing),
-            _ => self.command(alloc, byte)?,
-        }
-        Ok(())
-    }
-
-    fn option(&mut self, alloc: Global, verb: Verb, byte: u8) -> Result<(), AllocError>
-        ensures { OnOk result (Stepped (takes (telnet.Negotiation (verb_of verb) byte) self.old.line) self.old self.new) }
-    {
-        match verb {
-            Verb::Will => self.reply(alloc, &[command::IAC, command::DONT, byte])?,
-            Verb::Do => self.reply(alloc, &[command::IAC, command::WONT, byte])?,
-            Verb::Wont | Verb::Dont => self.wait(Begun::Nothing),
-        }
-        Ok(())
-    }
-
-    fn in_parameters(&mut self, byte: u8)
-        ensures { Stepped (step_by reading.Parameters byte self.old.line) self.old self.new }
-    {
-        if byte == command::IAC {
-            self.wait(Begun::ParametersIac);
-        } else {
-            self.wait(Begun::Parameters);
-        }
-    }
-
-    fn in_parameters_after_iac(&mut self, byte: u8)
-        ensures { Stepped (step_by reading.Parameters_iac byte self.old.line) self.old self.new }
-    {
-        if byte == command::SE {
-            self.wait(Begun::Nothing);
-        } else {
-            self.wait(Begun::Parameters);
-        }
-    }
-
-    fn take(&mut self, alloc: Global, byte: u8) -> Result<(), AllocError>
-        ensures { OnOk result (Stepped (step byte (reading_of self.old)) self.old self.new) }
-    {
-        match self.begun {
-            Begun::Nothing => self.data(alloc, byte)?,
-            Begun::Return => self.after_return(alloc, byte)?,
-            Begun::Iac => self.after_iac(alloc, byte)?,
-            Begun::Negotiating(verb) => self.option(alloc, verb, byte)?,
-            Begun::Parameters => self.in_parameters(byte),
-            Begun::ParametersIac => self.in_parameters_after_iac(byte),
-        }
-        Ok(())
-    }
-
-    /// How many bytes at the beginning of a piece are characters that may be kept, where no unit has begun.
-    fn ready_count(&self, piece: &[u8]) -> usize
-        ensures within { result ≤ length piece.now }
-        ensures kept { list_all telnet.is_kept (take result piece.now) ≡ true }
-        ensures nothing { 0 < result → begun_of self.now.begun ≡ reading.Nothing }
-    {
-        match self.begun {
-            Begun::Nothing => kept_count(piece),
-            _ => 0,
-        }
-    }
-
-    /// Takes the characters that a piece begins with.
-    fn take_characters(&mut self, characters: &[u8]) -> Result<(), AllocError>
-        requires nothing { begun_of self.old.begun ≡ reading.Nothing }
-        requires kept { list_all telnet.is_kept characters.now ≡ true }
-        ensures { OnOk result (ReadsAll characters.now self.old self.new) }
-    {
-        self.line.push_all(characters)?;
-        Ok(())
-    }
-
-    /// Takes the characters that the piece begins with, or else one byte, and gives what is left of the piece.
-    fn take_some<'a>(&mut self, alloc: Global, piece: &'a [u8]) -> Result<&'a [u8], AllocError>
-        requires { 0 < length piece.now }
-        ensures less { IfOk result (λ left. length left.now < length piece.now) }
-        ensures read { IfOk result (λ left. ReadsUpTo piece.now left.now self.old self.new) }
-    {
-        let count = self.ready_count(piece);
-        if count == 0 {
-            let (first, left) = piece.split_at(1);
-            self.take(alloc, first[0])?;
-            return Ok(left);
-        }
-        let (characters, left) = piece.split_at(count);
-        self.take_characters(characters)?;
-        Ok(left)
-    }
-
-    fn take_all(&mut self, alloc: Global, piece: &[u8]) -> Result<(), AllocError>
-        ensures { OnOk result (ReadsAll piece.now self.old self.new) }
-    {
-        let mut left = piece;
-        while !left.is_empty() {
-            left = self.take_some(alloc, left)?;
-        }
-        Ok(())
-    }
-}
-
-/// A reader of one Telnet stream, which comes in any pieces.
+/// A reader of one Telnet stream (RFC 854), which comes in any pieces.
 ///
-/// It holds back what has begun of one unit, as a state, and at most 4,096 characters of the line that has not ended.
-#[derive(Drop)]
+/// It keeps the characters of lines, obeys the commands EC and EL, answers AYT, refuses every option, and skips
+/// subnegotiations and all other commands. Between two pieces it holds back which unit has begun, and at most 4,096
+/// characters of the line that has not ended.
+#[derive(Debug, Drop)]
 pub struct Reader {
     begun: Begun,
     line: LineBuffer,
@@ -274,8 +45,11 @@ impl Reader {
     }
 
     /// Takes the next piece of the stream, and gives the lines and replies that it brings, in order.
+    ///
+    /// A line ends with CR LF or LF alone. Where memory runs out, the reader is as it was and the piece can be fed again.
     pub fn feed(&mut self, alloc: Global, piece: &[u8]) -> Result<Vec<Event>, AllocError>
-        // The stream so far is the stream before and the piece, and so are its events: where the pieces end does not matter.
+        // Whatever stream the reader has read, it has now read that stream and the piece after it,
+        // and its events are those before and these: where the pieces end does not matter.
         ensures ok { IfOk result (λ events. (stream : List ℕ) (past : List telnet.Event) →
             HasRead stream past self.old → HasRead (stream ++ piece.now) (past ++ events_given events.items) self.new) }
         ensures lines { IfOk result (λ events. AllByRecursion telnet.IsEvent (events_given events.items)) }

@@ -7,10 +7,16 @@ use std::test::Fail;
 /// Streams, each with its events as they print.
 const STREAMS: [(&[u8], &str); 28] = [
     // Options are refused, in the middle of a line too.
-    (b"lo\xff\xfd\x01ok\r\n", "[Reply([255, 252, 1]), Line(\"look\")]"),
+    (
+        b"lo\xff\xfd\x01ok\r\n",
+        "[Reply([255, 252, 1]), Line(\"look\")]",
+    ),
     (b"a\xff\xfb\x03b\n", "[Reply([255, 254, 3]), Line(\"ab\")]"),
     (b"a\xff\xfc\x03\xff\xfe\x01b\n", "[Line(\"ab\")]"),
-    (b"\xff\xfd\xff\xff\xfb\xff", "[Reply([255, 252, 255]), Reply([255, 254, 255])]"),
+    (
+        b"\xff\xfd\xff\xff\xfb\xff",
+        "[Reply([255, 252, 255]), Reply([255, 254, 255])]",
+    ),
     (b"\xff\xfd\r\n", "[Reply([255, 252, 13]), Line(\"\")]"),
     // Line ends.
     (b"a\r\nb\nc", "[Line(\"a\"), Line(\"b\")]"),
@@ -27,20 +33,32 @@ const STREAMS: [(&[u8], &str); 28] = [
     (b"ab\xff\xf8c\n\xff\xf8\n", "[Line(\"c\"), Line(\"\")]"),
     (b"ab\nc\xff\xf7\xff\xf7\n", "[Line(\"ab\"), Line(\"\")]"),
     // Are you there.
-    (b"a\xff\xf6b\n", "[Reply([91, 89, 101, 115, 93, 13, 10]), Line(\"ab\")]"),
+    (
+        b"a\xff\xf6b\n",
+        "[Reply([91, 89, 101, 115, 93, 13, 10]), Line(\"ab\")]",
+    ),
     // Subnegotiations, with an IAC as data, with a command inside, not closed, closed by the first IAC SE.
     (b"\xff\xfa\x18\xff\xff\x01\xff\xf0a\n", "[Line(\"a\")]"),
     (b"\xff\xfa\xff\xf0a\n", "[Line(\"a\")]"),
-    (b"\xff\xfa\x18\xff\xfd\x01\xff\xf6\r\n\xff\xf0a\n", "[Line(\"a\")]"),
+    (
+        b"\xff\xfa\x18\xff\xfd\x01\xff\xf6\r\n\xff\xf0a\n",
+        "[Line(\"a\")]",
+    ),
     (b"a\n\xff\xfa\x18b\n\xf0c\n", "[Line(\"a\")]"),
     (b"\xff\xfa\x18\xff\xff\xf0b\n\xff\xf0a\n", "[Line(\"a\")]"),
     // 255 as data, an IAC before a byte below 240, and bytes that are no characters.
     (b"a\xff\xffb\n", "[Line(\"ab\")]"),
-    (b"a\xffb\n\xff\nc\xff\r\n", "[Line(\"ab\"), Line(\"\"), Line(\"c\")]"),
+    (
+        b"a\xffb\n\xff\nc\xff\r\n",
+        "[Line(\"ab\"), Line(\"\"), Line(\"c\")]",
+    ),
     (b"\xff\xff\xfd\x01a\n", "[Line(\"a\")]"),
     (b"a\t~ \x7f\x1f\x80\xef\n", "[Line(\"a\\t~ \")]"),
     (b"", "[]"),
 ];
+
+/// No stream of the table is longer.
+const LONGEST: usize = 14;
 
 /// Each command from SE on: the events of "ab", the command, "xy" and a line end, and those without "xy".
 const COMMANDS: [(u8, &str, &str); 16] = [
@@ -75,7 +93,12 @@ const COMMANDS: [(u8, &str, &str); 16] = [
 ];
 
 /// The events of a stream that comes in three pieces, cut at these places.
-fn events_of(alloc: Global, stream: &[u8], first: usize, second: usize) -> Result<Vec<Event>, AllocError> {
+fn events_of(
+    alloc: Global,
+    stream: &[u8],
+    first: usize,
+    second: usize,
+) -> Result<Vec<Event>, AllocError> {
     let mut reader = Reader::new(alloc);
     let mut events = Vec::new(alloc);
     let first = first.min(stream.len());
@@ -105,10 +128,14 @@ fn line_length(alloc: Global, count: usize, after: &[u8]) -> Result<usize, Alloc
 #[test]
 fn streams_at_every_cut(rt: HostRuntime) -> Result<(), Fail> {
     for (stream, want) in STREAMS {
-        for first in 0..stream.len() + 1 {
-            for second in first..stream.len() + 1 {
+        for first in 0..=LONGEST {
+            for second in first..=LONGEST {
                 let events = events_of(rt.alloc(), stream, first, second)?;
-                assert_eq!(rt; format!(in rt.alloc(); "{events:?}")?.as_str(), want, "cut at {first} and {second}");
+                assert_eq!(rt;
+                    format!(in rt.alloc(); "{events:?}")?.as_str(),
+                    want,
+                    "cut at {first} and {second}"
+                );
             }
         }
     }
@@ -122,7 +149,11 @@ fn every_command(rt: HostRuntime) -> Result<(), Fail> {
             let mut stream = vec![in rt.alloc(); b'a', b'b', 255, command]?;
             stream.extend_from_slice(rest)?;
             let events = events_of(rt.alloc(), stream.as_slice(), 3, 4)?;
-            assert_eq!(rt; format!(in rt.alloc(); "{events:?}")?.as_str(), want, "command {command}");
+            assert_eq!(rt;
+                format!(in rt.alloc(); "{events:?}")?.as_str(),
+                want,
+                "command {command}"
+            );
         }
     }
     Ok(())
@@ -133,7 +164,9 @@ fn every_option(rt: HostRuntime) -> Result<(), Fail> {
     for option in 0..=255u8 {
         let stream = [255, 253, option, 255, 251, option];
         let events = events_of(rt.alloc(), &stream, 2, 5)?;
-        let want = format!(in rt.alloc(); "[Reply([255, 252, {option}]), Reply([255, 254, {option}])]")?;
+        let want = format!(in rt.alloc();
+            "[Reply([255, 252, {option}]), Reply([255, 254, {option}])]"
+        )?;
         assert_eq!(rt; format!(in rt.alloc(); "{events:?}")?, want);
     }
     Ok(())

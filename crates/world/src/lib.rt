@@ -1,2 +1,11 @@
-//! world
+//! Worlds of objects and links.
+//!
+//! A `World` is well formed by its type. Its records are shared with the snapshots that were taken of it. To contracts it is
+//! the plain world of the definitions, and the number of views that were opened to change it.
 #![tactic(auto)]
+
+mod count;
+pub mod draft;
+pub mod fixture;
+mod records;
+pub mod worlds;

@@ -1,3 +1,4 @@
 pub mod Rising
 pub mod Rows
 pub mod Roots
+pub mod Walks

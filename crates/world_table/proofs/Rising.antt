@@ -1,9 +1,8 @@
 -- Entries whose keys rise within bounds.
-use Rattle.std.proofs.Common.{◌≡◌, ℕ, suc, ◌+◌, ◌<◌, ◌≤◌, ◌≢◌, Bool, true, false, cond, not, ◌&&◌, T, List, [], ◌∷◌, ◌++◌, map, length, Option, Some, None, refl, sym, ap, subst, ◌∙◌, arith}
+use Rattle.std.proofs.Common.{◌≡◌, ℕ, ◌+◌, ◌<◌, ◌≤◌, ◌≢◌, Bool, true, false, cond, not, ◌&&◌, T, List, [], ◌∷◌, ◌++◌, length, Some, None, refl, sym, ap, subst, ◌∙◌, arith}
 use Rattle.std.specs.Ordering.{nat_cmp, eq_by_cmp, is_eq, is_lt}
-use Rattle.std.specs.declared.cmp.Ordering.{Ordering}
 use Rattle.std.specs.declared.cmp.Ordering.TheVariants.{Less, Equal, Greater}
-use Rattle.std.specs.Cmp.{nat_cmp_is, ranked, unsigned_tied}
+use Rattle.std.specs.Cmp.{nat_cmp_is, ranked}
 use Rattle.std.specs.FinMap.{find, put, is_sorted}
 use Rattle.std.specs.FinMap.Entries.{by_order, below_all}
 use Rattle.world_table.specs.Branch.{Rises, raised}
@@ -66,9 +65,9 @@ module _ {V : Type 0} where
   Rises-put a b k v [] p q h = (p, omega arith)
   Rises-put a b k v (e ∷ es) p q h =
       elim (nat_cmp k e.0) as (λ r. nat_cmp k e.0 ≡ r → Rises a b (by_order r ((k, v) ∷ e ∷ es) ((e.0, v) ∷ es) (e ∷ put nat_cmp k v es))) [
-        | Less ↦ λ e' . let l : k < e.0 = ranked k e.0 Less (sym e') in (p, (omega arith, h.1))
-        | Equal ↦ λ e' . (h.0, h.1)
-        | Greater ↦ λ e' . let l : e.0 < k = ranked k e.0 Greater (sym e') in (h.0, Rises-put (e.0 + 1) b k v es (omega arith) q h.1)
+        | Less ↦ λ e'. let l : k < e.0 = ranked k e.0 Less (sym e') in (p, (omega arith, h.1))
+        | Equal ↦ λ e'. (h.0, h.1)
+        | Greater ↦ λ e'. let l : e.0 < k = ranked k e.0 Greater (sym e') in (h.0, Rises-put (e.0 + 1) b k v es (omega arith) q h.1)
       ] refl
 
   pub Rises-without : (a b k : ℕ) (es : List (ℕ × V)) → Rises a b es → Rises a b (without k es)

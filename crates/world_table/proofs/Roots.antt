@@ -1,5 +1,6 @@
 -- What is said of a whole table: its root is read with the whole key.
-use Rattle.std.proofs.Common.{◌≡◌, ℕ, zero, suc, ◌+◌, ◌-◌, ◌*◌, ◌/◌, ◌%◌, ◌^◌, ◌<◌, ◌≤◌, ◌==◌, ◌↔◌, Bool, true, false, cond, not, T, IsTrue, List, [], ◌∷◌, length, get_or, Option, Some, None, is_some, option_map, refl, sym, ap, subst, ◌∙◌, arith, eqb→eq, eq-eqb, zero-add, zero-mul}
+use Rattle.std.proofs.Common.{◌≡◌, ℕ, zero, suc, ◌+◌, ◌-◌, ◌*◌, ◌/◌, ◌%◌, ◌^◌, ◌<◌, ◌≤◌, ◌==◌, ◌↔◌, Bool, true, false, cond, not, T, IsTrue, List, [], ◌∷◌, length, get_or, Option, Some, None, is_some, option_map, refl, sym, ap, subst, ◌∙◌, arith, eqb→eq, eq-eqb, zero-add, zero-mul, ⊎_elim}
+use Rattle.std.proofs.lemmas.Bool.{cases_lt}
 use Rattle.std.proofs.Math.Nat.{mod-eq_of_lt, pow-le-pow_right}
 use Rattle.std.proofs.lemmas.Nat.{pow_pos, shr_split, shr_below, mod_below}
 use Rattle.std.proofs.lemmas.Float.{T_from_true}
@@ -10,17 +11,18 @@ use Rattle.std.specs.FinMap.Entries.{length-put, length_without}
 use Rattle.world_table.specs.Branch.{Branch, reach, Rises, IsBranch}
 use Rattle.world_table.specs.Entries.{without}
 use Rattle.world_table.proofs.Rising.{bounds, sorted, find_above, length_within}
-use Rattle.world_table.proofs.Rows.{at_levels, reach_pos}
+use Rattle.world_table.proofs.Rows.{at_levels}
 
 -- ---- which keys fit
 
 pub fits_decides : (key k : ℕ) → IsTrue (key / 2 ^ k == 0) ↔ key < 2 ^ k
-fits_decides key k =
-    (λ e. let none : key / 2 ^ k ≡ 0 = eqb→eq (key / 2 ^ k) 0 (T_from_true _ e) in
-          let whole : key / 2 ^ k * 2 ^ k + key % 2 ^ k ≡ key = shr_split key k in
-          let nothing : key / 2 ^ k * 2 ^ k ≡ 0 = ap (λ (n : ℕ). n * 2 ^ k) none ∙ zero-mul (2 ^ k) in
-          let low = mod_below key (2 ^ k) (pow_pos k) in omega arith,
-     λ h. eq-eqb (key / 2 ^ k) 0 (let one : key / 2 ^ k < 2 ^ 0 = shr_below key 0 k (subst (λ (n : ℕ). key < 2 ^ n) (sym (zero-add k)) h) in omega arith))
+fits_decides key k = (
+  λ e. let none : key / 2 ^ k ≡ 0 = eqb→eq (key / 2 ^ k) 0 (T_from_true _ e) in
+      let whole : key / 2 ^ k * 2 ^ k + key % 2 ^ k ≡ key = shr_split key k in
+      let nothing : key / 2 ^ k * 2 ^ k ≡ 0 = ap (λ (n : ℕ). n * 2 ^ k) none ∙ zero-mul (2 ^ k) in
+      let low = mod_below key (2 ^ k) (pow_pos k) in omega arith,
+  λ h. eq-eqb (key / 2 ^ k) 0 (let one : key / 2 ^ k < 2 ^ 0 = shr_below key 0 k (subst (λ (n : ℕ). key < 2 ^ n) (sym (zero-add k)) h) in omega arith),
+)
 
 pub reach_bound : (levels : ℕ) → levels ≤ 12 → reach levels ≤ 2 ^ 60
 reach_bound levels h = pow-le-pow_right {n = 2} (omega arith) {i = 5 * levels} {j = 60} (omega arith)
@@ -43,6 +45,10 @@ module _ {V : Type 0} where
 
   not_some : (x : V) → Some x ≡ None → ⊥
   not_some x e = subst T (ap is_some e) tt
+
+  pub found_within : (levels key : ℕ) (x : V) (b : Branch V) → IsBranch levels b → Some x ≡ find nat_cmp key b.entries → key < reach levels
+  found_within levels key x b h is =
+      ⊎_elim (λ (p : key < reach levels). p) (λ (p : reach levels ≤ key). absurd (not_some x (is ∙ find_beyond levels key b h p))) (cases_lt key (reach levels))
 
   pub without_absent : (key : ℕ) (es : List (ℕ × V)) → find nat_cmp key es ≡ None → without key es ≡ es
   without_absent key [] h = refl

@@ -1,5 +1,5 @@
 -- Rows of branches: what a block's entries are, and how a change of one branch changes them.
-use Rattle.std.proofs.Common.{◌≡◌, ◌≢◌, ℕ, zero, suc, ◌+◌, ◌-◌, ◌*◌, ◌/◌, ◌%◌, ◌^◌, ◌<◌, ◌≤◌, List, [], ◌∷◌, ◌++◌, length, get_or, set, length-set, replicate, Option, Some, None, refl, sym, ap, subst, ◌∙◌, arith, zero-add, ⊎_elim}
+use Rattle.std.proofs.Common.{Result, Ok, Err, OnOk, OnErr, ◌≡◌, ◌≢◌, ℕ, zero, suc, ◌+◌, ◌-◌, ◌*◌, ◌/◌, ◌%◌, ◌^◌, ◌<◌, ◌≤◌, List, [], ◌∷◌, ◌++◌, length, get_or, set, length-set, replicate, refl, sym, ap, subst, ◌∙◌, arith, zero-add, ⊎_elim}
 use Rattle.std.proofs.lemmas.Bool.{cases_lt, cases_eq}
 use Rattle.std.proofs.lemmas.List.{get_or-replicate, get_or-set_same, get_or-set_other}
 use Rattle.std.specs.Ordering.{nat_cmp}
@@ -98,9 +98,9 @@ module _ {V : Type 0} where
   at_levels f same l key b h =
       let most = h.within in
       ⊎_elim
-        (λ (p : b.height < l). subst (λ es. f (key % reach b.height) es ≡ f (key % reach l) es) (sym (h.lower p)) (same _ _))
-        (λ (p : l ≤ b.height). ap (λ (n : ℕ). f (key % reach n) b.entries) (let e : b.height ≡ l = omega arith in e))
-        (cases_lt b.height l)
+      (λ (p : b.height < l). subst (λ es. f (key % reach b.height) es ≡ f (key % reach l) es) (sym (h.lower p)) (same _ _))
+      (λ (p : l ≤ b.height). ap (λ (n : ℕ). f (key % reach n) b.entries) (let e : b.height ≡ l = omega arith in e))
+      (cases_lt b.height l)
 
   pub find_block : (l key i : ℕ) (bs : List (Branch V)) (b : Branch V) → IsRow l bs → i ≡ key / reach l % 32 → i < 32 → b ≡ get_or bs i b
       → find nat_cmp (key % reach b.height) b.entries ≡ find nat_cmp (key % reach (l + 1)) (joined (reach l) 0 bs)
@@ -110,14 +110,14 @@ module _ {V : Type 0} where
       at_levels (find nat_cmp) (λ j k. refl) l key b (subst (IsBranch l) (sym is) (branch_at l i bs b h within))
       ∙ ap (λ (c : Branch V). find nat_cmp (key % reach l) c.entries) is
       ∙ sym (find-row l 0 (key % reach (l + 1)) i (key % reach l) bs b h within (mod_below key (reach l) (reach_pos l))
-          (key_split key l ∙ ap (λ (j : ℕ). j * reach l + key % reach l) (sym e) ∙ sym (zero-add _)))
+      (key_split key l ∙ ap (λ (j : ℕ). j * reach l + key % reach l) (sym e) ∙ sym (zero-add _)))
 
   pub changed_block : (change : ℕ → List (ℕ × V) → List (ℕ × V)) → IsLocal change → (l key i : ℕ) (bs : List (Branch V)) (b d : Branch V)
       → IsRow l bs → i ≡ key / reach l % 32 → i < 32 → b.entries ≡ change (key % reach l) (get_or bs i d).entries
       → joined (reach l) 0 (set bs i b) ≡ change (key % reach (l + 1)) (joined (reach l) 0 bs)
   changed_block change is l key i bs b d row e p new =
       changed_row change is l 0 (key % reach (l + 1)) i (key % reach l) bs b d row.branches (let within : i < length bs = omega (arith, row.size) in within) (mod_below key (reach l) (reach_pos l))
-        (key_split key l ∙ ap (λ (j : ℕ). j * reach l + key % reach l) (sym e) ∙ sym (zero-add _)) new
+      (key_split key l ∙ ap (λ (j : ℕ). j * reach l + key % reach l) (sym e) ∙ sym (zero-add _)) new
 
 -- ---- rows of empty branches
 
@@ -189,7 +189,7 @@ pub put_lone : {V : Type 0} (levels key i : ℕ) (v : V) (b c : Branch V) (es : 
     → joined (reach (levels - 1)) 0 (set vacant_row i b) ≡ put nat_cmp (key % reach levels) v es
 put_lone {V} levels key i v b c es above e p none new empty =
     put_block levels key i v vacant_row b nowhere es above (vacant_is_row V (levels - 1)) e p (sym (vacant_at V i nowhere p))
-      (new ∙ ap (put nat_cmp (key % reach (levels - 1)) v) none) (empty ∙ sym (joined-vacant V (reach (levels - 1)) 0))
+    (new ∙ ap (put nat_cmp (key % reach (levels - 1)) v) none) (empty ∙ sym (joined-vacant V (reach (levels - 1)) 0))
 
 -- ---- a branch with one record less
 
@@ -206,7 +206,7 @@ pub without_block : {V : Type 0} (below key i : ℕ) (bs : List (Branch V)) (b c
 without_block {V} below key i bs b c s row e p is new whole =
     let within : i < length bs = omega (arith, row.size) in
     changed_block without without_local below key i bs b c row e p
-      (new ∙ at_levels without (λ j k. refl) below key c (subst (IsBranch below) (sym is) (branch_at below i bs c row.branches within)) ∙ ap (λ (d : Branch V). without (key % reach below) d.entries) is)
+    (new ∙ at_levels without (λ j k. refl) below key c (subst (IsBranch below) (sym is) (branch_at below i bs c row.branches within)) ∙ ap (λ (d : Branch V). without (key % reach below) d.entries) is)
     ∙ ap (λ (d : Branch V). without (key % reach d.height) d.entries) whole
 
 all_vacant : {V : Type 0} (w start : ℕ) (bs : List (Branch V)) → ((k : ℕ) → k < length bs → (get_or bs k nowhere).entries ≡ []) → joined w start bs ≡ []
@@ -216,10 +216,29 @@ all_vacant w start (b ∷ bs) h = ap (λ es. raised start es ++ joined w (start 
 pub joined_vacated : {V : Type 0} (w i : ℕ) (bs : List (Branch V)) (b : Branch V) → AreVacantBut i bs → b.entries ≡ [] → i < length bs → joined w 0 (set bs i b) ≡ []
 joined_vacated {V} w i bs b others empty p =
     all_vacant w 0 (set bs i b) (λ k q.
-      ⊎_elim
-        (λ (e : k ≡ i). ap (λ (j : ℕ). (get_or (set bs i b) j nowhere).entries) e ∙ ap (λ (d : Branch V). d.entries) (get_or-set_same bs i b nowhere p) ∙ empty)
-        (λ (n : k ≢ i). ap (λ (d : Branch V). d.entries) (get_or-set_other bs i k b nowhere n) ∙ others k (omega (arith, length-set bs i b)) n)
-        (cases_eq k i))
+    ⊎_elim
+    (λ (e : k ≡ i). ap (λ (j : ℕ). (get_or (set bs i b) j nowhere).entries) e ∙ ap (λ (d : Branch V). d.entries) (get_or-set_same bs i b nowhere p) ∙ empty)
+    (λ (n : k ≢ i). ap (λ (d : Branch V). d.entries) (get_or-set_other bs i k b nowhere n) ∙ others k (omega (arith, length-set bs i b)) n)
+    (cases_eq k i))
 
 pub child_branch : {V : Type 0} (l i : ℕ) (bs : List (Branch V)) (b : Branch V) → IsRow l bs → i < 32 → b ≡ get_or bs i b → IsBranch l b
 child_branch l i bs b row p is = subst (IsBranch l) (sym is) (branch_at l i bs b row.branches (omega (arith, row.size)))
+
+-- ---- changes in place
+
+-- whether the change was made or not, the branch stays one
+pub put_kept : {V T E : Type 0} (r : Result T E) (l key : ℕ) (v : V) (b p : Branch V) → IsBranch l b → OnOk r (p.height ≡ l) → OnOk r (p.entries ≡ put nat_cmp (key % reach l) v b.entries) → OnErr r (p ≡ b) → IsBranch l p
+put_kept (Ok x) l key v b p h height entries err = put_branch l key v b p h height entries
+put_kept (Err e) l key v b p h height entries err = subst (IsBranch l) (sym err) h
+
+pub put_within : {V : Type 0} (below levels key i : ℕ) (v : V) (bs : List (Branch V)) (b c s : Branch V) → below + 1 ≡ levels → IsRow below bs → i ≡ key / reach below % 32 → i < 32 → c ≡ get_or bs i c
+    → record { height = below + 1; entries = joined (reach below) 0 bs } ≡ s → b.entries ≡ put nat_cmp (key % reach below) v c.entries
+    → joined (reach below) 0 (set bs i b) ≡ put nat_cmp (key % reach levels) v s.entries
+put_within {V} below levels key i v bs b c s up row e p is whole new =
+    changed_block (λ k. put nat_cmp k v) (put_local v) below key i bs b c row e p (new ∙ ap (λ (d : Branch V). put nat_cmp (key % reach below) v d.entries) is)
+    ∙ ap (λ (n : ℕ). put nat_cmp (key % reach n) v (joined (reach below) 0 bs)) up
+    ∙ ap (λ (d : Branch V). put nat_cmp (key % reach levels) v d.entries) whole
+
+-- a row with nothing in it
+pub joined_all_vacant : {V : Type 0} (w : ℕ) (bs : List (Branch V)) → length bs ≡ 32 → AreVacantBut 32 bs → joined w 0 bs ≡ []
+joined_all_vacant w bs size none = all_vacant w 0 bs (λ k p. none k p (λ (e : k ≡ 32). absurd (omega arith)))

@@ -1,5 +1,5 @@
 -- What the fields of a place mean.
-use Rattle.std.specs.Prelude.{ℕ, ◌+◌, ◌<◌, List, [], ◌∷◌}
+use Rattle.std.specs.Prelude.{◌+◌, ◌<◌, [], ◌∷◌}
 use Rattle.std.specs.Arc.{arc_value}
 use Rattle.world_table.specs.Branch.{Branch, reach, joined, IsRow}
 use Rattle.world_table.specs.declared.place.Held.{Held}

@@ -3,5 +3,7 @@
 
 mod place;
 mod table;
+#[cfg(test)]
+mod tests;
 
 pub use table::Table;

@@ -7,6 +7,7 @@ ghost use Rattle.world_table.specs.Branch.{reach};
 
 pub mod blocks;
 pub mod change;
+pub mod edit;
 pub mod walk;
 
 use std::alloc::AllocError;
@@ -58,7 +59,9 @@ impl<R> Place<R> {
         ensures height { result.height ≡ 0 }
         ensures entries { result.entries ≡ [] }
     {
-        Place { held: Held::Nothing }
+        Place {
+            held: Held::Nothing,
+        }
     }
 
     /// A place with a record.
@@ -89,7 +92,9 @@ impl<R: Drop> Place<R> {
         ensures { IfOk result (λ p. p ≡ self.now) }
     {
         match &self.held {
-            Held::Nothing => Ok(Place { held: Held::Nothing }),
+            Held::Nothing => Ok(Place {
+                held: Held::Nothing,
+            }),
             Held::Record(value) => Ok(Place {
                 held: Held::Record(value.clone()?),
             }),

@@ -6,6 +6,8 @@ ghost use Rattle.std.specs.FinMap.{find, put, is_sorted};
 ghost use Rattle.std.specs.Arc.{arc_value};
 ghost use Rattle.world_table.specs.Entries.{without, first_from, last_key};
 
+mod edit;
+
 use crate::place::Place;
 use crate::place::blocks::BlockBuilder;
 use std::alloc::{AllocError, Global};
@@ -98,7 +100,11 @@ impl<R: Drop, const LEVELS: u32> Table<R, LEVELS> {
     pub fn get_shared(&self, key: u64) -> Option<&Arc<R>>
         ensures { option_map (λ r. arc_value r.now) result ≡ find nat_cmp key self.now.entries }
     {
-        if self.fits(key) { self.root.get(key) } else { None }
+        if self.fits(key) {
+            self.root.get(key)
+        } else {
+            None
+        }
     }
 
     /// The first entry at this key or above it.
@@ -169,21 +175,23 @@ impl<R: Drop, const LEVELS: u32> Table<R, LEVELS> {
         ensures entries { IfOk result (λ t. t.entries ≡ without key self.now.entries) }
         ensures blocks { IfOk result (λ t. t.blocks ≤ LEVELS) }
     {
-        if self.get_shared(key).is_none() {
-            return Ok(Table {
+        match self.get_shared(key) {
+            None => Ok(Table {
                 root: self.root.share()?,
                 count: self.count,
                 blocks: 0,
                 alloc: self.alloc,
-            });
+            }),
+            Some(_) => {
+                let mut builder = BlockBuilder::new(self.alloc);
+                let root = self.root.without(&mut builder, key)?;
+                Ok(Table {
+                    root,
+                    count: self.count - 1,
+                    blocks: builder.count,
+                    alloc: self.alloc,
+                })
+            }
         }
-        let mut builder = BlockBuilder::new(self.alloc);
-        let root = self.root.without(&mut builder, key)?;
-        Ok(Table {
-            root,
-            count: self.count - 1,
-            blocks: builder.count,
-            alloc: self.alloc,
-        })
     }
 }

@@ -60,7 +60,12 @@ impl BlockBuilder {
     }
 
     /// A block with one branch.
-    pub fn lone<R: Drop>(&mut self, below: u32, at: usize, branch: Place<R>) -> Result<Place<R>, AllocError>
+    pub fn lone<R: Drop>(
+        &mut self,
+        below: u32,
+        at: usize,
+        branch: Place<R>,
+    ) -> Result<Place<R>, AllocError>
         requires levels { below < 12 }
         requires at { at < 32 }
         requires branch { IsBranch below branch }

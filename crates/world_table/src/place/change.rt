@@ -25,7 +25,13 @@ impl<R: Drop> Place<R> {
 
     /// The branch of so many levels with a record at a key, of which only the bits of these levels
     /// are read.
-    pub fn with(&self, builder: &mut BlockBuilder, levels: u32, key: u64, value: Arc<R>) -> Result<Place<R>, AllocError>
+    pub fn with(
+        &self,
+        builder: &mut BlockBuilder,
+        levels: u32,
+        key: u64,
+        value: Arc<R>,
+    ) -> Result<Place<R>, AllocError>
         requires branch { IsBranch levels self.now }
         requires levels { levels ≤ 12 }
         requires room { builder.old.count + levels < 2 ^ 32 }
@@ -80,8 +86,8 @@ impl<R: Drop> Place<R> {
     }
 }
 
-// Whether all places but one are empty.
-fn are_vacant_but<R: Drop>(places: &[Place<R>], at: usize) -> bool
+/// Whether all places but one are empty.
+pub fn are_vacant_but<R: Drop>(places: &[Place<R>], at: usize) -> bool
     ensures { IsTrue result → AreVacantBut at places.now }
 {
     for (i, place) in places.iter().enumerate() {

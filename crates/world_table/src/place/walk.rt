@@ -13,9 +13,7 @@ impl<R> Place<R> {
     {
         match &self.held {
             Held::Nothing => None,
-            Held::Record(value) => {
-                if key == 0 { Some((0, value)) } else { None }
-            }
+            Held::Record(value) => { if key == 0 { Some((0, value)) } else { None } }
             Held::Block(below, places) => {
                 let shift = 5 * *below;
                 let first = (key >> shift).min(PLACES as u64);

@@ -1,7 +1,7 @@
 use Rattle.std.proofs.Common.{◌≤◌, arith}
 use Rattle.moo_spec.specs.Datum.{of_list}
 use Rattle.moo_value.specs.Depth.{depth, data_depth}
-use Rattle.moo_value.proofs.Items.{depth_item, same_lists}
+use Rattle.moo_value.proofs.Listing.{depth_item, same_lists}
 use Rattle.moo_value.proofs.compare.+equal.Goals as goal
 
 pub equal_items-equal-requires : goal.equal_items-equal-requires

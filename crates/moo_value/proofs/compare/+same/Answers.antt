@@ -1,7 +1,7 @@
 use Rattle.std.proofs.Common.{◌≤◌, arith}
 use Rattle.moo_spec.specs.Datum.{of_list}
 use Rattle.moo_value.specs.Depth.{depth, data_depth}
-use Rattle.moo_value.proofs.Items.{depth_item}
+use Rattle.moo_value.proofs.Listing.{depth_item}
 use Rattle.moo_value.proofs.Folding.{same_folded, folded_at}
 use Rattle.moo_value.proofs.compare.+same.Goals as goal
 

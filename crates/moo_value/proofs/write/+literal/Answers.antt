@@ -1,7 +1,7 @@
 use Rattle.std.proofs.Common.{◌≤◌, ap, arith}
 use Rattle.moo_spec.specs.Datum.{of_list}
 use Rattle.moo_value.specs.Depth.{depth, data_depth}
-use Rattle.moo_value.proofs.Items.{depth_item}
+use Rattle.moo_value.proofs.Listing.{depth_item}
 use Rattle.moo_value.proofs.write.+literal.Goals as goal
 
 pub write_items-write_literal-requires-in-loop-item : goal.write_items-write_literal-requires-in-loop-item

@@ -1,4 +1,4 @@
-use Rattle.std.proofs.Common.{◌≡◌, ◌+◌, true, length, All, IfOk, ℕ, Vec, Global, arith, refl}
+use Rattle.std.proofs.Common.{◌≡◌, IfOk, ℕ, Vec, Global, arith, refl}
 use Rattle.std.specs.Prelude.{Result}
 use Rattle.std.specs.declared.alloc.AllocError.{AllocError}
 use Rattle.std.proofs.lemmas.List.Elements.{All-pop}
@@ -13,9 +13,9 @@ worker-init c =
     let popped = All-pop (IsWorkOf c.args.claims) c.args.workers.items c.pop.new.self.items c.pop.result c.pop.ensures.items c.requires.done in
     let first = rw c.in-Some.is at popped.1 in
     let own = rw c.in_ok-seat.was at first in record {
-      offer = own.0.0;
-      closed = own.0.2;
-      all = omega (arith, own.0.1, c.requires.all, c.in-Some.ensures.len);
+      offer = own.0.offer_is;
+      closed = own.0.closed;
+      all = omega (arith, own.0.one, c.requires.all, c.in-Some.ensures.len);
       positions = own.1;
       done = popped.0;
     }
@@ -28,7 +28,13 @@ worker-preserved c =
     let own = rw c.in_ok-other.was at next in record {
       offer = c.merge.ensures.offer;
       closed = rw (c.merge.ensures.closed, i.closed) refl;
-      all = omega (arith, own.0.1, i.all, c.merge.ensures.seats, c.in-Some-pop.ensures.len);
-      positions = rw (c.in_ok-extend_from_slice.ensures.items, c.as_slice.ensures.value, own.1, i.positions, c.merge.ensures.claimed) refl;
+      all = omega (arith, own.0.one, i.all, c.merge.ensures.seats, c.in-Some-pop.ensures.len);
+      positions = rw (
+        c.in_ok-extend_from_slice.ensures.items,
+        c.as_slice.ensures.value,
+        own.1,
+        i.positions,
+        c.merge.ensures.claimed,
+      ) refl;
       done = popped.0;
     }

@@ -1,4 +1,4 @@
-use Rattle.std.proofs.Common.{◌≡◌, ℕ, ◌-◌, length}
+use Rattle.std.proofs.Common.{◌≡◌, ◌-◌, length}
 use Rattle.round_claims.proofs.tests.work.Given as goal
 
 abbrev pub invariant-claim : goal.invariant-claim

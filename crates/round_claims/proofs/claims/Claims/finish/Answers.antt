@@ -10,10 +10,18 @@ counted c =
     ends c.self.inside.table.shared.key _ _ c.seat.inside.seat.id c.seat.inside.seat.me.0 c.word-exchanges.result c.close_with-ended.ensures.values.2 c.word-exchanges.ensures all
 
 pub returns-clause-each_once : goal.returns-clause-each_once
-returns-clause-each_once c = rw (c.min.ensures, ← c.self.invariant.0, ← ap (λ (h : Holding). h.claimed) c.seat.view_is) (counted c).each_once
+returns-clause-each_once c = rw (
+  c.min.ensures,
+  ← c.self.invariant.0,
+  ← ap (λ (h : Holding). h.claimed) c.seat.view_is,
+) (counted c).each_once
 
 pub returns-clause-count : goal.returns-clause-count
-returns-clause-count c = rw (c.min.ensures, ← c.self.invariant.0, ← ap (λ (h : Holding). h.claimed) c.seat.view_is) (counted c).count
+returns-clause-count c = rw (
+  c.min.ensures,
+  ← c.self.invariant.0,
+  ← ap (λ (h : Holding). h.claimed) c.seat.view_is,
+) (counted c).count
 
 pub returns-clause-closed : goal.returns-clause-closed
 returns-clause-closed c closed =

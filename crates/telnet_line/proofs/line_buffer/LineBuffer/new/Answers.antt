@@ -1,5 +1,4 @@
 use Rattle.std.proofs.Common.{arith, refl}
-use Rattle.telnet_line.specs.Telnet.{IsText}
 use Rattle.telnet_line.proofs.line_buffer.LineBuffer.new.Goals as goal
 
 pub invariant_of-result : goal.invariant_of-result

@@ -1,6 +1,5 @@
-use Rattle.std.proofs.Common.{◌≡◌, ℕ, ◌+◌, ◌-◌, ◌<◌, ◌≤◌, sym, ap, subst, ◌∙◌, arith}
-use Rattle.std.proofs.lemmas.Result.{IfOk-weaker}
-use Rattle.world_table.specs.Branch.{reach, joined, IsBranch, IsRow}
+use Rattle.std.proofs.Common.{◌-◌, ◌<◌, sym, subst, ◌∙◌, arith}
+use Rattle.world_table.specs.Branch.{IsBranch}
 use Rattle.world_table.proofs.Rows.{put_record, put_branch, put_block, put_lone, branch_at}
 use Rattle.world_table.proofs.place.Place.+with.Goals as goal
 
@@ -24,11 +23,11 @@ changed-requires-clause-branch g t c =
 pub returns-in_ok-branch-in-Some-clause-entries : goal.returns-in_ok-branch-in-Some-clause-entries
 returns-in_ok-branch-in-Some-clause-entries g t c =
     let whole = put_block c.args.levels c.args.key c.index_of-at.result c.args.value.value c.in-Some.places.now c.in_ok-branch-in-Some.branch c.index-places-at.result c.args.self.now.entries
-      (omega arith) c.in-Some.ensures.0 c.index_of-at.ensures.value c.index_of-at.ensures.within c.index-places-at.is c.in_ok-branch-in-Some.ensures.entries c.in-Some.ensures.1 in
+    (omega arith) c.in-Some.ensures.0 c.index_of-at.ensures.value c.index_of-at.ensures.within c.index-places-at.is c.in_ok-branch-in-Some.ensures.entries c.in-Some.ensures.1 in
     rw whole at c.changed.ensures.entries
 
 pub returns-in_ok-branch-in-None-clause-entries : goal.returns-in_ok-branch-in-None-clause-entries
 returns-in_ok-branch-in-None-clause-entries g t c =
     let whole = put_lone c.args.levels c.args.key c.index_of-at.result c.args.value.value c.in_ok-branch-in-None.branch c.nothing.result c.args.self.now.entries
-      (omega arith) c.index_of-at.ensures.value c.index_of-at.ensures.within c.nothing.ensures.entries c.in_ok-branch-in-None.ensures.entries c.in-None.ensures in
+    (omega arith) c.index_of-at.ensures.value c.index_of-at.ensures.within c.nothing.ensures.entries c.in_ok-branch-in-None.ensures.entries c.in-None.ensures in
     rw whole at c.lone.ensures.entries

@@ -1,6 +1,6 @@
-use Rattle.std.proofs.Common.{◌≡◌, ℕ, ◌+◌, ◌<◌, ◌≤◌, ◌%◌, List, length, get_or, Result, Ok, Err, OnOk, is_ok, if◌then◌else◌, refl, sym, ap, subst, ◌∙◌, arith}
+use Rattle.std.proofs.Common.{◌≡◌, ℕ, ◌+◌, ◌<◌, ◌≤◌, Result, Ok, Err, OnOk, is_ok, if◌then◌else◌, refl, sym, ap, subst, ◌∙◌, arith}
 use Rattle.std.specs.Arc.{arc_value}
-use Rattle.world_table.specs.Branch.{Branch, reach, joined, IsBranch, IsRow, AreVacantBut}
+use Rattle.world_table.specs.Branch.{Branch, reach, AreVacantBut}
 use Rattle.world_table.proofs.Rows.{child_branch, without_branch, without_block, joined_vacated}
 use Rattle.world_table.proofs.place.Place.+without.Goals as goal
 
@@ -42,7 +42,7 @@ returns-else-is_nothing-clause-entries g t c =
     let there = rw c.deref.ensures at c.index.ensures in
     let same : c.deref-in-Block-2.result.now ≡ (arc_value c.in-Block.places).items = c.deref-in-Block-2.ensures.value ∙ ap (λ v. v.items) c.deref-in-Block.ensures in
     let made = without_block c.in-Block.below c.args.key c.index_of-at.result (arc_value c.in-Block.places).items c.in_ok-branch-in-Block.branch c.index.result.now c.args.self.now
-      sound.1 c.index_of-at.ensures.value c.index_of-at.ensures.within there c.in_ok-branch-in-Block.ensures.entries whole in
+    sound.1 c.index_of-at.ensures.value c.index_of-at.ensures.within there c.in_ok-branch-in-Block.ensures.entries whole in
     rw (same, made) at c.changed.ensures.entries
 
 pub returns-else-is_nothing-clause-counted : goal.returns-else-is_nothing-clause-counted

@@ -16,6 +16,6 @@ returns-then-fits g c =
 pub returns-else-fits : goal.returns-else-fits
 returns-else-fits g c =
     let beyond : reach g.row.LEVELS ≤ c.args.key =
-      ⊎_elim (λ (p : c.args.key < reach g.row.LEVELS). absurd (let no = c.if-fits.ensures.1 p in cc)) (λ (p : reach g.row.LEVELS ≤ c.args.key). p) (cases_lt c.args.key (reach g.row.LEVELS)) in
+    ⊎_elim (λ (p : c.args.key < reach g.row.LEVELS). absurd (let no = c.if-fits.ensures.1 p in cc)) (λ (p : reach g.row.LEVELS ≤ c.args.key). p) (cases_lt c.args.key (reach g.row.LEVELS)) in
     sym (find_beyond g.row.LEVELS c.args.key _ c.self.invariant.1 beyond)
     ∙ ap (λ (t : Contents g.row.R.Denot). find nat_cmp c.args.key t.entries) c.self.view_is

@@ -1,6 +1,5 @@
-use Rattle.std.proofs.Common.{◌≡◌, ℕ, ◌≤◌, ◌<◌, ◌%◌, ◌+◌, ◌^◌, sym, ◌∙◌, ap, refl, arith, length}
+use Rattle.std.proofs.Common.{◌≡◌, ℕ, ◌%◌, ◌+◌, sym, ◌∙◌, ap, arith, length}
 use Rattle.std.proofs.Math.Nat.{mod-eq_of_lt}
-use Rattle.std.specs.Arc.{arc_value}
 use Rattle.std.specs.Ordering.{nat_cmp}
 use Rattle.std.specs.FinMap.{find, put}
 use Rattle.world_table.specs.Branch.{reach}
@@ -22,10 +21,10 @@ invariant_of-result g c =
     let key : c.args.key % reach g.row.LEVELS ≡ c.args.key = mod-eq_of_lt c.requires in
     let put_is : c.in_ok-root.root.entries ≡ put nat_cmp c.args.key c.args.value.value es = rw key at c.in_ok-root.ensures.entries in
     let count : c.match-get_shared.count ≡ length (put nat_cmp c.args.key c.args.value.value es) =
-      elim c.match-get_shared.branch [
-        | in-Some w ↦ w.count-is ∙ c.self.invariant.2 ∙ sym (put_length_some g.row.LEVELS _ _ root _ _ _ c.self.invariant.1 w.in-Some.is found)
-        | in-None w ↦ w.count-is ∙ ap (λ (n : ℕ). n + 1) c.self.invariant.2 ∙ sym (put_length_none g.row.LEVELS _ _ root _ _ c.self.invariant.1 w.in-None.is found)
-      ] in
+    elim c.match-get_shared.branch [
+      | in-Some w ↦ w.count-is ∙ c.self.invariant.2 ∙ sym (put_length_some g.row.LEVELS _ _ root _ _ _ c.self.invariant.1 w.in-Some.is found)
+      | in-None w ↦ w.count-is ∙ ap (λ (n : ℕ). n + 1) c.self.invariant.2 ∙ sym (put_length_none g.row.LEVELS _ _ root _ _ c.self.invariant.1 w.in-None.is found)
+    ] in
     (c.self.invariant.0, made, count ∙ ap length (sym put_is))
 
 pub returns-clause-entries : goal.returns-clause-entries

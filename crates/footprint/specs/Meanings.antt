@@ -1,0 +1,28 @@
+-- What the records and the questions of this crate mean.
+use Rattle.std.specs.Prelude.{List, map}
+use Rattle.moo_spec.specs.World.{ObjectPart, no_object, any_object, this_object, PrepositionPart, no_preposition, any_preposition, preposition_set}
+use Rattle.moo_spec.specs.Questions as meant
+use Rattle.moo_spec.specs.Questions.{about_header, about_slot, about_verbs, about_link, about_ending, the_header, the_slot, the_verbs, the_link, the_ending, new_value}
+use Rattle.footprint.specs.declared.question.Question.{Question}
+use Rattle.footprint.specs.declared.question.Question.TheVariants.{Header as HeaderOf, Slot as SlotOf, Verbs as VerbsOf, Link as LinkOf, Ending as EndingOf}
+use Rattle.footprint.specs.declared.question.Answer.{Answer}
+use Rattle.footprint.specs.declared.question.Answer.TheVariants.{Header, Slot, Verbs, Link, Ending}
+use Rattle.footprint.specs.declared.change.Change.{Change}
+use Rattle.footprint.specs.declared.change.Change.TheVariants.{Value}
+
+abbrev pub question_of : Question → meant.Question
+question_of (HeaderOf o) = about_header o
+question_of (SlotOf o p) = about_slot o p
+question_of (VerbsOf o) = about_verbs o
+question_of (LinkOf c) = about_link c
+question_of EndingOf = about_ending
+
+abbrev pub answer_of : Answer → meant.Answer
+answer_of (Header h) = the_header h
+answer_of (Slot s) = the_slot s
+answer_of (Verbs vs) = the_verbs vs
+answer_of (Link k) = the_link k
+answer_of (Ending b) = the_ending b
+
+abbrev pub change_of : Change → meant.Change
+change_of (Value o p v) = new_value o p v

@@ -1,0 +1,137 @@
+//! Objects.
+ghost use Rattle.std.specs.Prelude.{◌≡◌, IfOk};
+ghost use Rattle.moo_spec.specs.Datum.{fold_case};
+ghost use Rattle.moo_spec.specs.Table.{named, with_name};
+
+use crate::header::Header;
+use crate::slot::Slot;
+use crate::slots::Slots;
+use crate::verb::Verbs;
+use moo_value::text::Text;
+use moo_value::value::Value;
+use std::alloc::{AllocError, Global};
+use std::marker::Model;
+use std::sync::Arc;
+
+/// An object with all that it has. Its parts are shared with the objects that were made from it.
+#[derive(Drop)]
+pub struct Object {
+    header: Header,
+    lists: Arc<Lists>,
+    slots: Slots,
+    verbs: Verbs,
+}
+
+/// The lists of an object: its children and its contents, and the names of the properties that it defines.
+#[derive(Drop)]
+pub struct Lists {
+    pub children: Vec<i32>,
+    pub contents: Vec<i32>,
+    pub defines: Vec<Text>,
+}
+
+impl Model for Object {
+    ghost use Rattle.std.specs.Arc.{arc_value};
+    ghost use Rattle.moo_spec.specs.World.{Object as Meant};
+    ghost use Rattle.moo_spec.specs.WorldCode.{object_code};
+
+    ghost Value = { Meant };
+
+    ghost coded = { object_code };
+
+    ghost view = { λ a. record {
+        name = a.header.name;
+        owner = a.header.owner;
+        parent = a.header.parent;
+        children = (arc_value a.lists).children.items;
+        location = a.header.location;
+        contents = (arc_value a.lists).contents.items;
+        is_player = a.header.is_player;
+        is_programmer = a.header.is_programmer;
+        is_wizard = a.header.is_wizard;
+        readable = a.header.readable;
+        writable = a.header.writable;
+        fertile = a.header.fertile;
+        defines = (arc_value a.lists).defines.items;
+        slots = a.slots;
+        verbs = a.verbs;
+    } };
+}
+
+impl Object {
+    ghost use Rattle.std.specs.Prelude.{option_map, Some};
+    ghost use Rattle.moo_spec.specs.Questions.{header as header_of};
+    ghost use Rattle.footprint.specs.ObjectParts.{object_of};
+
+    /// An object of these parts.
+    pub fn new(alloc: Global, header: Header, lists: Lists, slots: Slots, verbs: Verbs) -> Result<Object, AllocError>
+        ensures { IfOk result (λ x. x ≡ object_of header lists.children.items lists.contents.items lists.defines.items slots verbs) }
+    {
+        let lists = Arc::new(alloc, lists)?;
+        Ok(Object {
+            header,
+            lists,
+            slots,
+            verbs,
+        })
+    }
+
+    /// The header.
+    pub fn header(&self) -> &Header
+        ensures { result.now ≡ header_of self.now }
+    {
+        &self.header
+    }
+
+    /// The children, in their order.
+    pub fn children(&self) -> &[i32]
+        ensures { result.now ≡ self.now.children }
+    {
+        self.lists.children.as_slice()
+    }
+
+    /// The contents, in their order.
+    pub fn contents(&self) -> &[i32]
+        ensures { result.now ≡ self.now.contents }
+    {
+        self.lists.contents.as_slice()
+    }
+
+    /// The names of the properties that it defines, in the order of definition.
+    pub fn defines(&self) -> &[Text]
+        ensures { result.now ≡ self.now.defines }
+    {
+        self.lists.defines.as_slice()
+    }
+
+    /// The slots.
+    pub fn slots(&self) -> &Slots
+        ensures { result.now ≡ self.now.slots }
+    {
+        &self.slots
+    }
+
+    /// The verbs.
+    pub fn verbs(&self) -> &Verbs
+        ensures { result.now ≡ self.now.verbs }
+    {
+        &self.verbs
+    }
+
+    /// The object with another value in a slot, or None where it has no such slot.
+    pub fn with_value(&self, alloc: Global, name: &Text, value: Value) -> Result<Option<Object>, AllocError>
+        ensures { IfOk result (λ x. x ≡ option_map
+            (λ s. record self.now { slots = with_name self.now.slots (fold_case name.now) (record s { content = Some value }) })
+            (named self.now.slots (fold_case name.now))) }
+    {
+        let Some(slots) = self.slots.with_value(alloc, name, value)? else {
+            return Ok(None);
+        };
+        Ok(Some(Object {
+            header: self.header.clone()?,
+            lists: self.lists.clone()?,
+            slots,
+            verbs: self.verbs.clone()?,
+        }))
+    }
+}

@@ -1,0 +1,51 @@
+//! Slots of properties.
+ghost use Rattle.std.specs.Prelude.{◌≡◌, IfOk};
+
+use moo_value::value::Value;
+use std::alloc::AllocError;
+use std::marker::Model;
+
+/// A property's slot on an object: a value, or clear.
+#[derive(Drop)]
+pub struct Slot {
+    pub content: Option<Value>,
+    pub owner: i32,
+    pub readable: bool,
+    pub writable: bool,
+    pub changeable: bool,
+}
+
+impl Model for Slot {
+    ghost use Rattle.moo_spec.specs.World.{Slot as Meant};
+    ghost use Rattle.moo_spec.specs.WorldCode.{slot_code};
+
+    ghost Value = { Meant };
+
+    ghost coded = { slot_code };
+
+    ghost view = { λ a. record {
+        content = a.content;
+        owner = a.owner;
+        readable = a.readable;
+        writable = a.writable;
+        changeable = a.changeable;
+    } };
+}
+
+impl Clone for Slot {
+    ghost is_clone = { λ slot copy. copy ≡ slot };
+
+    fn clone(&self) -> Result<Slot, AllocError> {
+        let content = match &self.content {
+            Some(value) => Some(value.clone()?),
+            None => None,
+        };
+        Ok(Slot {
+            content,
+            owner: self.owner,
+            readable: self.readable,
+            writable: self.writable,
+            changeable: self.changeable,
+        })
+    }
+}

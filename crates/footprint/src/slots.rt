@@ -1,0 +1,132 @@
+//! The slots of an object.
+ghost use Rattle.std.specs.Prelude.{◌≡◌, ◌<◌, ◌↔◌, IfOk, IsTrue, Some, None, [], ◌∷◌, option_map, MatchOption, ℕ, slice_index_or, slice_set, length, vec_len};
+ghost use Rattle.moo_spec.specs.Datum.{Text as Characters, fold_case};
+ghost use Rattle.moo_spec.specs.World.{Slot as SlotOf};
+ghost use Rattle.moo_spec.specs.Table.{named, with_name};
+
+use crate::slot::Slot;
+use moo_value::text::Text;
+use moo_value::value::Value;
+use std::alloc::{AllocError, Global};
+use std::marker::Model;
+
+/// The slots of an object by their properties' names in lower case, in rising order of names.
+#[derive(Drop)]
+pub struct Slots {
+    entries: Vec<(Text, Slot)>,
+}
+
+impl Model for Slots {
+    ghost use Rattle.std.specs.Prelude.{IsTrue};
+    ghost use Rattle.moo_spec.specs.Table.{Named, is_named};
+    ghost use Rattle.moo_spec.specs.World.{Slot as Meant};
+    ghost use Rattle.moo_spec.specs.WorldCode.{named_code, slot_code};
+
+    ghost Value = { Named Meant };
+
+    ghost coded = { named_code slot_code };
+
+    ghost view = { λ a. a.entries.items };
+
+    ghost invariant = { λ a. IsTrue (is_named a.entries.items) };
+}
+
+impl Slots {
+    /// No slots.
+    pub fn new(alloc: Global) -> Slots
+        ensures { result ≡ [] }
+    {
+        Slots {
+            entries: Vec::new(alloc),
+        }
+    }
+
+    /// One slot, by its property's name in lower case.
+    pub fn single(alloc: Global, name: Text, slot: Slot) -> Result<Slots, AllocError>
+        ensures { IfOk result (λ s. s ≡ (name, slot) ∷ []) }
+    {
+        let mut entries = Vec::with_capacity(alloc, 1)?;
+        entries.push((name, slot))?;
+        Ok(Slots { entries })
+    }
+
+    /// The slot of a property. Case is ignored.
+    pub fn get(&self, name: &Text) -> Option<&Slot>
+        ensures { option_map (λ s. s.now) result ≡ named self.now (fold_case name.now) }
+    {
+        match position(&self.entries, name) {
+            Some(index) => Some(&self.entries[index].1),
+            None => None,
+        }
+    }
+
+    /// The slots with another value in one, or None where there is no such slot.
+    pub fn with_value(&self, alloc: Global, name: &Text, value: Value) -> Result<Option<Slots>, AllocError>
+        ensures { IfOk result (λ o. o ≡ option_map
+            (λ s. with_name self.now (fold_case name.now) (record s { content = Some value }))
+            (named self.now (fold_case name.now))) }
+    {
+        let Some(index) = position(&self.entries, name) else {
+            return Ok(None);
+        };
+        let mut entries = copies(alloc, &self.entries)?;
+        fill(&mut entries, index, value);
+        Ok(Some(Slots { entries }))
+    }
+}
+
+// Where the slot of a property stands.
+fn position(entries: &[(Text, Slot)], name: &Text) -> Option<usize>
+    ensures { MatchOption result (named entries.now (fold_case name.now) ≡ None)
+        (λ i. (e : Characters × SlotOf) × (i < length entries.now) × (e ≡ slice_index_or entries.now i e) × (fold_case name.now ≡ e.0)
+            × (named entries.now (fold_case name.now) ≡ Some e.1)) }
+{
+    for (index, entry) in entries.iter().enumerate() {
+        if spells(name, &entry.0) {
+            return Some(index);
+        }
+    }
+    None
+}
+
+// Whether a name in lower case is that of a property.
+fn spells(name: &Text, stored: &Text) -> bool
+    ensures { IsTrue result ↔ (fold_case name.now ≡ stored.now) }
+{
+    is_folded(name.as_str().as_bytes(), stored.as_str().as_bytes())
+}
+
+// Whether the second text is the first with the case of A to Z ignored.
+fn is_folded(text: &[u8], folded: &[u8]) -> bool
+    ensures { IsTrue result ↔ (fold_case text.now ≡ folded.now) }
+{
+    if text.len() != folded.len() {
+        return false;
+    }
+    for (index, byte) in text.iter().enumerate() {
+        if byte.to_ascii_lowercase() != folded[index] {
+            return false;
+        }
+    }
+    true
+}
+
+// The slot at an index has another value.
+fn fill(entries: &mut Vec<(Text, Slot)>, index: usize, value: Value)
+    requires { index < vec_len entries.old }
+    ensures { (e : Characters × SlotOf) × (e ≡ slice_index_or entries.old.items index e)
+        × (entries.new.items ≡ slice_set entries.old.items index (e.0, record e.1 { content = Some value })) }
+{
+    let slot = &mut entries[index].1;
+    slot.content = Some(value);
+}
+
+fn copies(alloc: Global, entries: &[(Text, Slot)]) -> Result<Vec<(Text, Slot)>, AllocError>
+    ensures { IfOk result (λ v. v.items ≡ entries.now) }
+{
+    let mut all = Vec::with_capacity(alloc, entries.len())?;
+    for entry in entries {
+        all.push((entry.0.clone()?, entry.1.clone()?))?;
+    }
+    Ok(all)
+}

@@ -1,0 +1,8 @@
+use Rattle.std.proofs.Common.{ap, rules}
+use Rattle.std.proofs.lemmas.Int.{wraps}
+use Rattle.moo_spec.specs.Datum.{integer}
+use Rattle.moo_spec.specs.Answer.{gives}
+use Rattle.moo_arith.proofs.arithmetic.difference.Goals as goal
+
+pub returns : goal.returns
+returns c = rw c.integer.ensures (ap (λ z. gives (integer z)) (search (rules, wraps)))

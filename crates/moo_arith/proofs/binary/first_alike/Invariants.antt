@@ -1,0 +1,8 @@
+use Rattle.std.proofs.Common.{◌≡◌}
+use Rattle.moo_spec.specs.Datum.{of_list}
+use Rattle.moo_spec.specs.Operators.{alike, first_place}
+use Rattle.moo_arith.proofs.Finding.{further}
+use Rattle.moo_arith.proofs.binary.first_alike.Given as goal
+
+abbrev pub invariant-loop-i : goal.invariant-loop-i
+invariant-loop-i l = further (alike l.value) l.items l.i ≡ first_place (alike l.value) (of_list l.items)

@@ -1,0 +1,13 @@
+use Rattle.std.proofs.Common.{◌≡◌, sym, ◌∙◌, ap, w32, append_assoc, ◌++◌, ◌∷◌, [], List, take, drop, length, ◌-◌}
+use Rattle.std.proofs.lemmas.Int.{to_z-of_z}
+use Rattle.moo_spec.specs.Datum.{list, of_list}
+use Rattle.moo_spec.specs.Answer.{gives, limited}
+use Rattle.moo_arith.proofs.Parts.{set_in_text}
+use Rattle.moo_value.proofs.Listing.{item_count-of_list, take_rest}
+use Rattle.moo_arith.proofs.index.set_character.Goals as goal
+
+pub returns : goal.returns
+returns c =
+    let found = rw (to_z-of_z w32 c.args.place c.ranges.place) at c.in-Some.ensures.place in
+    let joined = rw (c.front.ensures.value, c.back.ensures.value) at c.in_ok-text.ensures in
+    rw (c.limited.ensures, c.text.ensures, joined) (set_in_text c.args.text.now c.args.character.now c.args.place c.in-Some.place found c.in-Some.ensures.inside c.if-character-ne1.false)

@@ -1,0 +1,18 @@
+use Rattle.moo_spec.proofs.SlotKeeps.{slot_keeps}
+use Rattle.moo_spec.proofs.StepKeeps.{segment_keeps, segment_changes_objects, step_keeps, play_keeps}
+use Rattle.moo_spec.proofs.keeping.worlds.Goals as goal
+
+pub returns-clause-slot : goal.returns-clause-slot
+returns-clause-slot c = slot_keeps
+
+pub returns-clause-segment : goal.returns-clause-segment
+returns-clause-segment c = segment_keeps
+
+pub returns-clause-objects : goal.returns-clause-objects
+returns-clause-objects c = segment_changes_objects
+
+pub returns-clause-step : goal.returns-clause-step
+returns-clause-step c = step_keeps
+
+pub returns-clause-list : goal.returns-clause-list
+returns-clause-list c = play_keeps

@@ -1,0 +1,16 @@
+use Rattle.std.proofs.Common.{◌≡◌, ◌<◌, length}
+use Rattle.moo_spec.specs.Datum.{of_list}
+use Rattle.moo_value.proofs.Listing.{sound-without, within}
+use Rattle.moo_value.proofs.value.Value.remove.Goals as goal
+
+pub weight_without-others-requires-clause-inside : goal.weight_without-others-requires-clause-inside
+weight_without-others-requires-clause-inside c = rw (c.deref-2.ensures.value, c.deref.ensures) (within c.in-List.items.value.items c.args.place (rw (← c.self.view_is, c.in-List.is) at c.requires))
+
+pub remove-requires : goal.remove-requires
+remove-requires c = within c.in-List.items.value.items c.args.place (rw (← c.self.view_is, c.in-List.is) at c.requires)
+
+pub invariant_of-self-2 : goal.invariant_of-self-2
+invariant_of-self-2 c =
+    let kept = rw c.in-List.is at c.self.invariant in
+    let others = rw (c.deref-2.ensures.value, c.deref.ensures) at c.weight_without-others.ensures in
+    rw c.in_ok-taken.ensures.after (sound-without (of_list c.in-List.items.value.items) c.args.place c.in-List.weight c.weight_without-others.result kept others)

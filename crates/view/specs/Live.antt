@@ -1,0 +1,18 @@
+-- What a view of the world itself shows.
+use Rattle.std.specs.Prelude.{ℕ}
+use Rattle.std.specs.Option.{unwrap_or}
+use Rattle.moo_spec.specs.World as meant
+use Rattle.world.specs.Counted.{Counted}
+use Rattle.view.specs.declared.live.Forked.{Forked}
+
+-- the world as it was, with this view counted
+abbrev pub start_of : Forked meant.World → Counted
+start_of l = l.world.now
+
+-- the world with the view's changes
+abbrev pub changed_in : Forked meant.World → meant.World
+changed_in l = unwrap_or l.fork l.world.now.plain
+
+-- the borrow of the world
+abbrev pub borrow_of : Forked meant.World → ℕ
+borrow_of l = l.world.ghost_name

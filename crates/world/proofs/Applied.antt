@@ -1,0 +1,39 @@
+-- What a change does to a world's objects.
+use Rattle.std.proofs.Common.{◌≡◌, ℕ, ℤ, Option, Some, None, refl, sym, ◌∙◌, ap, subst, option_map}
+use Rattle.moo_spec.specs.Datum.{Datum, Text, fold_case}
+use Rattle.moo_spec.specs.Table.{named, with_name}
+use Rattle.moo_spec.specs.World.{World, Object, Slot, object_at, with_object}
+use Rattle.moo_spec.specs.Inherit.{slot_of, slot_at, put_slot, with_slot}
+use Rattle.moo_spec.specs.Questions.{apply, new_value, put_value}
+
+-- an object with another value in a slot, where it has that slot
+abbrev pub revalued : Object → Text → Datum → Option Object
+revalued x p v = option_map (λ s. record x { slots = with_name x.slots (fold_case p) (record s { content = Some v }) }) (named x.slots (fold_case p))
+
+-- nothing changes on an object that is not there
+pub no_object_changes : (w : World) (o : ℤ) (p : Text) (v : Datum) → object_at w o ≡ None → apply (new_value o p v) w ≡ w
+no_object_changes w o p v e = ap (λ (x : Option Object). put_value w o p v (slot_of x p)) e
+
+-- nor on an object without that slot
+none_mapped : {A B : Type 0} (f : A → B) (s : Option A) → None ≡ option_map f s → s ≡ None
+none_mapped f None e = refl
+none_mapped f (Some s) e = cc
+
+pub no_slot_changes : (w : World) (o : ℤ) (p : Text) (v : Datum) (x : Object) → object_at w o ≡ Some x → None ≡ revalued x p v → apply (new_value o p v) w ≡ w
+no_slot_changes w o p v x e none =
+    ap (λ (y : Option Object). put_value w o p v (slot_of y p)) e ∙ ap (put_value w o p v) (none_mapped _ (named x.slots (fold_case p)) none)
+
+put_on : (w : World) (o : ℤ) (p : Text) (v : Datum) (x y : Object) (s : Option Slot) → object_at w o ≡ Some x
+    → Some y ≡ option_map (λ t. record x { slots = with_name x.slots (fold_case p) (record t { content = Some v }) }) s → put_value w o p v s ≡ with_object w o y
+unfolding with_slot
+put_on w o p v x y None e is = cc
+put_on w o p v x y (Some s) e is =
+    ap (put_slot w o p (record s { content = Some v })) e ∙ ap (λ (z : Option Object). with_object w o (some_or x z)) (sym is)
+  where
+    some_or : Object → Option Object → Object
+    some_or d None = d
+    some_or d (Some z) = z
+
+-- else that object changes alone
+pub object_changes : (w : World) (o : ℤ) (p : Text) (v : Datum) (x y : Object) → object_at w o ≡ Some x → Some y ≡ revalued x p v → apply (new_value o p v) w ≡ with_object w o y
+object_changes w o p v x y e is = ap (λ (z : Option Object). put_value w o p v (slot_of z p)) e ∙ put_on w o p v x y (named x.slots (fold_case p)) e is

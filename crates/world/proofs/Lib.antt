@@ -1,0 +1,5 @@
+pub mod Maps
+pub mod Applied
+pub mod Settled
+pub mod Changed
+pub mod FixtureIsSimple

@@ -1,0 +1,4 @@
+pub mod Counted
+pub mod Counts
+pub mod Numbered
+pub mod Sound

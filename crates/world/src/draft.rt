@@ -1,0 +1,226 @@
+//! A world between two changes.
+ghost use Rattle.std.specs.Prelude.{◌≡◌, ◌<◌, ℕ, ℤ, pos, negsuc, false, [], max, IfOk, OnOk, OnErr, IsTrue, is_some, option_map, MatchOption};
+ghost use Rattle.moo_spec.specs.Table.{at, with};
+ghost use Rattle.moo_spec.specs.World.{object_at, with_object};
+ghost use Rattle.moo_spec.specs.Inherit.{slot_at};
+ghost use Rattle.moo_spec.specs.Questions.{header_at, verbs_at, ask, apply, apply_all, new_value};
+ghost use Rattle.footprint.specs.Meanings.{question_of, answer_of, change_of};
+ghost use Rattle.world.specs.Numbered.{numbered};
+
+use crate::records::{record_at, with_record};
+use footprint::change::Change;
+use footprint::header::Header;
+use footprint::link::Link;
+use footprint::object::Object;
+use footprint::question::{Answer, Question};
+use footprint::slot::Slot;
+use footprint::verb::Verbs;
+use moo_value::text::Text;
+use moo_value::value::Value;
+use std::alloc::{AllocError, Global};
+use std::marker::Model;
+use world_table::Table;
+
+/// A world that may be between two changes: nothing is promised of it. Its records are shared with the world that it came from.
+#[derive(Drop)]
+pub struct Draft {
+    pub(crate) objects: Table<Object, 4>,
+    pub(crate) links: Table<Link, 4>,
+    pub(crate) greatest: i32,
+    pub(crate) next: u64,
+    pub(crate) ending: bool,
+    pub(crate) alloc: Global,
+}
+
+impl Model for Draft {
+    ghost use Rattle.std.specs.Prelude.{[]};
+    ghost use Rattle.moo_spec.specs.World.{World as Meant};
+    ghost use Rattle.moo_spec.specs.WorldCode.{world_code};
+    ghost use Rattle.world.specs.Numbered.{numbered};
+
+    ghost Value = { Meant };
+
+    ghost coded = { world_code };
+
+    ghost view = { λ a. record {
+        objects = numbered a.objects.entries;
+        tasks = [];
+        links = numbered a.links.entries;
+        greatest = a.greatest;
+        next = a.next;
+        ending = a.ending;
+    } };
+}
+
+impl Draft {
+    /// No objects and no links.
+    pub fn empty(alloc: Global) -> Draft
+        ensures { result ≡ record { objects = []; tasks = []; links = []; greatest = negsuc 0; next = 1; ending = false } }
+    {
+        Draft {
+            objects: Table::empty(alloc),
+            links: Table::empty(alloc),
+            greatest: -1,
+            next: 1,
+            ending: false,
+            alloc,
+        }
+    }
+
+    /// An object more, or another object of that number.
+    #[tactic(auto, using(crate::proofs::Maps::with_positive))]
+    pub fn put_object(&mut self, number: u32, object: Object) -> Result<(), AllocError>
+        requires { number < 1048576 }
+        ensures ok { OnOk result (self.new ≡ with_object self.old (pos number) object) }
+        ensures err { OnErr result (self.new ≡ self.old) }
+    {
+        let objects = self.objects.with(u64::from(number), object)?;
+        self.objects = objects;
+        Ok(())
+    }
+
+    /// A link more, or another link of that number.
+    #[tactic(auto, using(crate::proofs::Maps::with_positive))]
+    pub fn put_link(&mut self, number: u32, link: Link) -> Result<(), AllocError>
+        requires { number < 1048576 }
+        ensures ok { OnOk result (self.new ≡ record (self.old) { links = with self.old.links (pos number) link }) }
+        ensures err { OnErr result (self.new ≡ self.old) }
+    {
+        let links = self.links.with(u64::from(number), link)?;
+        self.links = links;
+        Ok(())
+    }
+
+    /// Another greatest number of objects.
+    pub fn set_greatest(&mut self, greatest: i32)
+        ensures { self.new ≡ record (self.old) { greatest = greatest } }
+    {
+        self.greatest = greatest;
+    }
+
+    /// The next step has at least this number.
+    pub(crate) fn raise(&mut self, next: u64)
+        ensures next { self.new ≡ record (self.old) { next = max next self.old.next } }
+        ensures no_tasks { self.old.tasks ≡ [] }
+    {
+        if self.next < next {
+            self.next = next;
+        }
+    }
+
+    /// The world is not about to end any more.
+    pub(crate) fn reopen(&mut self)
+        ensures ending { self.new ≡ record (self.old) { ending = false } }
+        ensures no_tasks { self.old.tasks ≡ [] }
+    {
+        self.ending = false;
+    }
+
+    /// The same records, with one more owner.
+    pub fn share(&self) -> Result<Draft, AllocError>
+        ensures { IfOk result (λ d. d ≡ self.now) }
+    {
+        Ok(Draft {
+            objects: self.objects.share()?,
+            links: self.links.share()?,
+            greatest: self.greatest,
+            next: self.next,
+            ending: self.ending,
+            alloc: self.alloc,
+        })
+    }
+
+    /// What an object is.
+    fn object(&self, number: i32) -> Option<&Object>
+        ensures { option_map (λ x. x.now) result ≡ object_at self.now number }
+    {
+        record_at(&self.objects, number)
+    }
+
+    fn header(&self, number: i32) -> Result<Option<Header>, AllocError>
+        ensures { IfOk result (λ h. h ≡ header_at self.now number) }
+    {
+        match self.object(number) {
+            Some(object) => Ok(Some(object.header().clone()?)),
+            None => Ok(None),
+        }
+    }
+
+    fn slot(&self, number: i32, name: &Text) -> Result<Option<Slot>, AllocError>
+        ensures { IfOk result (λ s. s ≡ slot_at self.now number name.now) }
+    {
+        let Some(object) = self.object(number) else {
+            return Ok(None);
+        };
+        match object.slots().get(name) {
+            Some(slot) => Ok(Some(slot.clone()?)),
+            None => Ok(None),
+        }
+    }
+
+    fn verbs(&self, number: i32) -> Result<Option<Verbs>, AllocError>
+        ensures { IfOk result (λ v. v ≡ verbs_at self.now number) }
+    {
+        match self.object(number) {
+            Some(object) => Ok(Some(object.verbs().clone()?)),
+            None => Ok(None),
+        }
+    }
+
+    fn link(&self, number: i32) -> Result<Option<Link>, AllocError>
+        ensures { IfOk result (λ k. k ≡ at self.now.links number) }
+    {
+        match record_at(&self.links, number) {
+            Some(link) => Ok(Some(link.clone()?)),
+            None => Ok(None),
+        }
+    }
+
+    /// The answer to a question.
+    pub fn ask(&self, question: &Question) -> Result<Answer, AllocError>
+        ensures { IfOk result (λ a. answer_of a ≡ ask self.now (question_of question.now)) }
+    {
+        match question {
+            Question::Header(object) => Ok(Answer::Header(self.header(*object)?)),
+            Question::Slot(object, name) => Ok(Answer::Slot(self.slot(*object, name)?)),
+            Question::Verbs(object) => Ok(Answer::Verbs(self.verbs(*object)?)),
+            Question::Link(number) => Ok(Answer::Link(self.link(*number)?)),
+            Question::Ending => Ok(Answer::Ending(self.ending)),
+        }
+    }
+
+    /// A change.
+    pub fn put(&mut self, change: Change) -> Result<(), AllocError>
+        ensures ok { OnOk result (self.new ≡ apply (change_of change) self.old) }
+        ensures err { OnErr result (self.new ≡ self.old) }
+    {
+        match change {
+            Change::Value(object, name, value) => self.put_value(object, &name, value),
+        }
+    }
+
+    // Another value in a slot, if there is one.
+    fn put_value(&mut self, number: i32, name: &Text, value: Value) -> Result<(), AllocError>
+        ensures ok { OnOk result (self.new ≡ apply (new_value number name.now value) self.old) }
+        ensures err { OnErr result (self.new ≡ self.old) }
+    {
+        let Some(changed) = self.with_value(number, name, value)? else {
+            return Ok(());
+        };
+        let objects = with_record(&self.objects, number, changed)?;
+        self.objects = objects;
+        Ok(())
+    }
+
+    // The object with another value in a slot, if there is one.
+    #[tactic(auto, using(crate::proofs::Applied::no_object_changes, crate::proofs::Applied::no_slot_changes, crate::proofs::Applied::object_changes))]
+    fn with_value(&self, number: i32, name: &Text, value: Value) -> Result<Option<Object>, AllocError>
+        ensures { IfOk result (λ o. MatchOption o (apply (new_value number name.now value) self.now ≡ self.now)
+            (λ y. IsTrue (is_some (object_at self.now number)) × (apply (new_value number name.now value) self.now ≡ with_object self.now number y))) }
+    {
+        let Some(object) = self.object(number) else {
+            return Ok(None);
+        };
+        object.with_value(self.alloc, name, value)
+    }
+}

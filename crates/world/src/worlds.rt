@@ -1,0 +1,196 @@
+//! Worlds and snapshots.
+ghost use Rattle.std.specs.Prelude.{◌≡◌, ◌+◌, ◌≤◌, ℕ, negsuc, false, [], max, IfOk, OnOk, OnErr};
+ghost use Rattle.moo_spec.specs.Questions.{ask, apply_all};
+ghost use Rattle.footprint.specs.Meanings.{question_of, answer_of};
+ghost use Rattle.world.specs.Sound.{IsSound};
+
+use crate::count::Count;
+use crate::draft::Draft;
+use footprint::question::{Answer, Question};
+use footprint::reads::Changes;
+use std::alloc::{AllocError, Global};
+use std::marker::Model;
+
+/// A world. It is well formed.
+#[derive(Drop)]
+pub struct World {
+    draft: Draft,
+    opened: Count,
+}
+
+impl Model for World {
+    ghost use Rattle.world.specs.Counted.{Counted, counted_code};
+    ghost use Rattle.world.specs.Sound.{IsSound};
+
+    ghost Value = { Counted };
+
+    ghost coded = { counted_code };
+
+    ghost view = { λ a. record { plain = a.draft; opened = a.opened } };
+
+    ghost invariant = { λ a. IsSound a.draft };
+}
+
+/// What a world was. Its records are shared with that world.
+#[derive(Drop)]
+pub struct Snapshot {
+    draft: Draft,
+}
+
+impl Model for Snapshot {
+    ghost use Rattle.moo_spec.specs.World.{World as Meant};
+    ghost use Rattle.moo_spec.specs.WorldCode.{world_code};
+    ghost use Rattle.world.specs.Sound.{IsSound};
+
+    ghost Value = { Meant };
+
+    ghost coded = { world_code };
+
+    ghost view = { λ a. a.draft };
+
+    ghost invariant = { λ a. IsSound a.draft };
+}
+
+impl World {
+    /// No objects and no links. The next step is number 1.
+    #[tactic(auto, using(crate::proofs::Settled::empty_is_sound))]
+    pub fn empty(alloc: Global) -> World
+        ensures plain { result.plain ≡ record { objects = []; tasks = []; links = []; greatest = negsuc 0; next = 1; ending = false } }
+        ensures opened { result.opened ≡ 0 }
+    {
+        World {
+            draft: Draft::empty(alloc),
+            opened: Count::zero(),
+        }
+    }
+
+    /// A draft as a world.
+    pub fn of_draft(draft: Draft) -> World
+        requires { IsSound draft }
+        ensures plain { result.plain ≡ draft }
+        ensures opened { result.opened ≡ 0 }
+    {
+        World {
+            draft,
+            opened: Count::zero(),
+        }
+    }
+
+    /// A world is well formed, with what holds besides until the whole language is there.
+    pub fn know(&self)
+        ensures { IsSound self.now.plain }
+    {
+        let _draft = &self.draft;
+    }
+
+    /// The answer to a question.
+    pub fn ask(&self, question: &Question) -> Result<Answer, AllocError>
+        ensures { IfOk result (λ a. answer_of a ≡ ask self.now.plain (question_of question.now)) }
+    {
+        self.draft.ask(question)
+    }
+
+    /// The number that the next step has.
+    pub fn next(&self) -> u64
+        ensures { result ≡ self.now.plain.next }
+    {
+        self.draft.next
+    }
+
+    /// The world as it is, to be kept. Nothing is copied.
+    pub fn snapshot(&self) -> Result<Snapshot, AllocError>
+        ensures { IfOk result (λ s. s ≡ self.now.plain) }
+    {
+        Ok(Snapshot {
+            draft: self.draft.share()?,
+        })
+    }
+
+    /// The world with changes, made ready.
+    #[tactic(auto, using(crate::proofs::Changed::rest_applied, crate::proofs::Changed::all_applied))]
+    pub fn prepare(&self, changes: &Changes) -> Result<Draft, AllocError>
+        ensures { IfOk result (λ d. d ≡ apply_all changes.now self.now.plain) }
+    {
+        let mut draft = self.draft.share()?;
+        for change in changes.as_slice() {
+            draft.put(change.clone()?)?;
+        }
+        Ok(draft)
+    }
+
+    /// The world becomes what was made ready.
+    pub fn commit(&mut self, draft: Draft)
+        requires { IsSound draft }
+        ensures plain { self.new.plain ≡ draft }
+        ensures opened { self.new.opened ≡ self.old.opened }
+    {
+        self.draft = draft;
+    }
+
+    /// A step of this number has ended: the next one has a greater number.
+    pub fn raise(&mut self, number: u64)
+        requires { number + 1 ≤ 33554432 }
+        ensures plain { self.new.plain ≡ record (self.old.plain) { next = max (number + 1) self.old.plain.next } }
+        ensures opened { self.new.opened ≡ self.old.opened }
+    {
+        self.draft.raise(number + 1);
+    }
+
+    /// The world is not about to end any more.
+    pub fn reopen(&mut self)
+        ensures plain { self.new.plain ≡ record (self.old.plain) { ending = false } }
+        ensures opened { self.new.opened ≡ self.old.opened }
+    {
+        self.draft.reopen();
+    }
+
+    /// A view was opened to change the world.
+    pub fn open(&mut self)
+        ensures plain { self.new.plain ≡ self.old.plain }
+        ensures opened { self.new.opened ≡ self.old.opened + 1 }
+    {
+        self.opened.tick();
+    }
+
+    /// The records of the world, with one more owner.
+    pub fn share(&self) -> Result<Draft, AllocError>
+        ensures { IfOk result (λ d. d ≡ self.now.plain) }
+    {
+        self.draft.share()
+    }
+}
+
+impl Snapshot {
+    /// A snapshot is well formed, with what holds besides until the whole language is there.
+    pub fn know(&self)
+        ensures { IsSound self.now }
+    {
+        let _draft = &self.draft;
+    }
+
+    /// The answer to a question.
+    pub fn ask(&self, question: &Question) -> Result<Answer, AllocError>
+        ensures { IfOk result (λ a. answer_of a ≡ ask self.now (question_of question.now)) }
+    {
+        self.draft.ask(question)
+    }
+
+    /// The records of the snapshot, with one more owner.
+    pub fn share(&self) -> Result<Draft, AllocError>
+        ensures { IfOk result (λ d. d ≡ self.now) }
+    {
+        self.draft.share()
+    }
+
+    /// The snapshot as a world of its own.
+    pub fn into_world(self) -> World
+        ensures plain { result.plain ≡ self }
+        ensures opened { result.opened ≡ 0 }
+    {
+        let Snapshot { draft } = self;
+        World {
+            draft,
+            opened: Count::zero(),
+        }
+    }
+}

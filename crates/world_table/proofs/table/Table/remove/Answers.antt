@@ -1,0 +1,30 @@
+use Rattle.std.proofs.Common.{◌≡◌, ℕ, ◌-◌, is_some, sym, ◌∙◌, ap, length}
+use Rattle.std.specs.Ordering.{nat_cmp}
+use Rattle.std.specs.FinMap.{find}
+use Rattle.world_table.specs.Contents.{Contents}
+use Rattle.world_table.specs.Entries.{without}
+use Rattle.world_table.proofs.Rows.{without_branch}
+use Rattle.world_table.proofs.Roots.{without_absent, without_root, without_length_some, found_within}
+use Rattle.world_table.proofs.table.Table.remove.Goals as goal
+
+pub returns-in_default-clause-ok : goal.returns-in_default-clause-ok
+returns-in_default-clause-ok g c = sym (without_absent c.args.key c.args.self.now.entries (sym c.in_default.ensures))
+
+pub invariant_of-self-2 : goal.invariant_of-self-2
+invariant_of-self-2 g c =
+    let root = c.self.inside.root in
+    let made = c.in_ok-remove.ensures in
+    let found = c.in-Some.ensures ∙ ap (λ (t : Contents g.row.R.Denot). find nat_cmp c.args.key t.entries) (sym c.self.view_is) in
+    let within = found_within g.row.LEVELS c.args.key _ root c.self.invariant.1 found in
+    let is : c.remove.new.self.entries ≡ without c.args.key root.entries = made.entries ∙ without_root g.row.LEVELS c.args.key root c.self.invariant.1 within in (
+      c.self.invariant.0,
+      without_branch g.row.LEVELS _ root c.remove.new.self c.self.invariant.1 c.remove.ensures.height made.lower made.entries,
+      ap (λ (n : ℕ). n - 1) c.self.invariant.2 ∙ sym (without_length_some g.row.LEVELS c.args.key root c.self.invariant.1 (ap is_some (sym found))) ∙ ap length (sym is),
+    )
+
+pub returns-clause-ok : goal.returns-clause-ok
+returns-clause-ok g c =
+    let root = c.self.inside.root in
+    let found = c.in-Some.ensures ∙ ap (λ (t : Contents g.row.R.Denot). find nat_cmp c.args.key t.entries) (sym c.self.view_is) in
+    let within = found_within g.row.LEVELS c.args.key _ root c.self.invariant.1 found in
+    c.in_ok-remove.ensures.entries ∙ without_root g.row.LEVELS c.args.key root c.self.invariant.1 within ∙ ap (λ (t : Contents g.row.R.Denot). without c.args.key t.entries) c.self.view_is

@@ -4,17 +4,19 @@
 mod files;
 mod run;
 
+use moo_server::play::stopped;
 use moo_server::stack::STACK_SIZE;
 use std::process::ExitCode;
 use std::thread::Builder;
 
 fn main(rt: HostRuntime) -> ExitCode {
     let host = rt;
-    match Builder::new()
-        .stack_size(STACK_SIZE)
-        .spawn(&rt, move || run::run(&host))
-    {
+    let job = move || {
+        let mut errors = host.stderr();
+        run::run(&host, &mut errors)
+    };
+    match Builder::new().stack_size(STACK_SIZE).spawn(&rt, job) {
         Ok(handle) => ExitCode::from(handle.join(&rt)),
-        Err(_) => ExitCode::from(run::stopped(&rt)),
+        Err(_) => ExitCode::from(stopped(&mut rt.stderr(), 0)),
     }
 }

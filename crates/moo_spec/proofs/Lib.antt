@@ -11,3 +11,4 @@ pub mod SlotKeeps
 pub mod StepKeeps
 pub mod Lines
 pub mod TurnsStay
+pub mod Sums

@@ -1,10 +1,12 @@
 -- Laws of the definitions, in the subject's own words.
 use Rattle.std.specs.Prelude.{IsTrue, ◌↔◌, ◌≡◌, ◌≢◌, ◌≤◌, ℕ, ℤ, List, ◌++◌, Some, true, is_some}
-use Rattle.moo_spec.specs.Datum.{Datum, Data, same, Text, fold_case}
+use Rattle.moo_spec.specs.Tree.{plus}
+use Rattle.moo_spec.specs.Operators.{binary_value}
+use Rattle.moo_spec.specs.Datum.{Datum, Data, is_value, same, Text, fold_case}
 use Rattle.moo_spec.specs.Table.{with_name, is_named}
 use Rattle.moo_spec.specs.World.{World, Object, Slot, Call, Start, object_at}
 use Rattle.moo_spec.specs.Inherit.{IsLine, ancestors, property_value, slot_at, with_slot}
-use Rattle.moo_spec.specs.Turn.{Pending, cost}
+use Rattle.moo_spec.specs.Turn.{Pending, cost, sum}
 use Rattle.moo_spec.specs.Segment.{Settled, charges, begins, ends, begins_stage, settled, reached, Ended, segment, Course, runs, stops, Leads}
 use Rattle.moo_spec.specs.Commands.{starting}
 use Rattle.moo_spec.specs.Step.{Step, in_range, AllInRange, play1, play}
@@ -133,3 +135,7 @@ OwnValue =
 -- its variables stand in the order of their names
 abbrev pub StartsInOrder : Type 0
 StartsInOrder = (player : ℤ) (c : Call) (s : Start) (args : Data) → is_named (starting player c s args) ≡ true
+
+-- the turn's sum of two values is that of the operator `+`
+abbrev pub SumsAgree : Type 0
+SumsAgree = (x y : Datum) → IsTrue (is_value x) → IsTrue (is_value y) → sum x y ≡ binary_value plus x y

@@ -26,3 +26,4 @@ pub mod Operators
 pub mod Indexing
 pub mod TextSearch
 pub mod Standing
+pub mod PureBuiltins

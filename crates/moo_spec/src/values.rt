@@ -6,3 +6,11 @@ ghost use Rattle.moo_spec.specs.Laws.{SameDecides};
 pub fn equality()
     ensures { SameDecides }
 {}
+
+ghost use Rattle.moo_spec.specs.Laws.{SumsAgree};
+
+/// The sum that a turn makes of two values is that of the operator `+`.
+#[tactic(auto, using(crate::proofs::Sums::sums_agree))]
+pub fn sums()
+    ensures { SumsAgree }
+{}

@@ -1,2 +1,5 @@
-//! moo_text
+//! Search in texts, and replacement of parts of them (Programmer's Manual, "Operations on Strings").
 #![tactic(auto)]
+
+pub mod replace;
+pub mod search;

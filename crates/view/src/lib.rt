@@ -7,3 +7,4 @@
 pub mod law;
 pub mod live;
 pub mod readers;
+pub mod tracked;

@@ -3,3 +3,4 @@ pub mod Applied
 pub mod Settled
 pub mod Changed
 pub mod FixtureIsSimple
+pub mod SoundKeeps

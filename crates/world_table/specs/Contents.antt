@@ -2,7 +2,7 @@
 use Rattle.std.specs.Prelude.{ℕ, List, refl}
 use Rattle.std.specs.Coded.{Coded, code_by, coded×, coded_ℕ, coded_list}
 
--- the entries in rising order of keys, and how many blocks the last change built
+-- the entries in rising order of keys, and how many blocks were built to make the table of the one that it came from
 pub record Contents (V : Type 0) : Type 0 where
   pub entries : List (ℕ × V)
   pub blocks : ℕ

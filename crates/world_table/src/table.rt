@@ -61,6 +61,7 @@ impl<R: Drop, const LEVELS: u32> Table<R, LEVELS> {
     pub fn fits(&self, key: u64) -> bool
         ensures { IsTrue result ↔ key < 2 ^ (5 * LEVELS) }
     {
+        // The type says that there are at most 12 levels, so that the shift is below 64.
         let _root = &self.root;
         key >> (5 * LEVELS) == 0
     }
@@ -81,7 +82,8 @@ impl<R: Drop, const LEVELS: u32> Table<R, LEVELS> {
         self.count == 0
     }
 
-    /// How many blocks the last change built.
+    /// How many blocks were built to make this table of the one that it came from: by `with` or
+    /// `without`, or by all changes in place since `empty` or `fork`.
     pub fn blocks(&self) -> usize
         ensures { result ≡ self.now.blocks }
     {

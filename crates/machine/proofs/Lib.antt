@@ -1,0 +1,4 @@
+pub mod JoinedTexts
+pub mod Messages
+pub mod PropertyRules
+pub mod StepRules

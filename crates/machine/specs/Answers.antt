@@ -1,0 +1,34 @@
+-- What an operation's result means.
+use Rattle.std.specs.Prelude.{◌≡◌, ℤ, Result, Ok, Err, Option, Some, None, IsTrue, is_some}
+use Rattle.moo_spec.specs.Datum.{Datum, Text, ErrorCode, invalid_indirection, property_not_found}
+use Rattle.moo_spec.specs.Answer.{Answer, gives, raises}
+use Rattle.moo_spec.specs.World.{World, Object, Slot, object_at}
+use Rattle.moo_spec.specs.Inherit.{slot_at}
+use Rattle.moo_spec.specs.Turn.{read_valid, write_valid}
+use Rattle.moo_spec.specs.WellFormed.{IsWellFormed}
+use Rattle.moo_value.specs.Errors.{code_of}
+use Rattle.moo_value.specs.declared.error.MooError.{MooError}
+
+abbrev pub answer_of : Result Datum MooError → Answer
+answer_of (Ok v) = gives v
+answer_of (Err e) = raises (code_of e)
+
+-- why an object has no slot of a name
+abbrev pub missing_error : Option Object → ErrorCode
+missing_error None = invalid_indirection
+missing_error (Some x) = property_not_found
+
+-- a property by its object's number and its name
+abbrev pub read_at : World → ℤ → ℤ → Text → Answer
+read_at w who o p = read_valid w who o p (object_at w o)
+
+abbrev pub write_at : World → ℤ → ℤ → Text → Datum → World × Answer
+write_at w who o p v = write_valid w who o p v (object_at w o)
+
+-- so far no property is inherited: a slot that is there is not clear
+pub record IsReadable (w : World) : Type 0 where
+  pub well_formed : IsWellFormed w
+  pub filled : (o : ℤ) (p : Text) (s : Slot) → slot_at w o p ≡ Some s → IsTrue (is_some s.content)
+
+abbrev pub AreReadable : {V : Type 0} → (V → World → Type 0) → (V → World → World) → V → Type 0
+AreReadable holds now view = (w : World) → holds view w → IsReadable (now view w)

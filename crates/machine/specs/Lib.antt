@@ -1,0 +1,4 @@
+pub mod Answers
+pub mod Machine
+pub mod Shown
+pub mod TracedCode

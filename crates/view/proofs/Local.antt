@@ -1,0 +1,129 @@
+-- What an answer becomes by changes follows from the answer before them.
+use Rattle.std.proofs.Common.{◌≡◌, ℕ, ℤ, Bool, true, false, cond, ◌&&◌, List, [], ◌∷◌, Option, Some, None, option_map, refl, sym, ◌∙◌, ap, subst, unwrap_or}
+use Rattle.std.specs.Ordering.{nat_cmp, int_cmp, eq_by_cmp, is_eq}
+use Rattle.std.specs.declared.cmp.Ordering.TheVariants.{Equal}
+use Rattle.std.specs.Cmp.{int_cmp_total, Equal-is}
+use Rattle.std.specs.Cmp.Lexicographic.{slice_cmp, nat_list_cmp_total}
+use Rattle.std.specs.FinMap.{int_cmp-IsAntisymmetric, slice_cmp-IsAntisymmetric, nat_cmp-IsAntisymmetric}
+use Rattle.std.specs.FinMap.Entries.{find-put}
+use Rattle.moo_spec.specs.Datum.{Datum, Text, fold_case}
+use Rattle.moo_spec.specs.Table.{named, with_name}
+use Rattle.moo_spec.specs.World.{World, Object, Slot, object_at, with_object}
+use Rattle.moo_spec.specs.Inherit.{slot_of, slot_at, put_slot, with_slot}
+use Rattle.moo_spec.specs.Questions.{header, Question, about_header, about_slot, about_verbs, about_link, about_ending, Answer, the_header, the_slot, the_verbs, the_link, the_ending, ask, Change, new_value, put_value, apply, apply_all}
+
+abbrev same_number : ℤ → ℤ → Bool
+same_number = eq_by_cmp int_cmp
+
+abbrev same_name : Text → Text → Bool
+same_name = eq_by_cmp (slice_cmp nat_cmp)
+
+number_is : (q o : ℤ) → same_number q o ≡ true → q ≡ o
+number_is q o e = int_cmp-IsAntisymmetric q o ((Equal-is (int_cmp q o)).0 e)
+
+name_is : (s t : Text) → same_name s t ≡ true → s ≡ t
+name_is s t e = slice_cmp-IsAntisymmetric nat_cmp-IsAntisymmetric s t ((Equal-is (slice_cmp nat_cmp s t)).0 e)
+
+object_put : (w : World) (o q : ℤ) (y : Object) → object_at (with_object w o y) q ≡ cond (same_number q o) (Some y) (object_at w q)
+object_put w o q y = find-put int_cmp int_cmp_total q o y w.objects
+
+slot_put : (x : Object) (p r : Text) (t : Slot) → named (with_name x.slots p t) r ≡ cond (same_name r p) (Some t) (named x.slots r)
+slot_put x p r t = find-put (slice_cmp nat_cmp) nat_list_cmp_total r p t x.slots
+
+-- a facet that the change of one object leaves alone
+facet_stays : {A : Type 0} (f : Object → A) (w : World) (o q : ℤ) (x y : Object) → object_at w o ≡ Some x → f y ≡ f x
+    → option_map f (object_at (with_object w o y) q) ≡ option_map f (object_at w q)
+facet_stays f w o q x y is same = ap (option_map f) (object_put w o q y) ∙ go (same_number q o) refl
+  where
+    go : (b : Bool) → same_number q o ≡ b → option_map f (cond b (Some y) (object_at w q)) ≡ option_map f (object_at w q)
+    go true e = ap Some same ∙ sym (ap (option_map f) (ap (object_at w) (number_is q o e) ∙ is))
+    go false e = refl
+
+-- ---- what an answer becomes
+
+abbrev filled : Slot → Datum → Slot
+filled s v = record s { content = Some v }
+
+abbrev refilled : Bool → Datum → Option Slot → Option Slot
+refilled b v s = cond b (option_map (λ t. filled t v) s) s
+
+abbrev after : Change → Question → Answer → Answer
+after (new_value o p v) (about_slot q r) (the_slot s) = the_slot (refilled (same_number q o && same_name (fold_case r) (fold_case p)) v s)
+after c q a = a
+
+unchanged : (b : Bool) (v : Datum) (s : Option Slot) → (b ≡ true → s ≡ None) → s ≡ refilled b v s
+unchanged true v s none = none refl ∙ ap (option_map (λ t. filled t v)) (sym (none refl))
+unchanged false v s none = refl
+
+both_true : (a b : Bool) → (a && b) ≡ true → (a ≡ true) × (b ≡ true)
+both_true true true e = (refl, refl)
+both_true true false e = cc
+both_true false b e = cc
+
+slot_named : Option Object → Text → Option Slot
+slot_named None t = None
+slot_named (Some x) t = named x.slots t
+
+slot_of_named : (x : Option Object) (p : Text) → slot_of x p ≡ slot_named x (fold_case p)
+unfolding slot_named
+slot_of_named None p = refl
+slot_of_named (Some x) p = refl
+
+here : (w : World) (o q : ℤ) (p r : Text) → (same_number q o && same_name (fold_case r) (fold_case p)) ≡ true → slot_at w q r ≡ slot_at w o p
+here w o q p r e =
+    let parts = both_true (same_number q o) (same_name (fold_case r) (fold_case p)) e in
+    ap (λ (n : ℤ). slot_at w n r) (number_is q o parts.0) ∙ slot_of_named (object_at w o) r
+    ∙ ap (slot_named (object_at w o)) (name_is (fold_case r) (fold_case p) parts.1) ∙ sym (slot_of_named (object_at w o) p)
+
+-- where there was no such slot
+nothing_after : (w : World) (o : ℤ) (p : Text) (v : Datum) → slot_at w o p ≡ None → (q : Question) → ask w q ≡ after (new_value o p v) q (ask w q)
+nothing_after w o p v none (about_header q) = refl
+nothing_after w o p v none (about_slot q r) = ap the_slot (unchanged _ v (slot_at w q r) (λ e. here w o q p r e ∙ none))
+nothing_after w o p v none (about_verbs q) = refl
+nothing_after w o p v none (about_link c) = refl
+nothing_after w o p v none about_ending = refl
+
+abbrev revalued : Object → Text → Slot → Object
+revalued x p t = record x { slots = with_name x.slots (fold_case p) t }
+
+slot_after : (w : World) (o q : ℤ) (p r : Text) (v : Datum) (x : Object) (s : Slot) → object_at w o ≡ Some x → named x.slots (fold_case p) ≡ Some s
+    → slot_at (with_object w o (revalued x p (filled s v))) q r ≡ refilled (same_number q o && same_name (fold_case r) (fold_case p)) v (slot_at w q r)
+slot_after w o q p r v x s is at_p =
+    ap (λ (z : Option Object). slot_of z r) (object_put w o q (revalued x p (filled s v))) ∙ on_object (same_number q o) refl
+  where
+    on_name : (c : Bool) → same_name (fold_case r) (fold_case p) ≡ c → cond c (Some (filled s v)) (named x.slots (fold_case r)) ≡ refilled c v (named x.slots (fold_case r))
+    on_name true e = sym (ap (option_map (λ t. filled t v)) (ap (named x.slots) (name_is (fold_case r) (fold_case p) e) ∙ at_p))
+    on_name false e = refl
+
+    on_object : (b : Bool) → same_number q o ≡ b
+        → slot_of (cond b (Some (revalued x p (filled s v))) (object_at w q)) r ≡ refilled (b && same_name (fold_case r) (fold_case p)) v (slot_of (object_at w q) r)
+    on_object true e =
+        slot_put x (fold_case p) (fold_case r) (filled s v) ∙ on_name (same_name (fold_case r) (fold_case p)) refl
+        ∙ ap (λ (z : Option Object). refilled (same_name (fold_case r) (fold_case p)) v (slot_of z r)) (sym (ap (object_at w) (number_is q o e) ∙ is))
+    on_object false e = refl
+
+-- where there was one
+something_after : (w : World) (o : ℤ) (p : Text) (v : Datum) (x : Object) (s : Slot) → object_at w o ≡ Some x → named x.slots (fold_case p) ≡ Some s
+    → (q : Question) → ask (with_object w o (revalued x p (filled s v))) q ≡ after (new_value o p v) q (ask w q)
+something_after w o p v x s is at_p (about_header q) = ap the_header (facet_stays header w o q x (revalued x p (filled s v)) is refl)
+something_after w o p v x s is at_p (about_slot q r) = ap the_slot (slot_after w o q p r v x s is at_p)
+something_after w o p v x s is at_p (about_verbs q) = ap the_verbs (facet_stays (λ z. z.verbs) w o q x (revalued x p (filled s v)) is refl)
+something_after w o p v x s is at_p (about_link c) = refl
+something_after w o p v x s is at_p about_ending = refl
+
+one_after : (c : Change) (w : World) (q : Question) → ask (apply c w) q ≡ after c q (ask w q)
+unfolding with_slot
+one_after (new_value o p v) w q = by_slot (slot_at w o p) refl
+  where
+    by_object : (s : Slot) (z : Option Object) → object_at w o ≡ z → slot_of z p ≡ Some s → ask (put_slot w o p (filled s v) z) q ≡ after (new_value o p v) q (ask w q)
+    by_object s None is e = cc
+    by_object s (Some x) is e = something_after w o p v x s is e q
+
+    by_slot : (s : Option Slot) → slot_at w o p ≡ s → ask (put_value w o p v s) q ≡ after (new_value o p v) q (ask w q)
+    by_slot None e = nothing_after w o p v e q
+    by_slot (Some s) e = by_object s (object_at w o) refl e
+
+-- worlds that answer a question alike still do after changes
+pub alike_after : (cs : List Change) (w v : World) (q : Question) → ask w q ≡ ask v q → ask (apply_all cs w) q ≡ ask (apply_all cs v) q
+alike_after [] w v q e = e
+alike_after (c ∷ cs) w v q e = alike_after cs (apply c w) (apply c v) q (one_after c w q ∙ ap (after c q) e ∙ sym (one_after c v q))

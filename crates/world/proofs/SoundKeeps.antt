@@ -1,0 +1,112 @@
+-- A slot that is there takes another value, and the world stays as it has to be.
+use Rattle.std.proofs.Common.{◌≡◌, ◌≢◌, ℕ, ℤ, Bool, true, false, List, [], ◌∷◌, map, Option, Some, None, refl, sym, ap, ◌∙◌, subst, IsTrue, is_some, ◌&&◌, int_cmp, is_eq, Ordering, Less, Equal, Greater}
+use Rattle.std.specs.Prelude.{option_map, pos}
+use Rattle.std.specs.List.{list_all}
+use Rattle.std.specs.FinMap.{int_cmp-IsAntisymmetric}
+use Rattle.moo_spec.specs.Datum.{Datum, Text, fold_case}
+use Rattle.moo_spec.specs.Table.{named, with_name}
+use Rattle.moo_spec.specs.World.{World, Object, Slot, Verb, object_at}
+use Rattle.moo_spec.specs.Inherit.{slot_of, slot_at, with_slot}
+use Rattle.moo_spec.specs.WellFormed.{IsWellFormed, OfEachObject, has_name, slot_names}
+use Rattle.moo_spec.specs.Turn.{is_wizard, wizardly}
+use Rattle.moo_spec.specs.Turn.{Pending}
+use Rattle.moo_spec.specs.Segment.{segment}
+use Rattle.moo_spec.specs.Step.{Event, run_event}
+use Rattle.moo_spec.specs.Questions.{Change, new_value, put_value, apply}
+use Rattle.moo_spec.proofs.StepKeeps.{segment_holds, event_holds}
+use Rattle.moo_spec.proofs.SlotChanges.{itself, names_total, object_stays, other_objects_stay, world_stays}
+use Rattle.moo_spec.proofs.SlotKeeps.{slot_keeps}
+use Rattle.moo_spec.proofs.Keys.{keys_put}
+use Rattle.moo_spec.proofs.Shapes.{Shape, shape, Alike, carried, by_shape}
+use Rattle.world.specs.Sound.{IsSimple, IsSound, verbs_covered, is_covered}
+use Rattle.std.specs.Ordering.{int_eq}
+use Rattle.std.specs.Cmp.{int_cmp_total}
+
+-- ---- the language so far looks at no slot's content
+
+module _ (w u : World) (alike : Alike w u) where
+  wizard_same : (o : ℤ) → is_wizard w o ≡ is_wizard u o
+  wizard_same o = by_shape w u alike wizardly of_shape same o
+    where
+      of_shape : Option Shape → Bool
+      of_shape None = false
+      of_shape (Some z) = (z.0).is_wizard
+
+      same : (x : Option Object) → wizardly x ≡ of_shape (option_map shape x)
+      same None = refl
+      same (Some x) = refl
+
+  covered_same : (q : ℤ) (x : Object) → verbs_covered w q x ≡ verbs_covered u q x
+  covered_same q x = ap (λ b. list_all (λ v. verb_covered_by b v) x.verbs) (wizard_same (pos 2))
+    where
+      verb_covered_by : Bool → Verb → Bool
+      verb_covered_by b v = int_eq v.owner (pos 2) && b && is_covered v.program
+
+  simple_alike : IsSimple w → IsSimple u
+  simple_alike h =
+      record {
+        verbs = λ q y is. carried w u alike q y is (λ z. verbs_covered w q z.0) (λ z. verbs_covered u q z.0) (λ z. covered_same q z.0) (λ x e. h.verbs q x e);
+        slots = λ q y is.
+            carried w u alike q y is (λ z. list_all (has_name (map fold_case (z.0).defines)) z.1) (λ z. list_all (has_name (map fold_case (z.0).defines)) z.1) (λ z. refl)
+            (λ x e. h.slots q x e);
+      }
+
+-- ---- one slot
+
+others : (o q : ℤ) → (int_cmp o q ≡ Equal → ⊥) → (o ≢ q)
+others o q not_equal e = not_equal (subst (λ z. int_cmp z q ≡ Equal) (sym e) (go (int_cmp q q) refl (itself int_cmp_total q)))
+  where
+    go : (r : Ordering) → int_cmp q q ≡ r → is_eq r ≡ true → int_cmp q q ≡ Equal
+    go Less e h = absurd (cc (h))
+    go Greater e h = absurd (cc (h))
+    go Equal e h = e
+
+module _ (w : World) (o : ℤ) (p : Text) (s t : Slot) (ok : IsWellFormed w) where
+  here : (x : Object) → object_at w o ≡ Some x → named x.slots (fold_case p) ≡ Some s → option_map shape (object_at w o) ≡ option_map shape (object_at (with_slot w o p t) o)
+  here x is found =
+      ap (option_map shape) is ∙ ap Some same_shape ∙ ap (option_map shape) (sym (object_stays w o x p t is))
+    where
+      same_shape : shape x ≡ shape (record x { slots = with_name x.slots (fold_case p) t })
+      same_shape = λ i. (record x { slots = [] }, sym (keys_put names_total (fold_case p) t x.slots (ok.slot_order o x is) (ap is_some found)) i)
+
+  here_or_not : (x : Option Object) → object_at w o ≡ x → slot_of x p ≡ Some s → option_map shape (object_at w o) ≡ option_map shape (object_at (with_slot w o p t) o)
+  here_or_not None is found = absurd (cc (found))
+  here_or_not (Some x) is found = here x is found
+
+  alike_after : slot_at w o p ≡ Some s → Alike w (with_slot w o p t)
+  alike_after found q = go (int_cmp o q) refl
+    where
+      away : (int_cmp o q ≡ Equal → ⊥) → option_map shape (object_at w q) ≡ option_map shape (object_at (with_slot w o p t) q)
+      away h = ap (option_map shape) (sym (other_objects_stay w o q p t (others o q h)))
+
+      go : (r : Ordering) → int_cmp o q ≡ r → option_map shape (object_at w q) ≡ option_map shape (object_at (with_slot w o p t) q)
+      go Equal e = subst (λ z. option_map shape (object_at w z) ≡ option_map shape (object_at (with_slot w o p t) z)) (int_cmp-IsAntisymmetric o q e) (here_or_not (object_at w o) refl found)
+      go Less e = away (λ h. cc (h, e))
+      go Greater e = away (λ h. cc (h, e))
+
+-- the slot's new content is no less there than the old
+pub sound_slot : (w : World) (o : ℤ) (p : Text) (s : Slot) (v : Datum) → IsSound w → slot_at w o p ≡ Some s → IsSound (with_slot w o p (record s { content = Some v }))
+sound_slot w o p s v h found =
+    record {
+      well_formed = slot_keeps w o p s (record s { content = Some v }) h.well_formed found refl;
+      simple = simple_alike w (with_slot w o p (record s { content = Some v })) (alike_after w o p s (record s { content = Some v }) h.well_formed found) h.simple;
+    }
+
+-- ---- changes, writes, segments and steps
+
+pub sound_applied : (c : Change) (w : World) → IsSound w → IsSound (apply c w)
+sound_applied (new_value o p v) w h = go (slot_at w o p) refl
+  where
+    go : (s : Option Slot) → slot_at w o p ≡ s → IsSound (put_value w o p v s)
+    go None e = h
+    go (Some s) e = sound_slot w o p s v h e
+
+pub sound_segment : (t : ℕ) (w : World) (p : Pending) → IsSound w → IsSound (segment t w p).world
+sound_segment = segment_holds IsSound (λ w o p s v e h. sound_slot w o p s v h e)
+
+pub sound_event : (w : World) (e : Event) → IsSound w → IsSound (run_event w e).0
+sound_event = event_holds IsSound (λ w o p s v e h. sound_slot w o p s v h e)
+
+-- a step's event leaves the world's next number
+pub next_stays : (w : World) (e : Event) → ((run_event w e).0).next ≡ w.next
+next_stays w e = event_holds (λ u. u.next ≡ w.next) (λ u o p s v found h. ap (λ (z : World). z.next) (world_stays u o p (record s { content = Some v })) ∙ h) w e refl

@@ -29,16 +29,16 @@ impl Model for Header {
     ghost coded = { header_code };
 
     ghost view = { λ a. record {
-        name = a.name;
-        owner = a.owner;
-        parent = a.parent;
-        location = a.location;
-        is_player = a.is_player;
-        is_programmer = a.is_programmer;
-        is_wizard = a.is_wizard;
-        readable = a.readable;
-        writable = a.writable;
-        fertile = a.fertile;
+      name = a.name;
+      owner = a.owner;
+      parent = a.parent;
+      location = a.location;
+      is_player = a.is_player;
+      is_programmer = a.is_programmer;
+      is_wizard = a.is_wizard;
+      readable = a.readable;
+      writable = a.writable;
+      fertile = a.fertile;
     } };
 }
 

@@ -26,6 +26,8 @@ impl Clone for Link {
     ghost is_clone = { λ link copy. copy ≡ link };
 
     fn clone(&self) -> Result<Link, AllocError> {
-        Ok(Link { person: self.person })
+        Ok(Link {
+            person: self.person,
+        })
     }
 }

@@ -40,21 +40,21 @@ impl Model for Object {
     ghost coded = { object_code };
 
     ghost view = { λ a. record {
-        name = a.header.name;
-        owner = a.header.owner;
-        parent = a.header.parent;
-        children = (arc_value a.lists).children.items;
-        location = a.header.location;
-        contents = (arc_value a.lists).contents.items;
-        is_player = a.header.is_player;
-        is_programmer = a.header.is_programmer;
-        is_wizard = a.header.is_wizard;
-        readable = a.header.readable;
-        writable = a.header.writable;
-        fertile = a.header.fertile;
-        defines = (arc_value a.lists).defines.items;
-        slots = a.slots;
-        verbs = a.verbs;
+      name = a.header.name;
+      owner = a.header.owner;
+      parent = a.header.parent;
+      children = (arc_value a.lists).children.items;
+      location = a.header.location;
+      contents = (arc_value a.lists).contents.items;
+      is_player = a.header.is_player;
+      is_programmer = a.header.is_programmer;
+      is_wizard = a.header.is_wizard;
+      readable = a.header.readable;
+      writable = a.header.writable;
+      fertile = a.header.fertile;
+      defines = (arc_value a.lists).defines.items;
+      slots = a.slots;
+      verbs = a.verbs;
     } };
 }
 
@@ -64,7 +64,13 @@ impl Object {
     ghost use Rattle.footprint.specs.ObjectParts.{object_of};
 
     /// An object of these parts.
-    pub fn new(alloc: Global, header: Header, lists: Lists, slots: Slots, verbs: Verbs) -> Result<Object, AllocError>
+    pub fn new(
+        alloc: Global,
+        header: Header,
+        lists: Lists,
+        slots: Slots,
+        verbs: Verbs,
+    ) -> Result<Object, AllocError>
         ensures { IfOk result (λ x. x ≡ object_of header lists.children.items lists.contents.items lists.defines.items slots verbs) }
     {
         let lists = Arc::new(alloc, lists)?;
@@ -119,7 +125,12 @@ impl Object {
     }
 
     /// The object with another value in a slot, or None where it has no such slot.
-    pub fn with_value(&self, alloc: Global, name: &Text, value: Value) -> Result<Option<Object>, AllocError>
+    pub fn with_value(
+        &self,
+        alloc: Global,
+        name: &Text,
+        value: Value,
+    ) -> Result<Option<Object>, AllocError>
         ensures { IfOk result (λ x. x ≡ option_map
             (λ s. record self.now { slots = with_name self.now.slots (fold_case name.now) (record s { content = Some value }) })
             (named self.now.slots (fold_case name.now))) }

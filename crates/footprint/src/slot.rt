@@ -24,11 +24,11 @@ impl Model for Slot {
     ghost coded = { slot_code };
 
     ghost view = { λ a. record {
-        content = a.content;
-        owner = a.owner;
-        readable = a.readable;
-        writable = a.writable;
-        changeable = a.changeable;
+      content = a.content;
+      owner = a.owner;
+      readable = a.readable;
+      writable = a.writable;
+      changeable = a.changeable;
     } };
 }
 

@@ -61,7 +61,12 @@ impl Slots {
     }
 
     /// The slots with another value in one, or None where there is no such slot.
-    pub fn with_value(&self, alloc: Global, name: &Text, value: Value) -> Result<Option<Slots>, AllocError>
+    pub fn with_value(
+        &self,
+        alloc: Global,
+        name: &Text,
+        value: Value,
+    ) -> Result<Option<Slots>, AllocError>
         ensures { IfOk result (λ o. o ≡ option_map
             (λ s. with_name self.now (fold_case name.now) (record s { content = Some value }))
             (named self.now (fold_case name.now))) }
@@ -79,7 +84,7 @@ impl Slots {
 fn position(entries: &[(Text, Slot)], name: &Text) -> Option<usize>
     ensures { MatchOption result (named entries.now (fold_case name.now) ≡ None)
         (λ i. (e : Characters × SlotOf) × (i < length entries.now) × (e ≡ slice_index_or entries.now i e) × (fold_case name.now ≡ e.0)
-            × (named entries.now (fold_case name.now) ≡ Some e.1)) }
+        × (named entries.now (fold_case name.now) ≡ Some e.1)) }
 {
     for (index, entry) in entries.iter().enumerate() {
         if spells(name, &entry.0) {

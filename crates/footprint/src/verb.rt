@@ -55,16 +55,16 @@ impl Model for Verb {
     ghost use Rattle.footprint.specs.Parts.{object_part_of, preposition_part_of};
 
     ghost view = { λ a. record {
-        names = a.names;
-        owner = a.owner;
-        readable = a.readable;
-        writable = a.writable;
-        callable = a.callable;
-        debug = a.debug;
-        direct = object_part_of a.direct;
-        preposition = preposition_part_of a.preposition;
-        indirect = object_part_of a.indirect;
-        program = a.program;
+      names = a.names;
+      owner = a.owner;
+      readable = a.readable;
+      writable = a.writable;
+      callable = a.callable;
+      debug = a.debug;
+      direct = object_part_of a.direct;
+      preposition = preposition_part_of a.preposition;
+      indirect = object_part_of a.indirect;
+      program = a.program;
     } };
 }
 
@@ -112,7 +112,9 @@ impl Verbs {
     pub fn new(alloc: Global, verbs: Vec<Verb>) -> Result<Verbs, AllocError>
         ensures { IfOk result (λ vs. vs ≡ verbs.items) }
     {
-        Ok(Verbs { items: Arc::new(alloc, verbs)? })
+        Ok(Verbs {
+            items: Arc::new(alloc, verbs)?,
+        })
     }
 
     /// The verbs, in their order.
@@ -127,6 +129,8 @@ impl Clone for Verbs {
     ghost is_clone = { λ verbs copy. copy ≡ verbs };
 
     fn clone(&self) -> Result<Verbs, AllocError> {
-        Ok(Verbs { items: self.items.clone()? })
+        Ok(Verbs {
+            items: self.items.clone()?,
+        })
     }
 }

@@ -1,5 +1,5 @@
 -- Texts that are joined.
-use Rattle.std.proofs.Common.{List, [], ◌∷◌, ◌++◌, IsTrue, refl}
+use Rattle.std.proofs.Common.{[], ◌∷◌, ◌++◌, IsTrue}
 use Rattle.moo_spec.specs.Datum.{Text, is_character, is_text}
 use Rattle.moo_spec.proofs.Entries.{first_holds, second_holds, both_hold}
 

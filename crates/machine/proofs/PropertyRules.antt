@@ -1,8 +1,8 @@
 -- What a read of a property answers, from the slot and the permission.
-use Rattle.std.proofs.Common.{◌≡◌, ℤ, Bool, true, false, ◌||◌, cond, Option, Some, None, IsTrue, is_some, refl, sym, ap, ◌∙◌, subst}
+use Rattle.std.proofs.Common.{◌≡◌, ℤ, true, false, cond, Option, Some, None, IsTrue, is_some, refl, ap, ◌∙◌, subst}
 use Rattle.std.proofs.lemmas.Bool.{false≢true}
-use Rattle.moo_spec.specs.Datum.{Datum, Text, ErrorCode, invalid_indirection, property_not_found, permission_denied}
-use Rattle.moo_spec.specs.Answer.{Answer, gives, raises}
+use Rattle.moo_spec.specs.Datum.{Datum, Text, permission_denied}
+use Rattle.moo_spec.specs.Answer.{Answer, raises}
 use Rattle.moo_spec.specs.World.{World, Object, Slot, object_at}
 use Rattle.moo_spec.specs.Inherit.{slot_of, slot_at, property_value}
 use Rattle.moo_spec.specs.Turn.{may_read, found, read_slot, read_valid}

@@ -1,12 +1,12 @@
 -- What one instruction leaves: the next place, and a world that can be read.
-use Rattle.std.proofs.Common.{◌≡◌, ◌≢◌, ℕ, zero, suc, ◌+◌, ℤ, Bool, true, false, cond, List, [], ◌∷◌, ◌<◌, ltb, length, Option, Some, None, IsTrue, is_some, refl, sym, ap, ◌∙◌, subst}
+use Rattle.std.proofs.Common.{◌≡◌, ℕ, zero, suc, ◌+◌, ℤ, Bool, true, false, cond, List, ◌∷◌, ◌<◌, ltb, length, Option, Some, None, IsTrue, is_some, refl, sym, ap, ◌∙◌, subst}
 use Rattle.std.specs.Prelude.{slice_get}
 use Rattle.std.specs.Ordering.{int_eq}
 use Rattle.std.proofs.lemmas.Bool.Decides.{Decides-int_eq}
 use Rattle.std.proofs.lemmas.Bool.{false≢true, ltb-true, ltb-false}
 use Rattle.std.proofs.lemmas.Option.{slice_get_past}
 use Rattle.std.proofs.lemmas.Slice.Eq.{bytes_eq-Decides}
-use Rattle.moo_spec.specs.Datum.{Datum, integer, object, text, error, list, Text, fold_case, same_text, ErrorCode, permission_denied}
+use Rattle.moo_spec.specs.Datum.{Datum, object, text, error, Text, fold_case, same_text, ErrorCode, permission_denied}
 use Rattle.moo_spec.specs.Answer.{Answer, gives, raises}
 use Rattle.moo_spec.specs.Table.{named}
 use Rattle.moo_spec.specs.World.{World, Object, Slot, Call, object_at}
@@ -16,20 +16,20 @@ use Rattle.moo_spec.proofs.SlotChanges.{slot_is_set, other_objects_stay, other_n
 use Rattle.moo_spec.proofs.SlotKeeps.{slot_keeps}
 use Rattle.moo_value.specs.declared.operator.BinaryOperator.TheVariants.{Plus}
 use Rattle.moo_compiler.specs.declared.code.Instruction.{Instruction}
-use Rattle.moo_compiler.specs.declared.code.Instruction.TheVariants.{Push, Load, Binary, ReadProperty, WriteProperty, Pop, Return, ReturnZero, Missing}
+use Rattle.moo_compiler.specs.declared.code.Instruction.TheVariants.{Push, Load, Binary, ReadProperty, WriteProperty, Pop, Return, ReturnZero}
 use Rattle.machine.specs.Answers.{IsReadable}
 use Rattle.machine.specs.Shown.{shown, step_of}
 use Rattle.machine.specs.declared.state.State.{State}
 use Rattle.machine.specs.declared.state.Did.TheVariants.{Went}
-use Rattle.machine.specs.Machine.{Step, on, returns, fails, lacks_rule, runs_out, lacks_operand, charged, raised, answered, loaded, written, act, step}
+use Rattle.machine.specs.Machine.{Step, on, fails, charged, raised, answered, loaded, act, step}
 
 -- ---- a slot that is there takes another value, and the world can still be read
 
-object_of_slot : (x : Option Object) (p : Text) (s : Slot) → slot_of x p ≡ Some s → (y : Object) × (x ≡ Some y)
+pub object_of_slot : (x : Option Object) (p : Text) (s : Slot) → slot_of x p ≡ Some s → (y : Object) × (x ≡ Some y)
 object_of_slot None p s e = absurd (cc)
 object_of_slot (Some y) p s e = (y, refl)
 
-by_name : (x : Option Object) (p r : Text) → fold_case p ≡ fold_case r → slot_of x p ≡ slot_of x r
+pub by_name : (x : Option Object) (p r : Text) → fold_case p ≡ fold_case r → slot_of x p ≡ slot_of x r
 by_name None p r e = refl
 by_name (Some x) p r e = ap (named x.slots) e
 

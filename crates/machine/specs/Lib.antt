@@ -1,4 +1,5 @@
 pub mod Answers
 pub mod Machine
 pub mod Shown
+pub mod Stands
 pub mod TracedCode

@@ -1,5 +1,5 @@
 -- What one instruction does.
-use Rattle.std.specs.Prelude.{ℕ, zero, suc, ◌+◌, ℤ, pos, List, [], ◌∷◌, Option, Some, None, slice_get, if◌then◌else◌}
+use Rattle.std.specs.Prelude.{ℕ, zero, suc, ◌+◌, pos, List, ◌∷◌, Option, Some, None, slice_get, if◌then◌else◌}
 use Rattle.moo_spec.specs.Datum.{Datum, integer, error, ErrorCode, variable_not_found}
 use Rattle.moo_spec.specs.Answer.{Answer, gives, raises}
 use Rattle.moo_spec.specs.World.{World, Call}
@@ -14,12 +14,12 @@ pub data Step : Type 0 where
   returns : World → Datum → ℕ → Step
   fails : World → ErrorCode → ℕ → Step
   lacks_rule : World → ℕ → Step
-  runs_out : World → Step
+  runs_out : World → ℕ → Step
   lacks_operand : Step
 
 -- one tick, or the end
 abbrev pub charged : World → ℕ → (ℕ → Step) → Step
-charged w zero go = runs_out w
+charged w zero go = runs_out w 0
 charged w (suc t) go = go t
 
 -- without the d bit an error of an expression is its value

@@ -1,5 +1,5 @@
 -- What the machine's structs show of a step.
-use Rattle.std.specs.Prelude.{◌+◌, List, ◌∷◌, Option, Some}
+use Rattle.std.specs.Prelude.{◌+◌, List, ◌∷◌, Some}
 use Rattle.moo_spec.specs.Datum.{Datum}
 use Rattle.moo_spec.specs.Answer.{Answer}
 use Rattle.moo_spec.specs.World.{World, Call}
@@ -15,7 +15,7 @@ shown Went w s = on w s.place s.operands s.slots.items s.ticks
 shown (Returned v) w s = returns w v s.ticks
 shown (Failed e) w s = fails w (code_of e) s.ticks
 shown LacksRule w s = lacks_rule w s.ticks
-shown RanOut w s = runs_out w
+shown RanOut w s = runs_out w s.ticks
 shown LacksOperand w s = lacks_operand
 
 -- a value put on top

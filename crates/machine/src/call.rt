@@ -28,12 +28,12 @@ impl Model for Call {
     ghost coded = { call_code };
 
     ghost view = { λ a. record {
-        this = a.this;
-        caller = a.caller;
-        definer = a.definer;
-        programmer = a.programmer;
-        verb = a.verb;
-        debug = a.debug;
+      this = a.this;
+      caller = a.caller;
+      definer = a.definer;
+      programmer = a.programmer;
+      verb = a.verb;
+      debug = a.debug;
     } };
 }
 
@@ -57,11 +57,11 @@ impl Model for Start {
     ghost coded = { start_code };
 
     ghost view = { λ a. record {
-        argstr = a.argstr;
-        dobj = a.dobj;
-        dobjstr = a.dobjstr;
-        prepstr = a.prepstr;
-        iobj = a.iobj;
-        iobjstr = a.iobjstr;
+      argstr = a.argstr;
+      dobj = a.dobj;
+      dobjstr = a.dobjstr;
+      prepstr = a.prepstr;
+      iobj = a.iobj;
+      iobjstr = a.iobjstr;
     } };
 }

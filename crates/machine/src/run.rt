@@ -1,15 +1,17 @@
 //! Runs of verbs.
-ghost use Rattle.std.specs.Prelude.{◌≡◌, ◌≤◌, ◌-◌, ◌++◌, ℕ, List, [], Some, None, map, replicate, IfOk, OnOk};
+ghost use Rattle.std.specs.Prelude.{◌≡◌, ◌≤◌, ◌-◌, [], ◌∷◌, IfOk, OnOk};
 ghost use Rattle.moo_spec.specs.Literal.{error_message};
+ghost use Rattle.moo_spec.specs.Turn.{traced, failure as failure_of};
+ghost use Rattle.moo_spec.specs.Segment.{segment, stopped};
 ghost use Rattle.moo_value.specs.Errors.{code_of};
-ghost use Rattle.view.specs.Law.{Goes};
-ghost use Rattle.machine.specs.Answers.{AreReadable};
+ghost use Rattle.view.specs.Law.{Goes, AreSound};
+ghost use Rattle.machine.specs.Stands.{Verb, Standing, pending, StandsFor, stop_meant, failure_meant, IsStop};
 
 use crate::call::Call;
 use crate::natives::Natives;
 use crate::state::{Did, State};
-use crate::task::Run;
 use crate::stop::{Failure, Stop, Stopped, Traced};
+use crate::task::Run;
 use moo_value::error::MooError;
 use moo_value::text::Text;
 use moo_value::value::Value;
@@ -25,10 +27,12 @@ pub fn run<V: View, N: Natives>(
     ticks: u32,
 ) -> Result<Stopped, AllocError>
     requires home { V.holds view.old (V.home view.old) }
-    requires readable { AreReadable V.holds V.now view.old }
+    requires sound { AreSound V.holds V.now view.old }
     ensures anchor { V.anchor view.new ≡ V.anchor view.old }
     ensures home { V.home view.new ≡ V.home view.old }
     ensures stays { OnOk result (V.holds view.new (V.home view.new)) }
+    ensures stopped { IfOk result (λ s. (f : Verb) (a : Standing) → StandsFor run f a → Goes V.holds V.now view.old view.new
+        (λ before after. segment ticks before (pending f a) ≡ stopped after (stop_meant s.stop) (ticks - s.ticks_used))) }
     ensures used { IfOk result (λ s. s.ticks_used ≤ ticks) }
 {
     let Run {
@@ -61,7 +65,9 @@ pub fn run<V: View, N: Natives>(
 }
 
 // How the run ended.
-fn stop_after(alloc: Global, player: i32, call: &Call, did: Did) -> Result<Stop, AllocError> {
+fn stop_after(alloc: Global, player: i32, call: &Call, did: Did) -> Result<Stop, AllocError>
+    ensures { IfOk result (λ s. IsStop player call.now did (stop_meant s)) }
+{
     match did {
         Did::Returned(value) => Ok(Stop::Done(value)),
         Did::Failed(error) => {
@@ -78,7 +84,9 @@ fn stop_after(alloc: Global, player: i32, call: &Call, did: Did) -> Result<Stop,
 }
 
 // An error with its own text and no value besides.
-fn failure(alloc: Global, error: MooError, traceback: Vec<Traced>) -> Result<Failure, AllocError> {
+fn failure(alloc: Global, error: MooError, traceback: Vec<Traced>) -> Result<Failure, AllocError>
+    ensures { IfOk result (λ f. failure_meant f ≡ failure_of (code_of error) traceback.items) }
+{
     Ok(Failure {
         code: Value::error(error),
         message: message_of(alloc, error)?,
@@ -87,7 +95,9 @@ fn failure(alloc: Global, error: MooError, traceback: Vec<Traced>) -> Result<Fai
     })
 }
 
-fn verbs_under_way(alloc: Global, player: i32, call: &Call) -> Result<Vec<Traced>, AllocError> {
+fn verbs_under_way(alloc: Global, player: i32, call: &Call) -> Result<Vec<Traced>, AllocError>
+    ensures { IfOk result (λ verbs. verbs.items ≡ traced player call.now ∷ []) }
+{
     let verb = call.verb.clone()?;
     let mut verbs = Vec::new(alloc);
     verbs.push(Traced {

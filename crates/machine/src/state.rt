@@ -173,7 +173,12 @@ impl State {
         self.answer(call, answer)
     }
 
-    fn write<V: View>(&mut self, alloc: Global, view: &mut V, call: &Call) -> Result<Did, AllocError>
+    fn write<V: View>(
+        &mut self,
+        alloc: Global,
+        view: &mut V,
+        call: &Call,
+    ) -> Result<Did, AllocError>
         requires { self.old.place + 1 < 2 ^ 64 }
         ensures anchor { V.anchor view.new ≡ V.anchor view.old }
         ensures home { V.home view.new ≡ V.home view.old }

@@ -49,10 +49,10 @@ impl Model for Traced {
     ghost coded = { traced_code };
 
     ghost view = { λ a. record {
-        this = a.this;
-        verb = a.verb;
-        programmer = a.programmer;
-        definer = a.definer;
-        player = a.player;
+      this = a.this;
+      verb = a.verb;
+      programmer = a.programmer;
+      definer = a.definer;
+      player = a.player;
     } };
 }

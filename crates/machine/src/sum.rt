@@ -15,7 +15,11 @@ const LONGEST: usize = 65_535;
 
 #[tactic(auto, unfolding(moo_spec::specs::Turn::sum))]
 /// The sum of two integers, which wraps at 32 bits, or two texts joined.
-pub fn sum(alloc: Global, left: &Value, right: &Value) -> Result<Result<Value, MooError>, AllocError>
+pub fn sum(
+    alloc: Global,
+    left: &Value,
+    right: &Value,
+) -> Result<Result<Value, MooError>, AllocError>
     ensures { IfOk result (λ a. answer_of a ≡ sum_of left.now right.now) }
 {
     left.know();

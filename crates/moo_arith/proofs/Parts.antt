@@ -6,7 +6,9 @@ use Rattle.moo_spec.specs.Datum.{range_error}
 use Rattle.moo_spec.specs.Answer.{Answer, gives, raises, limited}
 use Rattle.moo_spec.specs.Indexing.{character, place_in, part_of, cut_of, text_index, list_index, list_part, text_with, list_with_part}
 use Rattle.moo_spec.specs.Places.{item_count, first_items, later_items}
-use Rattle.moo_value.proofs.Listing.{item_count-of_list, item_at-of_list, first_items-of_list, later_items-of_list, of_list-append}
+use Rattle.std.proofs.Common.{min}
+use Rattle.std.proofs.lemmas.List.{drop_all, take_all}
+use Rattle.moo_value.proofs.Listing.{take_rest, item_count-of_list, item_at-of_list, first_items-of_list, later_items-of_list, of_list-append}
 
 pub one_character : (t : List ℕ) (i : ℕ) → i < length t → character (slice_get t i) ≡ gives (text (take 1 (drop i t)))
 one_character [] i h = absurd (omega arith)
@@ -58,3 +60,19 @@ set_range_of_list xs ys a b s n e = rw (item_count-of_list xs, ← e, around_par
 
 pub set_in_text : (t u : List ℕ) (i : ℤ) (p : ℕ) → Some p ≡ place_in (length t) i → p < length t → length u ≡ 1 → limited (text (take p t ++ (u ++ drop (p + 1) t))) ≡ text_with t (place_in (length t) i) u
 set_in_text t u i p e h k = rw (← e) (sym (with_character t u p h k))
+
+-- ---- the first items and those behind them, however many there are
+
+drop_min : (xs : List Datum) (n : ℕ) → drop (min n (length xs)) xs ≡ drop n xs
+drop_min [] n = let e : min n 0 ≡ 0 = omega arith in rw e (sym (drop_all n [] (omega arith)))
+drop_min (x ∷ xs) zero = let e : min 0 (length (x ∷ xs)) ≡ 0 = omega arith in ap (λ k. drop k (x ∷ xs)) e
+drop_min (x ∷ xs) (suc n) = let e : min (suc n) (suc (length xs)) ≡ suc (min n (length xs)) = omega arith in ap (λ k. drop k (x ∷ xs)) e ∙ drop_min xs n
+
+pub take_min : (xs : List Datum) (n : ℕ) → take (min n (length xs)) xs ≡ take n xs
+take_min [] n = let e : min n 0 ≡ 0 = omega arith in rw e (sym (take_all n [] (omega arith)))
+take_min (x ∷ xs) zero = let e : min 0 (length (x ∷ xs)) ≡ 0 = omega arith in ap (λ k. take k (x ∷ xs)) e
+take_min (x ∷ xs) (suc n) = let e : min (suc n) (suc (length xs)) ≡ suc (min n (length xs)) = omega arith in ap (λ k. take k (x ∷ xs)) e ∙ ap (λ ys. x ∷ ys) (take_min xs n)
+
+pub behind_is : (xs : List Datum) (n m : ℕ) → m ≡ min n (length xs) → of_list (take (length xs - m) (drop m xs)) ≡ later_items n (of_list xs)
+behind_is xs n m e =
+    ap of_list (take_rest xs m) ∙ ap (λ k. of_list (drop k xs)) e ∙ ap of_list (drop_min xs n) ∙ sym (later_items-of_list n xs)

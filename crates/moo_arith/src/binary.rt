@@ -16,7 +16,12 @@ use moo_value::value::{Shown, Value};
 use std::alloc::{AllocError, Global};
 
 /// What an operator between two operands answers.
-pub fn binary(alloc: Global, operator: BinaryOperator, left: &Value, right: &Value) -> Result<Answer, AllocError>
+pub fn binary(
+    alloc: Global,
+    operator: BinaryOperator,
+    left: &Value,
+    right: &Value,
+) -> Result<Answer, AllocError>
     ensures { IfOk result (λ r. answer_of r ≡ binary_value (binary_of operator) left.now right.now) }
 {
     match operator {

@@ -53,8 +53,12 @@ pub fn range(alloc: Global, base: &Value, first: &Value, last: &Value) -> Result
 {
     base.know();
     match (base.shown(), first.shown(), last.shown()) {
-        (Shown::Text(text), Shown::Integer(first), Shown::Integer(last)) => text_range(alloc, text, first, last),
-        (Shown::List(items), Shown::Integer(first), Shown::Integer(last)) => list_range(alloc, items, first, last),
+        (Shown::Text(text), Shown::Integer(first), Shown::Integer(last)) => text_range(
+            alloc, text, first, last,
+        ),
+        (Shown::List(items), Shown::Integer(first), Shown::Integer(last)) => list_range(
+            alloc, items, first, last,
+        ),
         _ => Ok(Err(MooError::TypeMismatch)),
     }
 }
@@ -82,7 +86,12 @@ fn list_range(alloc: Global, items: &[Value], first: i32, last: i32) -> Result<A
 }
 
 /// The base with another character or item at a place. A list that has no other owner is changed in place.
-pub fn set_index(alloc: Global, base: Value, place: &Value, value: Value) -> Result<Answer, AllocError>
+pub fn set_index(
+    alloc: Global,
+    base: Value,
+    place: &Value,
+    value: Value,
+) -> Result<Answer, AllocError>
     ensures { IfOk result (λ r. answer_of r ≡ set_index_value base place.now value) }
 {
     base.know();
@@ -99,7 +108,12 @@ pub fn set_index(alloc: Global, base: Value, place: &Value, value: Value) -> Res
     }
 }
 
-fn set_character(alloc: Global, text: &str, place: i32, character: &str) -> Result<Answer, AllocError>
+fn set_character(
+    alloc: Global,
+    text: &str,
+    place: i32,
+    character: &str,
+) -> Result<Answer, AllocError>
     requires text { IsTrue (is_text text.now) }
     requires character { IsTrue (is_text character.now) }
     ensures { IfOk result (λ r. answer_of r ≡ text_with text.now (place_in_of (length text.now) place) character.now) }
@@ -115,7 +129,13 @@ fn set_character(alloc: Global, text: &str, place: i32, character: &str) -> Resu
 }
 
 /// The base with another part from one place to another: what lies before the first, then the value, then what lies behind the last.
-pub fn set_range(alloc: Global, base: &Value, first: &Value, last: &Value, value: &Value) -> Result<Answer, AllocError>
+pub fn set_range(
+    alloc: Global,
+    base: &Value,
+    first: &Value,
+    last: &Value,
+    value: &Value,
+) -> Result<Answer, AllocError>
     ensures { IfOk result (λ r. answer_of r ≡ set_range_value base.now first.now last.now value.now) }
 {
     base.know();
@@ -131,7 +151,13 @@ pub fn set_range(alloc: Global, base: &Value, first: &Value, last: &Value, value
     }
 }
 
-fn set_text_range(alloc: Global, text: &str, first: i32, last: i32, between: &str) -> Result<Answer, AllocError>
+fn set_text_range(
+    alloc: Global,
+    text: &str,
+    first: i32,
+    last: i32,
+    between: &str,
+) -> Result<Answer, AllocError>
     requires text { IsTrue (is_text text.now) }
     requires between { IsTrue (is_text between.now) }
     ensures { IfOk result (λ r. answer_of r ≡ text_with_part text.now (cut_of (length text.now) first last) between.now) }
@@ -143,7 +169,13 @@ fn set_text_range(alloc: Global, text: &str, first: i32, last: i32, between: &st
     Ok(limited(Value::text(text)))
 }
 
-fn set_list_range(alloc: Global, items: &[Value], first: i32, last: i32, between: &[Value]) -> Result<Answer, AllocError>
+fn set_list_range(
+    alloc: Global,
+    items: &[Value],
+    first: i32,
+    last: i32,
+    between: &[Value],
+) -> Result<Answer, AllocError>
     ensures { IfOk result (λ r. answer_of r ≡ list_with_part (of_list items.now) (cut_of (item_count (of_list items.now)) first last) (of_list between.now)) }
 {
     let Some((start, end)) = cut(items.len(), first, last) else {
@@ -165,7 +197,7 @@ fn set_item(mut list: Value, place: usize, item: Value) -> Result<Answer, AllocE
     Ok(limited(list))
 }
 
-fn push_all(items: &mut Vec<Value>, more: &[Value]) -> Result<(), AllocError>
+pub(crate) fn push_all(items: &mut Vec<Value>, more: &[Value]) -> Result<(), AllocError>
     ensures { OnOk result (items.new.items ≡ items.old.items ++ more.now) }
 {
     for item in more {
@@ -186,8 +218,8 @@ pub fn place_in(count: usize, place: i32) -> Option<usize>
     if place < count { Some(place) } else { None }
 }
 
-// The same among the items of a list.
-fn item_place(items: &[Value], place: i32) -> Option<usize>
+/// The same among the items of a list.
+pub fn item_place(items: &[Value], place: i32) -> Option<usize>
     ensures place { result ≡ place_in_of (item_count (of_list items.now)) place }
     ensures inside { IfSome result (λ i. i < item_count (of_list items.now)) }
 {
@@ -222,9 +254,13 @@ fn cut(count: usize, first: i32, last: i32) -> Option<(usize, usize)>
     Some((start, natural(last).min(count)))
 }
 
-// The number, or 0 for a negative one.
-fn natural(number: i32) -> usize
+/// The number, or 0 for a negative one.
+pub fn natural(number: i32) -> usize
     ensures { result ≡ natural_of number }
 {
-    if number < 0 { 0 } else { number.unsigned_abs() as usize }
+    if number < 0 {
+        0
+    } else {
+        number.unsigned_abs() as usize
+    }
 }

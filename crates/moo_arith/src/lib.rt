@@ -6,3 +6,4 @@
 pub mod arithmetic;
 pub mod binary;
 pub mod index;
+pub mod scatter;

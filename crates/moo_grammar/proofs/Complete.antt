@@ -1,21 +1,17 @@
 -- Each program is taken to its end, and what is put out is its postfix order.
-use Rattle.std.proofs.Common.{◌≡◌, ℕ, Bool, true, false, cond, List, [], ◌∷◌, ◌++◌, length, Option, Some, None, refl, sym, ap, ◌∙◌, subst}
-use Rattle.moo_spec.specs.Datum as datum
+use Rattle.std.proofs.Common.{◌≡◌, ℕ, true, cond, List, [], ◌∷◌, ◌++◌, length, Some, None, refl, sym, ap, ◌∙◌}
 use Rattle.moo_token.specs.declared.token.Sign.{Sign}
 use Rattle.moo_token.specs.declared.token.Sign.TheVariants as sign
-use Rattle.moo_token.specs.declared.token.Keyword.{Keyword}
-use Rattle.moo_token.specs.declared.token.Keyword.TheVariants as word
 use Rattle.moo_token.specs.Tokens as t
 use Rattle.moo_token.specs.Tokens.{Token}
 use Rattle.moo_grammar.specs.declared.machine.Frame.{Frame}
 use Rattle.moo_grammar.specs.declared.machine.Frame.TheVariants as f
 use Rattle.moo_grammar.specs.declared.machine.Shape.{Shape}
 use Rattle.moo_grammar.specs.declared.machine.Shape.TheVariants as s
-use Rattle.moo_grammar.specs.declared.machine.Mode.{Mode}
 use Rattle.moo_grammar.specs.declared.machine.Mode.TheVariants as m
 use Rattle.moo_grammar.specs.Grammar as g
 use Rattle.moo_grammar.specs.Grammar.{Expression, sum, assign, Sum, operand, plus, Operand, literal, variable, paren, read, Reference, property, system, Name, plain, computed, Line, skip, evaluate, give, give_zero, Lines, none, also, opening, closing, semicolon, return_word, literal_token, with_expression, with_sum, with_operand, with_reference, with_name, with_line, with_lines}
-use Rattle.moo_grammar.specs.Postfix.{Put, and_put, plus_op, to_property_op, put_expression, put_sum, put_operand, put_parts, put_name, put_line, put_lines}
+use Rattle.moo_grammar.specs.Postfix.{Put, and_put, to_property_op, put_expression, put_sum, put_operand, put_parts, put_name, put_line, put_lines}
 use Rattle.moo_grammar.specs.Machine as by
 use Rattle.moo_grammar.specs.Machine.{State, go, step, reach, is_free, lower_sum, lower_all, settled, at_operand, sign_operand, close, end_statement, assign_to}
 use Rattle.moo_grammar.proofs.Runs.{reach_more}

@@ -1,10 +1,8 @@
 -- From wherever the machine stands, a program can go on.
-use Rattle.std.proofs.Common.{◌≡◌, ℕ, Bool, true, false, List, [], ◌∷◌, ◌++◌, length, Option, Some, None, refl, sym, ap, ◌∙◌, append_assoc, append-nil}
-use Rattle.moo_token.specs.declared.token.Sign.TheVariants as sign
+use Rattle.std.proofs.Common.{◌≡◌, ℕ, true, List, [], ◌∷◌, ◌++◌, length, refl, sym, ap, ◌∙◌, append_assoc, append-nil}
 use Rattle.moo_token.specs.Tokens as t
 use Rattle.moo_token.specs.Tokens.{Token}
 use Rattle.moo_grammar.specs.declared.machine.Frame.{Frame}
-use Rattle.moo_grammar.specs.declared.machine.Frame.TheVariants as f
 use Rattle.moo_grammar.specs.declared.machine.Shape.{Shape}
 use Rattle.moo_grammar.specs.declared.machine.Shape.TheVariants as s
 use Rattle.moo_grammar.specs.declared.machine.Mode.{Mode}

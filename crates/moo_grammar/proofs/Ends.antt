@@ -1,5 +1,5 @@
 -- The end of operators.
-use Rattle.std.proofs.Common.{◌≡◌, ℕ, Bool, true, false, List, [], ◌∷◌, ◌++◌, length, refl}
+use Rattle.std.proofs.Common.{◌≡◌, ℕ, true, List, length, refl}
 use Rattle.moo_token.specs.Tokens.{Token}
 use Rattle.moo_grammar.specs.declared.machine.Frame.{Frame}
 use Rattle.moo_grammar.specs.declared.machine.Shape.{Shape}

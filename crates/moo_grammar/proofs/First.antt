@@ -1,5 +1,5 @@
 -- The first fault.
-use Rattle.std.proofs.Common.{◌≡◌, ◌+◌, ◌<◌, ◌≤◌, ℕ, Bool, true, false, List, [], ◌∷◌, ◌++◌, Option, Some, None, length, take, get_or, refl, sym, ap, ◌∙◌, subst, arith, add-one}
+use Rattle.std.proofs.Common.{◌≡◌, ◌+◌, ◌<◌, ℕ, true, false, List, [], ◌∷◌, ◌++◌, Option, Some, None, length, take, get_or, refl, sym, ap, ◌∙◌, subst, arith, add-one}
 use Rattle.std.proofs.Math.Seq.{take-suc, take-length}
 use Rattle.std.proofs.lemmas.List.{length-take-le}
 use Rattle.moo_spec.specs.Tree.{Statement, Program, the_end}
@@ -10,7 +10,7 @@ use Rattle.moo_grammar.specs.declared.machine.Mode.TheVariants as m
 use Rattle.moo_grammar.specs.Grammar.{Lines, with_lines, tree_lines, IsProgram}
 use Rattle.moo_grammar.specs.Postfix.{Put, put_lines}
 use Rattle.moo_grammar.specs.Faults.{CanBegin, IsFault}
-use Rattle.moo_grammar.specs.Machine.{State, step, and_step, run, start, reach, go, is_done}
+use Rattle.moo_grammar.specs.Machine.{State, step, run, start, reach, go, is_done}
 use Rattle.moo_grammar.proofs.Runs.{run_append, run_none, reach_more}
 use Rattle.moo_grammar.proofs.Stands.{IsKept}
 use Rattle.moo_grammar.proofs.Sound.{stands, sound}

@@ -1,5 +1,5 @@
 -- The machine over longer lists of tokens.
-use Rattle.std.proofs.Common.{◌≡◌, ℕ, zero, suc, ◌+◌, List, [], ◌∷◌, ◌++◌, length, Option, Some, None, refl, sym, ap, ◌∙◌, arith}
+use Rattle.std.proofs.Common.{◌≡◌, ℕ, suc, ◌+◌, List, [], ◌∷◌, ◌++◌, length, Option, Some, None, refl, ap, ◌∙◌, arith}
 use Rattle.moo_token.specs.Tokens.{Token}
 use Rattle.moo_grammar.specs.Machine.{State, step, and_step, run, start, reach}
 

@@ -1,5 +1,5 @@
 -- What the machine took stands in the grammar.
-use Rattle.std.proofs.Common.{◌≡◌, ℕ, zero, suc, ◌+◌, Bool, true, false, cond, List, [], ◌∷◌, ◌++◌, length, length-append, Option, Some, None, refl, sym, ap, ◌∙◌, subst, append_assoc, append-nil, arith}
+use Rattle.std.proofs.Common.{◌≡◌, ℕ, suc, ◌+◌, Bool, true, false, cond, List, [], ◌∷◌, ◌++◌, length, length-append, Option, Some, None, refl, sym, ◌∙◌, subst, append_assoc, append-nil, arith}
 use Rattle.moo_token.specs.declared.token.Sign.{Sign}
 use Rattle.moo_token.specs.declared.token.Sign.TheVariants as sign
 use Rattle.moo_token.specs.declared.token.Keyword.{Keyword}
@@ -9,7 +9,6 @@ use Rattle.moo_token.specs.Tokens.{Token}
 use Rattle.moo_grammar.specs.declared.machine.Frame.{Frame}
 use Rattle.moo_grammar.specs.declared.machine.Frame.TheVariants as f
 use Rattle.moo_grammar.specs.declared.machine.Shape.{Shape}
-use Rattle.moo_grammar.specs.declared.machine.Shape.TheVariants as s
 use Rattle.moo_grammar.specs.declared.machine.Mode.{Mode}
 use Rattle.moo_grammar.specs.declared.machine.Mode.TheVariants as m
 use Rattle.moo_grammar.specs.Grammar as g

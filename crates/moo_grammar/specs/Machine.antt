@@ -1,5 +1,5 @@
 -- A machine that takes a token at a time. It keeps a list of what was begun, the newest first, and what it has put out.
-use Rattle.std.specs.Prelude.{◌≡◌, ℕ, suc, pos, ◌+◌, Bool, true, false, if◌then◌else◌, List, [], ◌∷◌, ◌++◌, length, Option, Some, None}
+use Rattle.std.specs.Prelude.{ℕ, suc, pos, Bool, true, false, if◌then◌else◌, List, [], ◌∷◌, Option, Some, None}
 use Rattle.moo_spec.specs.Datum as datum
 use Rattle.moo_spec.specs.Datum.{Datum, Text, fold_case}
 use Rattle.moo_token.specs.declared.token.Sign.{Sign}
@@ -16,7 +16,7 @@ use Rattle.moo_grammar.specs.declared.machine.Mode.{Mode}
 use Rattle.moo_grammar.specs.declared.machine.Mode.TheVariants as m
 use Rattle.moo_grammar.specs.Grammar as g
 use Rattle.moo_grammar.specs.Grammar.{literal_value}
-use Rattle.moo_grammar.specs.Postfix.{Op, literal_op, variable_op, property_op, to_property_op, assignment_op, evaluate_op, give_op, give_zero_op, plus_op, Put, and_put}
+use Rattle.moo_grammar.specs.Postfix.{literal_op, variable_op, property_op, to_property_op, assignment_op, evaluate_op, give_op, give_zero_op, plus_op, Put, and_put}
 
 pub record State : Type 0 where
   pub mode : Mode

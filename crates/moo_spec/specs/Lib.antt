@@ -27,3 +27,4 @@ pub mod Indexing
 pub mod TextSearch
 pub mod Standing
 pub mod PureBuiltins
+pub mod Scatter

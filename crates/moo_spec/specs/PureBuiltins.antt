@@ -46,9 +46,12 @@ digits_value n [] = Some n
 digits_value n (c ∷ t) = if is_digit c then digits_value (n * 10 + (c - 48)) t else (if all_spaces (c ∷ t) then Some n else None)
 
 -- at least one digit
+abbrev pub starts_with_digit : Text → Bool
+starts_with_digit [] = false
+starts_with_digit (c ∷ t) = is_digit c
+
 abbrev pub numeral : Text → Option ℕ
-numeral [] = None
-numeral (c ∷ t) = if is_digit c then digits_value 0 (c ∷ t) else None
+numeral t = if starts_with_digit t then digits_value 0 t else None
 
 abbrev pub in_range_or_zero : ℤ → ℤ
 in_range_or_zero z = if in_number_range z then z else pos 0

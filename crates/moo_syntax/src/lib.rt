@@ -1,2 +1,15 @@
-//! moo_syntax
+//! Reads programs (Programmer's Manual, "The MOO Programming Language").
 #![tactic(auto)]
+
+pub mod build;
+pub mod fault;
+pub mod laws;
+pub mod literal;
+pub mod machine;
+pub mod nesting;
+pub mod parse;
+pub mod put;
+pub mod step_error;
+#[cfg(test)]
+mod tests;
+pub mod text;

@@ -11,7 +11,13 @@ use std::alloc::{AllocError, Global};
 
 /// The text with each place of another, from the left and without overlap, replaced by a third; none where the result would
 /// be longer than a text may be. The case of letters counts or not in the search.
-pub fn substitute_text(alloc: Global, text: &str, sought: &str, replacement: &str, case_counts: bool) -> Result<Option<Text>, AllocError>
+pub fn substitute_text(
+    alloc: Global,
+    text: &str,
+    sought: &str,
+    replacement: &str,
+    case_counts: bool,
+) -> Result<Option<Text>, AllocError>
     requires text { IsTrue (is_text text.now) }
     requires sought { 0 < length sought.now }
     requires replacement { IsTrue (is_text replacement.now) }

@@ -67,5 +67,9 @@ pub fn begins(text: &[u8], sought: &[u8], case_counts: bool) -> bool
 fn is_same(left: u8, right: u8, case_counts: bool) -> bool
     ensures { result ≡ same_character case_counts left right }
 {
-    if case_counts { left == right } else { fold(left) == fold(right) }
+    if case_counts {
+        left == right
+    } else {
+        fold(left) == fold(right)
+    }
 }

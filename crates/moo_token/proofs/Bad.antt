@@ -1,14 +1,13 @@
 -- What a fault of the machine says of the text.
-use Rattle.std.proofs.Common.{◌≡◌, ℕ, ◌+◌, ◌-◌, ◌*◌, ◌≤◌, Bool, true, false, cond, List, [], ◌∷◌, ◌++◌, Option, Some, None, refl, sym, ap, ◌∙◌, subst, arith, append_assoc, inl, inr, ⊎_elim}
-use Rattle.std.specs.Prelude.{◌==◌, ◌||◌, nat_le, is_some, ◌⊎◌}
+use Rattle.std.proofs.Common.{◌≡◌, ℕ, ◌-◌, ◌≤◌, Bool, true, false, [], ◌∷◌, ◌++◌, None, refl, sym, ap, ◌∙◌, subst, arith, append_assoc}
+use Rattle.std.specs.Prelude.{◌==◌, nat_le, is_some}
 use Rattle.std.proofs.lemmas.Bool.Decides.{nat_tests}
 use Rattle.std.specs.List.{list_all}
 use Rattle.std.specs.Char.{is_ascii_digit}
-use Rattle.moo_spec.specs.Datum.{Text, is_character}
-use Rattle.moo_token.specs.declared.fault.FaultKind.{FaultKind}
+use Rattle.moo_spec.specs.Datum.{Text}
 use Rattle.moo_token.specs.declared.fault.FaultKind.TheVariants as k
-use Rattle.moo_token.specs.Tokens.{Token, integer, object, is_letter, is_digits, value_from, hash, max_number, max_object, Spells, IsInRange, IsLongest, is_at_digit, is_blank, is_first, sign_of, Opens, is_line_end, IsBad, unknown, open_string, bad_character, too_large}
-use Rattle.moo_token.proofs.Lists.{by_cond, and_true, both_true, both_false, value_append, value_grows, digits_append}
+use Rattle.moo_token.specs.Tokens.{integer, object, is_letter, is_digits, value_from, hash, max_number, max_object, Spells, is_at_digit, is_blank, is_first, sign_of, IsBad, too_large}
+use Rattle.moo_token.proofs.Lists.{both_true, both_false, value_append, value_grows, digits_append}
 use Rattle.moo_token.proofs.Longest.{number_longest, object_longest}
 
 pub first_false : (b : ℕ) → is_letter b ≡ false → is_ascii_digit b ≡ false → (b == 34) ≡ false → is_blank b ≡ false → (b == 35) ≡ false → (b == 38) ≡ false → sign_of b ≡ None → is_first b ≡ false

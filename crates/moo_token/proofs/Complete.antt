@@ -1,6 +1,6 @@
 -- Each text is cut into what it is.
-use Rattle.std.proofs.Common.{◌≡◌, ℕ, ◌+◌, ◌-◌, ◌*◌, ◌≤◌, Bool, true, false, cond, ◌&&◌, List, [], ◌∷◌, ◌++◌, Option, Some, None, Result, Ok, Err, refl, sym, ap, ◌∙◌, subst, arith, append_assoc, append-nil}
-use Rattle.std.specs.Prelude.{◌==◌, ◌||◌, nat_le, is_some}
+use Rattle.std.proofs.Common.{◌≡◌, ℕ, ◌+◌, ◌-◌, ◌*◌, ◌≤◌, Bool, true, false, List, [], ◌∷◌, ◌++◌, Option, Some, None, Ok, refl, sym, ap, ◌∙◌, subst, arith, append_assoc, append-nil}
+use Rattle.std.specs.Prelude.{◌==◌, nat_le, is_some}
 use Rattle.std.proofs.lemmas.Bool.{eqb-true}
 use Rattle.std.proofs.lemmas.Bool.Decides.{nat_tests}
 use Rattle.std.specs.List.{list_all}
@@ -18,8 +18,8 @@ use Rattle.moo_token.specs.Cutting.{State, Cut, Step, longer, signed, begin, wit
 use Rattle.moo_token.specs.Cutting as by
 use Rattle.moo_token.proofs.Lists.{by_cond, pick_true, pick_false, and_true, or_false, cond_false, name_snoc, digits_snoc, digit_not_letter, plain_character, plain_not_quote, plain_not_slash}
 use Rattle.moo_token.proofs.Signs.{longer_spelled}
-use Rattle.moo_token.proofs.Longest.{IsWord, word_is, no_token}
-use Rattle.moo_token.proofs.Bad.{le_of, of_le, of_not_le, digit_small}
+use Rattle.moo_token.proofs.Longest.{word_is}
+use Rattle.moo_token.proofs.Bad.{le_of, of_le, digit_small}
 use Rattle.moo_token.proofs.Cuts.{run_stop}
 
 pub run_append : (bs cs : Text) (r : Step) → run r (bs ++ cs) ≡ run (run r bs) cs
@@ -84,7 +84,7 @@ number_over (b ∷ bs) n out line h le large =
     let m : ℕ = 10 * n + (b - 48) in
     ap (λ r. run r bs) (pick_true (is_ascii_digit b) (digit m out line) _ x.0)
     ∙ by_cond (λ r. run r bs ≡ stop k.Number out line) (nat_le m max_number) _ _
-      (λ e. number_over bs m out line x.1 (le_of m max_number e) large) (λ e. run_stop bs (failed k.Number out line))
+    (λ e. number_over bs m out line x.1 (le_of m max_number e) large) (λ e. run_stop bs (failed k.Number out line))
 
 object_run : (bs : Text) (minus : Bool) (n : ℕ) (out : List Place) (line : ℕ) → list_all is_ascii_digit bs ≡ true → value_from n bs ≤ max_object minus → run (by.at (p.InObject minus n) [] out line) bs ≡ by.at (p.InObject minus (value_from n bs)) [] out line
 object_run [] minus n out line h le = refl
@@ -102,7 +102,7 @@ object_over (b ∷ bs) minus n out line h le large =
     let m : ℕ = 10 * n + (b - 48) in
     ap (λ r. run r bs) (pick_true (is_ascii_digit b) (object_digit minus m out line) _ x.0)
     ∙ by_cond (λ r. run r bs ≡ stop k.Number out line) (nat_le m (max_object minus)) _ _
-      (λ e. object_over bs minus m out line x.1 (le_of m (max_object minus) e) large) (λ e. run_stop bs (failed k.Number out line))
+    (λ e. object_over bs minus m out line x.1 (le_of m (max_object minus) e) large) (λ e. run_stop bs (failed k.Number out line))
 
 -- the first digit of a number
 first_number : (b : ℕ) (w : Text) (out : List Place) (line : ℕ) → is_ascii_digit b ≡ true → run (Ok (fresh out line)) (b ∷ w) ≡ run (by.at (p.InNumber (b - 48)) [] out line) w
@@ -179,6 +179,7 @@ opens_run out line (at_character {s = s} h) = (p.InText, s, body_run [] out line
   where
     no_quote : (b : ℕ) → is_character b ≡ false → (b == 34) ≡ false
     no_quote b h = grind (arith, nat_tests)
+
     no_slash : (b : ℕ) → is_character b ≡ false → (b == 92) ≡ false
     no_slash b h = grind (arith, nat_tests)
 opens_run out line (at_escaped {body = body} {s = s} h) =

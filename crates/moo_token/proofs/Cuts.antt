@@ -1,21 +1,20 @@
 -- What the machine cuts is what the text is.
-use Rattle.std.proofs.Common.{◌≡◌, ℕ, ◌+◌, ◌-◌, ◌*◌, ◌≤◌, Bool, true, false, cond, List, [], ◌∷◌, ◌++◌, Option, Some, None, Result, Ok, Err, refl, sym, ap, ◌∙◌, subst, arith, append_assoc, append-nil}
+use Rattle.std.proofs.Common.{◌≡◌, ℕ, ◌+◌, ◌-◌, ◌*◌, ◌≤◌, Bool, true, false, List, [], ◌∷◌, ◌++◌, Option, Some, None, Ok, Err, refl, sym, ap, ◌∙◌, subst, arith, append_assoc, append-nil}
 use Rattle.std.specs.Prelude.{◌==◌, nat_le}
 use Rattle.std.proofs.lemmas.Bool.{eqb-true}
 use Rattle.std.specs.Char.{is_ascii_digit}
 use Rattle.moo_spec.specs.Datum.{Text, is_character}
 use Rattle.moo_token.specs.declared.token.Sign.{Sign}
-use Rattle.moo_token.specs.declared.token.Sign.TheVariants as sign
 use Rattle.moo_token.specs.declared.cutter.Pending.{Pending}
 use Rattle.moo_token.specs.declared.cutter.Pending.TheVariants as p
 use Rattle.moo_token.specs.declared.fault.FaultKind.{FaultKind}
 use Rattle.moo_token.specs.declared.fault.FaultKind.TheVariants as k
 use Rattle.moo_token.specs.Tokens as t
 use Rattle.moo_token.specs.Tokens.{Token, is_letter, is_word, is_name, is_digits, value_from, word_of, is_blank, sign_of, hash, max_number, max_object, Escapes, none, spelling, Spells, IsInRange, IsLongest, Place, line_after, Ending, whole, faulty, is_line_end, Opens, at_character, at_escaped, IsBad, unknown, lone_ampersand, lone_hash, lone_minus, bad_character, open_string, IsText, end, bad, blank, token}
-use Rattle.moo_token.specs.Cutting.{State, Cut, Step, longer, signed, begin, with_token, digit, object_digit, in_number, in_object, after_hash, after_minus, after_ampersand, string_fault, in_text, in_escape, after_sign, step_by, step, ended, failed, finish, and_step, run, at_end, fresh, cut, stop}
-use Rattle.moo_token.proofs.Lists.{by_cond, both_true, all_snoc, name_snoc, digits_snoc, value_snoc, escapes_snoc, escapes_escaped, plain_is}
+use Rattle.moo_token.specs.Cutting.{State, Cut, Step, longer, signed, begin, with_token, in_number, in_object, after_hash, after_minus, after_ampersand, string_fault, in_text, in_escape, after_sign, step_by, ended, failed, finish, run, at_end, fresh, cut, stop}
+use Rattle.moo_token.proofs.Lists.{by_cond, both_true, name_snoc, digits_snoc, value_snoc, escapes_snoc, escapes_escaped, plain_is}
 use Rattle.moo_token.proofs.Signs.{sign_spelled, longer_spelled}
-use Rattle.moo_token.proofs.Longest.{IsWord, word_is, at_end_longest, word_ends, number_ends, object_ends, text_ends, sign_ends}
+use Rattle.moo_token.proofs.Longest.{word_is, at_end_longest, word_ends, number_ends, object_ends, text_ends, sign_ends}
 use Rattle.moo_token.proofs.Bad.{first_false, number_bad, object_bad, le_of, not_le_of, digit_small}
 
 -- the bytes of the token that was begun
@@ -119,8 +118,8 @@ number_cut rest go b n out line w h =
     let P : Step → Type 0 = λ r. IsCut (w ++ b ∷ rest) line out (at_end (run r rest)) in
     let m : ℕ = 10 * n + (b - 48) in
     by_cond P (is_ascii_digit b) _ _ (λ d. by_cond P (nat_le m max_number) _ _
-        (λ e. same_cut w b rest line out _ (go _ (w ++ b ∷ []) ((digits_snoc w b h.0.0 d, more_digits w b n h.0.1), le_of m max_number e)))
-        (λ e. fault_cut w b rest line out k.Number (number_bad (w ++ b ∷ []) m rest (digits_snoc w b h.0.0 d) (more_digits w b n h.0.1) (not_le_of m max_number e))))
+    (λ e. same_cut w b rest line out _ (go _ (w ++ b ∷ []) ((digits_snoc w b h.0.0 d, more_digits w b n h.0.1), le_of m max_number e)))
+    (λ e. fault_cut w b rest line out k.Number (number_bad (w ++ b ∷ []) m rest (digits_snoc w b h.0.0 d) (more_digits w b n h.0.1) (not_le_of m max_number e))))
     (λ d. before w (t.integer n) line (b ∷ rest) out _ h.0 h.1 (number_ends w n b rest h.0 d) (begin_cut rest go b (with_token out (t.integer n) line) line))
 
 object_spelled : (w : Text) (m : Bool) (n b : ℕ) → Spells w (t.object m n) → is_ascii_digit b ≡ true → Spells (w ++ b ∷ []) (t.object m (10 * n + (b - 48)))
@@ -131,8 +130,8 @@ object_cut rest go b minus n out line w h =
     let P : Step → Type 0 = λ r. IsCut (w ++ b ∷ rest) line out (at_end (run r rest)) in
     let m : ℕ = 10 * n + (b - 48) in
     by_cond P (is_ascii_digit b) _ _ (λ d. let s = object_spelled w minus n b h.0 d in by_cond P (nat_le m (max_object minus)) _ _
-        (λ e. same_cut w b rest line out _ (go _ (w ++ b ∷ []) (s, le_of m (max_object minus) e)))
-        (λ e. fault_cut w b rest line out k.Number (object_bad (w ++ b ∷ []) minus s.0 m rest s.1 s.2 s.3 (not_le_of m (max_object minus) e))))
+    (λ e. same_cut w b rest line out _ (go _ (w ++ b ∷ []) (s, le_of m (max_object minus) e)))
+    (λ e. fault_cut w b rest line out k.Number (object_bad (w ++ b ∷ []) minus s.0 m rest s.1 s.2 s.3 (not_le_of m (max_object minus) e))))
     (λ d. before w (t.object minus n) line (b ∷ rest) out _ h.0 h.1 (object_ends w minus n b rest h.0 d) (begin_cut rest go b (with_token out (t.object minus n) line) line))
 
 small_object : (minus : Bool) (b : ℕ) → is_ascii_digit b ≡ true → b - 48 ≤ max_object minus

@@ -6,3 +6,4 @@ pub mod Bad
 pub mod Cuts
 pub mod Complete
 pub mod Loop
+pub mod Sound

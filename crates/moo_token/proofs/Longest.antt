@@ -1,9 +1,8 @@
 -- Where a token is at its end.
-use Rattle.std.proofs.Common.{◌≡◌, ℕ, ◌+◌, ◌-◌, ◌*◌, ◌≤◌, Bool, true, false, cond, ◌&&◌, List, [], ◌∷◌, ◌++◌, Option, Some, None, refl, sym, ap, ◌∙◌, subst, arith, append_assoc}
+use Rattle.std.proofs.Common.{◌≡◌, ℕ, Bool, true, false, cond, [], ◌∷◌, ◌++◌, Option, Some, None, refl, sym, ap, ◌∙◌, arith, append_assoc}
 use Rattle.std.specs.Prelude.{◌==◌}
-use Rattle.std.specs.List.{list_all}
 use Rattle.std.specs.Char.{is_ascii_digit}
-use Rattle.moo_spec.specs.Datum.{Text, is_character, fold_case}
+use Rattle.moo_spec.specs.Datum.{Text, fold_case}
 use Rattle.moo_token.specs.declared.token.Keyword.{Keyword}
 use Rattle.moo_token.specs.declared.token.ErrorName.{ErrorName}
 use Rattle.moo_token.specs.declared.token.Sign.{Sign}
@@ -11,7 +10,7 @@ use Rattle.moo_token.specs.declared.token.Sign.TheVariants as sign
 use Rattle.moo_token.specs.Tokens as t
 use Rattle.moo_token.specs.Tokens.{Token, identifier, keyword, error_name, integer, object, mark, is_letter, is_word, is_name, is_digits, word_of, keyword_of, error_of, keyword_or_other, error_or_identifier, hash, spelling, Escapes, none, plain, escaped, is_plain, Spells, IsInRange, IsLongest, is_at_digit}
 use Rattle.moo_token.specs.Cutting.{longer}
-use Rattle.moo_token.proofs.Lists.{by_cond, pick_true, pick_false, and_true, all_has, digits_next, digit_not_letter, digit_not_minus}
+use Rattle.moo_token.proofs.Lists.{pick_true, pick_false, and_true, all_has, digits_next, digit_not_letter, digit_not_minus}
 use Rattle.moo_token.proofs.Signs.{head_of, never_empty, no_longer}
 
 -- ---- no token begins as one of another class

@@ -1,5 +1,5 @@
 -- What the loop over the bytes needs.
-use Rattle.std.proofs.Common.{◌≡◌, ℕ, zero, suc, ◌+◌, ◌-◌, ◌*◌, ◌<◌, ◌≤◌, Bool, true, false, cond, List, [], ◌∷◌, ◌++◌, length, take, get_or, Option, Some, None, Result, Ok, Err, refl, sym, ap, ◌∙◌, subst, arith, add-one}
+use Rattle.std.proofs.Common.{◌≡◌, ℕ, zero, suc, ◌+◌, ◌-◌, ◌*◌, ◌<◌, ◌≤◌, List, [], ◌∷◌, ◌++◌, length, take, get_or, Option, Some, None, Ok, Err, refl, sym, ap, ◌∙◌, subst, arith, add-one}
 use Rattle.std.specs.Prelude.{◌==◌, nat_le}
 use Rattle.std.specs.Char.{is_ascii_digit}
 use Rattle.std.proofs.Math.Seq.{take-suc, take-length}
@@ -16,7 +16,7 @@ use Rattle.moo_token.specs.Tokens.{is_letter, is_word, is_blank, sign_of, word_o
 use Rattle.moo_token.specs.Views.{places, Stepped, Finished}
 use Rattle.moo_token.specs.Cutting.{State, Cut, Step, longer, signed, begin, with_token, string_fault, after_sign, step_by, step, finish, and_step, run, at_end, fresh, cut, Fits}
 use Rattle.moo_token.proofs.Lists.{by_cond}
-use Rattle.moo_token.proofs.Cuts.{IsCut, run_stop, cut_is}
+use Rattle.moo_token.proofs.Cuts.{run_stop, cut_is}
 use Rattle.moo_token.proofs.Complete.{run_append, cuts}
 
 -- a step keeps the buffer in order, and moves the line by one at most

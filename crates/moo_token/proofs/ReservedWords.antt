@@ -1,9 +1,9 @@
 -- The token of a word, by its spelling in lower case.
-use Rattle.std.proofs.Common.{◌≡◌, Option, Some, None, refl, sym, ap, ◌∙◌}
+use Rattle.std.proofs.Common.{◌≡◌, Some, None, ap, ◌∙◌}
 use Rattle.moo_spec.specs.Datum.{Text, fold_case}
 use Rattle.moo_token.specs.declared.token.Keyword.{Keyword}
 use Rattle.moo_token.specs.declared.token.ErrorName.{ErrorName}
-use Rattle.moo_token.specs.Tokens.{Token, keyword, error_name, identifier, keyword_of, error_of, keyword_or_other, error_or_identifier, word_of}
+use Rattle.moo_token.specs.Tokens.{keyword, error_name, identifier, keyword_of, error_of, keyword_or_other, error_or_identifier, word_of}
 
 pub keyword_is : (w f : Text) (k : Keyword) → f ≡ fold_case w → Some k ≡ keyword_of f → keyword k ≡ word_of w
 keyword_is w f k h e = ap (λ o. keyword_or_other o w) (e ∙ ap keyword_of h)

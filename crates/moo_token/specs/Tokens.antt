@@ -1,8 +1,8 @@
 -- The tokens of a program (Programmer's Manual, "The MOO Programming Language"), and how each is spelled.
-use Rattle.std.specs.Prelude.{◌≡◌, ℕ, ◌+◌, ◌-◌, ◌*◌, ◌≤◌, Bool, true, false, not, ◌&&◌, ◌||◌, ◌==◌, List, [], ◌∷◌, ◌++◌, Option, Some, None, is_some, if◌then◌else◌, codes}
+use Rattle.std.specs.Prelude.{◌≡◌, ℕ, ◌+◌, ◌-◌, ◌*◌, ◌≤◌, Bool, true, false, not, ◌&&◌, ◌||◌, ◌==◌, List, [], ◌∷◌, ◌++◌, map, Option, Some, None, is_some, nat_le, if◌then◌else◌, codes}
 use Rattle.std.specs.Char.{is_ascii_digit, is_ascii_alphabetic}
 use Rattle.std.specs.List.{list_all}
-use Rattle.moo_spec.specs.Datum.{Text, is_character, fold_case, same_text}
+use Rattle.moo_spec.specs.Datum.{Text, is_character, is_text, fold_case, same_text}
 use Rattle.moo_token.specs.declared.token.Sign.{Sign}
 use Rattle.moo_token.specs.declared.token.Sign.TheVariants as sign
 use Rattle.moo_token.specs.declared.token.Keyword.{Keyword}
@@ -209,6 +209,14 @@ IsInRange (integer n) = n ≤ max_number
 IsInRange (object minus n) = n ≤ max_object minus
 IsInRange _ = Unit {0}
 
+-- Every token of a text is so: its characters are those of texts, and its number is in range.
+abbrev pub is_sound : Token → Bool
+is_sound (identifier name) = is_text name
+is_sound (integer n) = nat_le n max_number
+is_sound (object minus n) = nat_le n (max_object minus)
+is_sound (text s) = is_text s
+is_sound _ = true
+
 -- no longer token begins here
 abbrev pub IsLongest : Text → Text → Type 0
 IsLongest w rest = (b : ℕ) (more after : Text) (t : Token) → rest ≡ b ∷ (more ++ after) → Spells (w ++ b ∷ more) t → ⊥
@@ -270,3 +278,6 @@ pub data IsText : ℕ → Text → List Place → Ending → Type 0 where
   bad : {line : ℕ} {bs : Text} {kind : FaultKind} → IsBad bs kind → IsText line bs [] (faulty kind line)
   blank : {line : ℕ} {bs : Text} {ps : List Place} {e : Ending} (b : ℕ) → is_blank b ≡ true → IsText (line_after b line) bs ps e → IsText line (b ∷ bs) ps e
   token : {line : ℕ} {rest : Text} {ps : List Place} {e : Ending} (w : Text) (t : Token) → Spells w t → IsInRange t → IsLongest w rest → IsText line rest ps e → IsText line (w ++ rest) (record { token = t; line = line } ∷ ps) e
+
+abbrev pub tokens_in : List Place → List Token
+tokens_in ps = map (λ p. p.token) ps

@@ -1,5 +1,5 @@
 -- What the code keeps, without where it lies in memory.
-use Rattle.std.specs.Prelude.{◌≡◌, ℕ, List, map, Option, Some, None, Result, Ok, Err}
+use Rattle.std.specs.Prelude.{◌≡◌, List, map, Option, Some, None, Result, Ok, Err}
 use Rattle.moo_token.specs.declared.token.Token.{Token as Lexeme}
 use Rattle.moo_token.specs.declared.token.Token.TheVariants as l
 use Rattle.moo_token.specs.declared.token.Placed.{Placed}
@@ -7,7 +7,6 @@ use Rattle.moo_token.specs.declared.fault.TokenFault.{TokenFault}
 use Rattle.moo_token.specs.declared.cutter.CutError.{CutError}
 use Rattle.moo_token.specs.declared.cutter.CutError.TheVariants as error
 use Rattle.moo_token.specs.declared.cutter.Cutter.{Cutter}
-use Rattle.moo_token.specs.declared.tokens.Tokens.{Tokens}
 use Rattle.moo_token.specs.Tokens as t
 use Rattle.moo_token.specs.Tokens.{Token, Place, Ending, whole, faulty}
 use Rattle.moo_token.specs.Cutting.{State, Cut, Step}

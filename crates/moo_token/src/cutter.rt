@@ -13,6 +13,7 @@ use crate::words::word_token;
 use std::alloc::{AllocError, AllocFailed, Global};
 
 const MAX_NUMBER: u64 = 2147483648;
+
 const MAX_OBJECT: u64 = 2147483647;
 
 /// The token that was begun.
@@ -123,7 +124,11 @@ fn longer(sign: Sign, b: u8) -> Option<Sign>
     ensures { result ≡ spec.longer sign b }
 {
     match sign {
-        Sign::Dot => if b == b'.' { Some(Sign::DoubleDot) } else { None },
+        Sign::Dot => if b == b'.' {
+            Some(Sign::DoubleDot)
+        } else {
+            None
+        },
         Sign::Assign => {
             if b == b'=' {
                 Some(Sign::Equal)
@@ -134,8 +139,16 @@ fn longer(sign: Sign, b: u8) -> Option<Sign>
             }
         }
         Sign::Not => if b == b'=' { Some(Sign::Differs) } else { None },
-        Sign::Less => if b == b'=' { Some(Sign::LessOrEqual) } else { None },
-        Sign::Greater => if b == b'=' { Some(Sign::GreaterOrEqual) } else { None },
+        Sign::Less => if b == b'=' {
+            Some(Sign::LessOrEqual)
+        } else {
+            None
+        },
+        Sign::Greater => if b == b'=' {
+            Some(Sign::GreaterOrEqual)
+        } else {
+            None
+        },
         Sign::Bar => if b == b'|' { Some(Sign::Or) } else { None },
         _ => None,
     }

@@ -1,8 +1,9 @@
 //! The tokens of a text.
 
-ghost use Rattle.std.specs.Prelude.{◌≡◌, List, IfOk};
+ghost use Rattle.std.specs.Prelude.{◌≡◌, ℕ, List, true, IfOk};
+ghost use Rattle.std.specs.List.{list_all};
 ghost use Rattle.moo_spec.specs.Datum.{Text};
-ghost use Rattle.moo_token.specs.Tokens.{Place, Ending, IsText, faulty};
+ghost use Rattle.moo_token.specs.Tokens.{Place, Ending, IsText, faulty, is_sound, tokens_in};
 ghost use Rattle.moo_token.specs.Views.{places, ending_of};
 
 use crate::cutter::{CutError, Cutter};
@@ -22,7 +23,10 @@ fn stopped(cutter: Cutter, kind: FaultKind) -> Tokens
     ensures fault { ending_of result.fault ≡ faulty kind cutter.line }
 {
     let Cutter { out, line, .. } = cutter;
-    Tokens { tokens: out, fault: Some(TokenFault { kind, line }) }
+    Tokens {
+        tokens: out,
+        fault: Some(TokenFault { kind, line }),
+    }
 }
 
 /// Cuts a text into its tokens, up to its end or its first fault.
@@ -47,13 +51,20 @@ pub fn tokens_of(alloc: Global, text: &[u8]) -> Result<Tokens, AllocError>
         Err(CutError::Fault(kind)) => return Ok(stopped(cutter, kind)),
     }
     let Cutter { out, .. } = cutter;
-    Ok(Tokens { tokens: out, fault: None })
+    Ok(Tokens {
+        tokens: out,
+        fault: None,
+    })
 }
+
+/// The tokens of a text are sound.
+pub fn sound_tokens()
+    ensures { (text : Text) (line : ℕ) (ps : List Place) (e : Ending) → IsText line text ps e → list_all is_sound (tokens_in ps) ≡ true }
+{}
 
 /// Each text has tokens up to an end, and no others.
 pub fn one_cutting()
     ensures total { (text : Text) → (ps : List Place) × (e : Ending) × IsText 1 text ps e }
     ensures one_list { (text : Text) (ps qs : List Place) (e f : Ending) → IsText 1 text ps e → IsText 1 text qs f → ps ≡ qs }
     ensures one_ending { (text : Text) (ps qs : List Place) (e f : Ending) → IsText 1 text ps e → IsText 1 text qs f → e ≡ f }
-{
-}
+{}

@@ -6,3 +6,4 @@ pub mod Names
 pub mod Numbers
 pub mod Reading
 pub mod Sameness
+pub mod Written

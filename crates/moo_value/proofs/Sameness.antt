@@ -49,6 +49,7 @@ same_errors e f h = sym (error_back e) ∙ ap error_at (number_same (error_numbe
 
 mutual
   unfolding same same_data
+
   pub sound_same : (a b : Datum) → IsTrue (same a b) → a ≡ b
   sound_same (integer m) (integer n) h = ap integer (same_integers m n h)
   sound_same (object m) (object n) h = ap object (same_integers m n h)
@@ -64,6 +65,7 @@ mutual
 
 mutual
   unfolding same same_data
+
   pub same_itself : (a : Datum) → IsTrue (same a a)
   same_itself (integer m) = integer_itself m
   same_itself (object m) = integer_itself m

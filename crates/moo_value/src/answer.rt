@@ -16,5 +16,9 @@ pub const WEIGHT_LIMIT: usize = 65_536;
 pub fn limited(value: Value) -> Answer
     ensures { answer_of result ≡ limited_of value }
 {
-    if value.weight() <= WEIGHT_LIMIT { Ok(value) } else { Err(MooError::LimitExceeded) }
+    if value.weight() <= WEIGHT_LIMIT {
+        Ok(value)
+    } else {
+        Err(MooError::LimitExceeded)
+    }
 }

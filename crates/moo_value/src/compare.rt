@@ -98,5 +98,9 @@ fn order_texts(x: &[u8], y: &[u8]) -> Ordering
             }
         }
     }
-    if rest.is_empty() { Ordering::Equal } else { Ordering::Less }
+    if rest.is_empty() {
+        Ordering::Equal
+    } else {
+        Ordering::Less
+    }
 }

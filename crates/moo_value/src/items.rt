@@ -50,7 +50,11 @@ pub(crate) fn push(items: &mut Arc<Vec<Value>>, item: Value) -> Result<(), Alloc
     Ok(())
 }
 
-pub(crate) fn replace(items: &mut Arc<Vec<Value>>, place: usize, item: Value) -> Result<Value, AllocError>
+pub(crate) fn replace(
+    items: &mut Arc<Vec<Value>>,
+    place: usize,
+    item: Value,
+) -> Result<Value, AllocError>
     requires { place < length (arc_value items.old).items }
     ensures after { let old = of_list (arc_value items.old).items in of_list (arc_value items.new).items ≡ (if is_ok result then with_item old place item else old) }
     ensures item { IfOk result (λ v. item_at (of_list (arc_value items.old).items) place ≡ Some v) }
@@ -59,7 +63,11 @@ pub(crate) fn replace(items: &mut Arc<Vec<Value>>, place: usize, item: Value) ->
     Ok(mem::replace(&mut list[place], item))
 }
 
-pub(crate) fn insert(items: &mut Arc<Vec<Value>>, place: usize, item: Value) -> Result<(), AllocError>
+pub(crate) fn insert(
+    items: &mut Arc<Vec<Value>>,
+    place: usize,
+    item: Value,
+) -> Result<(), AllocError>
     requires { place ≤ length (arc_value items.old).items }
     ensures { let old = of_list (arc_value items.old).items in of_list (arc_value items.new).items ≡ (if is_ok result then inserted old place item else old) }
 {

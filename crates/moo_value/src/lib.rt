@@ -9,6 +9,8 @@ pub mod error;
 mod items;
 pub mod operator;
 pub mod read;
+#[cfg(test)]
+mod tests;
 pub mod text;
 pub mod value;
 pub mod write;

@@ -72,7 +72,9 @@ impl Value {
     pub fn integer(number: i32) -> Value
         ensures { result ≡ integer number }
     {
-        Value { node: Node::Integer(number) }
+        Value {
+            node: Node::Integer(number),
+        }
     }
 
     /// A count, as an integer: the greatest one for what is more.
@@ -96,21 +98,27 @@ impl Value {
     pub fn object(number: i32) -> Value
         ensures { result ≡ object number }
     {
-        Value { node: Node::Object(number) }
+        Value {
+            node: Node::Object(number),
+        }
     }
 
     /// A text.
     pub fn text(text: Text) -> Value
         ensures { result ≡ text_of text }
     {
-        Value { node: Node::Text(text) }
+        Value {
+            node: Node::Text(text),
+        }
     }
 
     /// An error as a value.
     pub fn error(code: MooError) -> Value
         ensures { result ≡ error (code_of code) }
     {
-        Value { node: Node::Error(code) }
+        Value {
+            node: Node::Error(code),
+        }
     }
 
     /// A list of these items.
@@ -120,7 +128,9 @@ impl Value {
         items::know_all(&items);
         let weight = items::weight(&items);
         let alloc = *items.allocator();
-        Ok(Value { node: Node::List(Arc::new(alloc, items)?, weight) })
+        Ok(Value {
+            node: Node::List(Arc::new(alloc, items)?, weight),
+        })
     }
 
     /// What the value is, to match on.
@@ -241,11 +251,21 @@ impl Clone for Value {
 
     fn clone(&self) -> Result<Value, AllocError> {
         match &self.node {
-            Node::Integer(number) => Ok(Value { node: Node::Integer(*number) }),
-            Node::Object(number) => Ok(Value { node: Node::Object(*number) }),
-            Node::Text(text) => Ok(Value { node: Node::Text(text.clone()?) }),
-            Node::Error(code) => Ok(Value { node: Node::Error(*code) }),
-            Node::List(items, weight) => Ok(Value { node: Node::List(items.clone()?, *weight) }),
+            Node::Integer(number) => Ok(Value {
+                node: Node::Integer(*number),
+            }),
+            Node::Object(number) => Ok(Value {
+                node: Node::Object(*number),
+            }),
+            Node::Text(text) => Ok(Value {
+                node: Node::Text(text.clone()?),
+            }),
+            Node::Error(code) => Ok(Value {
+                node: Node::Error(*code),
+            }),
+            Node::List(items, weight) => Ok(Value {
+                node: Node::List(items.clone()?, *weight),
+            }),
         }
     }
 }

@@ -1,9 +1,10 @@
 //! What a task's end tells its player.
-ghost use Rattle.std.specs.Prelude.{◌≡◌, ◌∷◌, [], pos, IfOk};
-ghost use Rattle.moo_spec.specs.Step.{told as told_of};
-ghost use Rattle.moo_spec.specs.Turn.{Traced};
+ghost use Rattle.std.specs.Prelude.{◌≡◌, ◌∷◌, ◌++◌, [], pos, IfOk, OnOk, codes, string_bytes};
+ghost use Rattle.moo_spec.specs.Step.{called_from, told as told_of, verb_spelled};
+ghost use Rattle.moo_spec.specs.Turn.{Traced as Meant};
 ghost use Rattle.task_step.specs.OutcomeView.{lines_of};
 
+use machine::stop::Traced;
 use moo_value::text::Text;
 use std::alloc::{AllocError, Global};
 use task_step::outcome::OutputLine;
@@ -19,20 +20,63 @@ pub fn line(alloc: Global, connection: u32, text: &str) -> Result<Vec<OutputLine
     ensures { IfOk result (λ v. lines_of v.items ≡ (pos connection, text.now) ∷ []) }
 {
     let mut lines = Vec::new(alloc);
-    let text = String::from_str(alloc, text)?;
-    lines.push(OutputLine { connection, text })?;
+    push(&mut lines, connection, String::from_str(alloc, text)?)?;
     Ok(lines)
 }
 
-/// The verb that stopped and why, and the end.
-pub fn traceback(alloc: Global, connection: u32, definer: i32, verb: &Text, why: &str) -> Result<Vec<OutputLine>, AllocError>
-    ensures { IfOk result (λ v. (t : Traced) → t.definer ≡ definer → t.verb ≡ verb.now → lines_of v.items ≡ told_of (pos connection) why.now (t ∷ [])) }
+/// The innermost verb and why it stopped, each verb that called it, and the end.
+pub fn traceback(alloc: Global, connection: u32, why: &str, verbs: &[Traced]) -> Result<Vec<OutputLine>, AllocError>
+    ensures { IfOk result (λ v. lines_of v.items ≡ told_of (pos connection) why.now verbs.now) }
+{
+    let mut lines = Vec::new(alloc);
+    if let Some((innermost, outer)) = verbs.split_first() {
+        push_stopped(alloc, &mut lines, connection, innermost, why)?;
+        push_callers(alloc, &mut lines, connection, outer)?;
+    }
+    push(&mut lines, connection, String::from_str(alloc, END_OF_TRACEBACK)?)?;
+    Ok(lines)
+}
+
+// A line for each verb; the end comes after them.
+#[tactic(auto, using(crate::proofs::Callers::callers_later, crate::proofs::Callers::callers_none))]
+fn push_callers(alloc: Global, lines: &mut Vec<OutputLine>, connection: u32, verbs: &[Traced]) -> Result<(), AllocError>
+    ensures { OnOk result (lines_of lines.new.items ++ called_from (pos connection) [] ≡ lines_of lines.old.items ++ called_from (pos connection) verbs.now) }
+{
+    for verb in verbs {
+        push_caller(alloc, lines, connection, verb)?;
+    }
+    Ok(())
+}
+
+fn push_stopped(alloc: Global, lines: &mut Vec<OutputLine>, connection: u32, verb: &Traced, why: &str) -> Result<(), AllocError>
+    ensures { OnOk result (lines_of lines.new.items ≡ lines_of lines.old.items ++ (pos connection, verb_spelled verb.now ++ codes ": " ++ why.now) ∷ []) }
+{
+    push(lines, connection, stop_text(alloc, verb.definer, &verb.verb, why)?)
+}
+
+fn push_caller(alloc: Global, lines: &mut Vec<OutputLine>, connection: u32, verb: &Traced) -> Result<(), AllocError>
+    ensures { OnOk result (lines_of lines.new.items ≡ lines_of lines.old.items ++ (pos connection, codes "called from " ++ verb_spelled verb.now) ∷ []) }
+{
+    push(lines, connection, caller_text(alloc, verb.definer, &verb.verb)?)
+}
+
+fn push(lines: &mut Vec<OutputLine>, connection: u32, text: String) -> Result<(), AllocError>
+    ensures { OnOk result (lines_of lines.new.items ≡ lines_of lines.old.items ++ (pos connection, string_bytes text) ∷ []) }
+{
+    lines.push(OutputLine { connection, text })?;
+    Ok(())
+}
+
+fn stop_text(alloc: Global, definer: i32, verb: &Text, why: &str) -> Result<String, AllocError>
+    ensures { IfOk result (λ s. (t : Meant) → t.definer ≡ definer → t.verb ≡ verb.now → string_bytes s ≡ verb_spelled t ++ codes ": " ++ why.now) }
 {
     let verb = verb.as_str();
-    let text = format!(in alloc; "#{definer}:{verb}: {why}")?;
-    let mut lines = Vec::new(alloc);
-    lines.push(OutputLine { connection, text })?;
-    let text = String::from_str(alloc, END_OF_TRACEBACK)?;
-    lines.push(OutputLine { connection, text })?;
-    Ok(lines)
+    format!(in alloc; "#{definer}:{verb}: {why}")
+}
+
+fn caller_text(alloc: Global, definer: i32, verb: &Text) -> Result<String, AllocError>
+    ensures { IfOk result (λ s. (t : Meant) → t.definer ≡ definer → t.verb ≡ verb.now → string_bytes s ≡ codes "called from " ++ verb_spelled t) }
+{
+    let verb = verb.as_str();
+    format!(in alloc; "called from #{definer}:{verb}")
 }

@@ -11,9 +11,10 @@ with_read t q = record t { reads = t.reads ++ record { question = q; answer = as
 
 goes_home : (old : Trace) (q : Question) (a : Answer) → a ≡ ask (apply_all old.changes old.home) q
     → Goes IsStart world_now old (with_read old q) (λ before after. (after ≡ before) × (ask before q ≡ a))
-goes_home old q a now w is =
-    ((is.0, agrees_before w old.reads (record { question = q; answer = ask old.home q }) is.1),
-     (refl, answered_now w old.home old.changes old.reads q (ask old.home q) a is.1 refl now))
+goes_home old q a now w is = (
+  (is.0, agrees_before w old.reads (record { question = q; answer = ask old.home q }) is.1),
+  (refl, answered_now w old.home old.changes old.reads q (ask old.home q) a is.1 refl now),
+)
 
 pub goes_on : (old new : Trace) (q : Question) (a : Answer) → new ≡ with_read old q → a ≡ ask (apply_all old.changes old.home) q
     → Goes IsStart world_now old new (λ before after. (after ≡ before) × (ask before q ≡ a))

@@ -23,8 +23,8 @@ pub trait View {
     /// The start that the answers come from.
     ghost home: { Self → World };
 
-    /// The borrow in which the view lies, if it lies in one.
-    ghost anchor: { Self → ℕ };
+    /// The borrow in which the view lies, if it lies in one, and how many views were opened there.
+    ghost anchor: { Self → ℕ × ℕ };
 
     /// The answer to a question. After an `Err` the view is only to be dropped or undone.
     fn get(&mut self, question: &Question) -> Result<Answer, AllocError>

@@ -3,9 +3,8 @@ ghost use Rattle.std.specs.Prelude.{◌≡◌, ◌+◌, ℕ, IfOk, OnOk, OnErr};
 ghost use Rattle.moo_spec.specs.World.{World as Plain};
 ghost use Rattle.moo_spec.specs.Questions.{ask, apply};
 ghost use Rattle.footprint.specs.Meanings.{question_of, answer_of, change_of};
-ghost use Rattle.world.specs.Sound.{IsSound};
 ghost use Rattle.view.specs.Law.{Goes, Keeps};
-ghost use Rattle.view.specs.Live.{start_of, changed_in, borrow_of};
+ghost use Rattle.view.specs.Live.{start_of, changed_in, borrow_of, IsKeepable};
 
 use crate::law::View;
 use footprint::change::Change;
@@ -44,7 +43,7 @@ impl<'w> Forked<'w, Draft> {
 
     /// The world has the changes.
     pub fn keep(self)
-        requires { IsSound (changed_in self) }
+        requires { IsKeepable self }
         ensures plain { self.exit.0.now.plain ≡ changed_in self.entry }
         ensures opened { self.exit.0.now.opened ≡ (start_of self.entry).opened }
     {
@@ -57,8 +56,7 @@ impl<'w> Forked<'w, Draft> {
     /// The world is as it was.
     pub fn undo(self)
         ensures { self.exit.0.now ≡ start_of self.entry }
-    {
-    }
+    {}
 }
 
 impl<'w> View for Forked<'w, Draft> {
@@ -68,7 +66,7 @@ impl<'w> View for Forked<'w, Draft> {
 
     ghost home = { λ l. (start_of l).plain };
 
-    ghost anchor = { borrow_of };
+    ghost anchor = { λ l. (borrow_of l, (start_of l).opened) };
 
     fn get(&mut self, question: &Question) -> Result<Answer, AllocError> {
         match &self.fork {

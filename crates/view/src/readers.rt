@@ -32,7 +32,11 @@ pub fn read_header<V: View>(view: &mut V, object: i32) -> Result<Option<Header>,
 }
 
 /// A property's slot on an object, or None where there is none. Case is ignored.
-pub fn read_slot<V: View>(view: &mut V, object: i32, name: &Text) -> Result<Option<Slot>, AllocError>
+pub fn read_slot<V: View>(
+    view: &mut V,
+    object: i32,
+    name: &Text,
+) -> Result<Option<Slot>, AllocError>
     ensures anchor { V.anchor view.new ≡ V.anchor view.old }
     ensures home { V.home view.new ≡ V.home view.old }
     ensures stays { OnOk result (V.holds view.new (V.home view.new)) }
@@ -88,7 +92,12 @@ pub fn read_ending<V: View>(view: &mut V) -> Result<bool, AllocError>
 }
 
 /// A property's slot on an object has another value. Where there is no such slot nothing changes.
-pub fn write_value<V: View>(view: &mut V, object: i32, name: &Text, value: Value) -> Result<(), AllocError>
+pub fn write_value<V: View>(
+    view: &mut V,
+    object: i32,
+    name: &Text,
+    value: Value,
+) -> Result<(), AllocError>
     ensures anchor { V.anchor view.new ≡ V.anchor view.old }
     ensures home { V.home view.new ≡ V.home view.old }
     ensures stays { OnOk result (V.holds view.new (V.home view.new)) }

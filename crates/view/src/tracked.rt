@@ -110,7 +110,7 @@ impl<'s> Tracked<'s> {
     #[tactic(auto, using(crate::proofs::History::agrees_more))]
     fn keep_read(&mut self, question: &Question) -> Result<(), AllocError>
         ensures ok { OnOk result (self.new ≡ record (self.old) {
-            reads = self.old.reads ++ record { question = question_of question.now; answer = ask self.old.home (question_of question.now) } ∷ [];
+          reads = self.old.reads ++ record { question = question_of question.now; answer = ask self.old.home (question_of question.now) } ∷ [];
         }) }
         ensures known { IsSound self.new.home × Agrees self.new.home self.new.reads }
         ensures err { OnErr result (self.new ≡ self.old) }
@@ -128,7 +128,7 @@ impl<'s> View for Tracked<'s> {
 
     ghost home = { λ t. t.home };
 
-    ghost anchor = { λ _. 0 };
+    ghost anchor = { λ _. (0, 0) };
 
     #[tactic(auto, using(crate::proofs::History::agrees_more, crate::proofs::Goings::goes_on))]
     fn get(&mut self, question: &Question) -> Result<Answer, AllocError> {

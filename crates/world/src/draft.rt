@@ -43,12 +43,12 @@ impl Model for Draft {
     ghost coded = { world_code };
 
     ghost view = { λ a. record {
-        objects = numbered a.objects.entries;
-        tasks = [];
-        links = numbered a.links.entries;
-        greatest = a.greatest;
-        next = a.next;
-        ending = a.ending;
+      objects = numbered a.objects.entries;
+      tasks = [];
+      links = numbered a.links.entries;
+      greatest = a.greatest;
+      next = a.next;
+      ending = a.ending;
     } };
 }
 
@@ -214,7 +214,12 @@ impl Draft {
 
     // The object with another value in a slot, if there is one.
     #[tactic(auto, using(crate::proofs::Applied::no_object_changes, crate::proofs::Applied::no_slot_changes, crate::proofs::Applied::object_changes))]
-    fn with_value(&self, number: i32, name: &Text, value: Value) -> Result<Option<Object>, AllocError>
+    fn with_value(
+        &self,
+        number: i32,
+        name: &Text,
+        value: Value,
+    ) -> Result<Option<Object>, AllocError>
         ensures { IfOk result (λ o. MatchOption o (apply (new_value number name.now value) self.now ≡ self.now)
             (λ y. IsTrue (is_some (object_at self.now number)) × (apply (new_value number name.now value) self.now ≡ with_object self.now number y))) }
     {

@@ -100,7 +100,13 @@ fn room(alloc: Global) -> Result<Object, AllocError>
         changeable: false,
     };
     let slots = Slots::single(alloc, text(alloc, "n")?, slot)?;
-    Object::new(alloc, header(alloc, "Room")?, lists, slots, count_alone(alloc)?)
+    Object::new(
+        alloc,
+        header(alloc, "Room")?,
+        lists,
+        slots,
+        count_alone(alloc)?,
+    )
 }
 
 fn person(alloc: Global, name: &str) -> Result<Object, AllocError>
@@ -148,7 +154,12 @@ fn header(alloc: Global, name: &str) -> Result<Header, AllocError>
 }
 
 // An object with no properties and no verbs.
-fn plain(alloc: Global, header: Header, children: &[i32], contents: &[i32]) -> Result<Object, AllocError>
+fn plain(
+    alloc: Global,
+    header: Header,
+    children: &[i32],
+    contents: &[i32],
+) -> Result<Object, AllocError>
     ensures { IfOk result (λ x. x ≡ object_of header children.now contents.now [] [] []) }
 {
     let lists = Lists {
@@ -191,15 +202,30 @@ fn count_alone(alloc: Global) -> Result<Verbs, AllocError>
 fn count_tree(alloc: Global) -> Result<Tree, AllocError>
     ensures { IfOk result (λ t. t ≡ meant.count_program) }
 {
-    let one = Expression { node: ExpressionNode::Literal(Value::integer(1)) };
-    let sum = Expression {
-        node: ExpressionNode::Binary(BinaryOperator::Plus, Box::new(alloc, this_n(alloc)?)?, Box::new(alloc, one)?),
+    let one = Expression {
+        node: ExpressionNode::Literal(Value::integer(1)),
     };
-    let target = Target::Property(Box::new(alloc, this(alloc)?)?, Box::new(alloc, name_n(alloc)?)?);
-    let assignment = Expression { node: ExpressionNode::Assignment(target, Box::new(alloc, sum)?) };
+    let sum = Expression {
+        node: ExpressionNode::Binary(
+            BinaryOperator::Plus,
+            Box::new(alloc, this_n(alloc)?)?,
+            Box::new(alloc, one)?,
+        ),
+    };
+    let target = Target::Property(
+        Box::new(alloc, this(alloc)?)?,
+        Box::new(alloc, name_n(alloc)?)?,
+    );
+    let assignment = Expression {
+        node: ExpressionNode::Assignment(target, Box::new(alloc, sum)?),
+    };
     let mut statements = Vec::with_capacity(alloc, 2)?;
-    statements.push(Statement { node: StatementNode::Evaluate(assignment) })?;
-    statements.push(Statement { node: StatementNode::Return(Some(this_n(alloc)?)) })?;
+    statements.push(Statement {
+        node: StatementNode::Evaluate(assignment),
+    })?;
+    statements.push(Statement {
+        node: StatementNode::Return(Some(this_n(alloc)?)),
+    })?;
     Ok(Tree::new(statements))
 }
 
@@ -208,19 +234,25 @@ fn this_n(alloc: Global) -> Result<Expression, AllocError>
 {
     let object = Box::new(alloc, this(alloc)?)?;
     let name = Box::new(alloc, name_n(alloc)?)?;
-    Ok(Expression { node: ExpressionNode::Property(object, name) })
+    Ok(Expression {
+        node: ExpressionNode::Property(object, name),
+    })
 }
 
 fn this(alloc: Global) -> Result<Expression, AllocError>
     ensures { IfOk result (λ e. e ≡ variable (codes "this")) }
 {
-    Ok(Expression { node: ExpressionNode::Variable(text(alloc, "this")?) })
+    Ok(Expression {
+        node: ExpressionNode::Variable(text(alloc, "this")?),
+    })
 }
 
 fn name_n(alloc: Global) -> Result<Expression, AllocError>
     ensures { IfOk result (λ e. e ≡ literal (characters (codes "n"))) }
 {
-    Ok(Expression { node: ExpressionNode::Literal(Value::text(text(alloc, "n")?)) })
+    Ok(Expression {
+        node: ExpressionNode::Literal(Value::text(text(alloc, "n")?)),
+    })
 }
 
 fn text(alloc: Global, characters: &str) -> Result<Text, AllocError>

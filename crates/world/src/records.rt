@@ -22,7 +22,11 @@ pub(crate) fn record_at<R: Drop>(records: &Table<R, 4>, number: i32) -> Option<&
 
 /// The table with another record for a number that has one.
 #[tactic(auto, using(crate::proofs::Maps::at_positive, crate::proofs::Maps::at_negative, crate::proofs::Maps::with_positive))]
-pub(crate) fn with_record<R: Drop>(records: &Table<R, 4>, number: i32, value: R) -> Result<Table<R, 4>, AllocError>
+pub(crate) fn with_record<R: Drop>(
+    records: &Table<R, 4>,
+    number: i32,
+    value: R,
+) -> Result<Table<R, 4>, AllocError>
     requires { IsTrue (is_some (at (numbered records.now.entries) number)) }
     ensures { IfOk result (λ t. numbered t.entries ≡ with (numbered records.now.entries) number value) }
 {

@@ -3,7 +3,7 @@ use Rattle.std.specs.Prelude.{ℕ, cond, not, List, [], ◌∷◌, Option, Some,
 use Rattle.std.specs.Ordering.{nat_cmp, eq_by_cmp}
 use Rattle.std.specs.FinMap.Entries.{where_key}
 
--- the entries at other keys
+-- the entries at the other keys, as `FinMap.remove` leaves them
 abbrev pub without : {V : Type 0} → ℕ → List (ℕ × V) → List (ℕ × V)
 without key = where_key nat_cmp (λ k. not (eq_by_cmp nat_cmp key k))
 

@@ -1,7 +1,7 @@
 use Rattle.std.proofs.Common.{ap, ◌∙◌, arith}
 use Rattle.moo_token.specs.Tokens.{faulty}
 use Rattle.moo_token.specs.Views.{state_of, places, ending_of}
-use Rattle.moo_token.proofs.Loop.{goes_on, IsRight, stopped_at, finished_at, ended_at}
+use Rattle.moo_token.proofs.Loop.{goes_on, stopped_at, finished_at, ended_at}
 use Rattle.moo_token.proofs.tokens.tokens_of.Goals as goal
 
 pub loop-place-preserved : goal.loop-place-preserved

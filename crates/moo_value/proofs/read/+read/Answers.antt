@@ -70,10 +70,10 @@ pub read_items-all-init : goal.read_items-all-init
 read_items-all-init t c = record {
   shorter = omega arith;
   left = λ ds r h e.
-  ⊎_elim
-  (λ w. absurd (c.if-first-eq125.false w.0))
-  (λ w. (w.1.0, w.1.1, rw w.1.2 at h, rw (c.new-items.ensures.items) w.1.2, rw w.1.2 at e))
-  (begins ds r c.in-Some.first c.in-Some.rest.now h (sym e ∙ c.in-Some.ensures));
+      ⊎_elim
+      (λ w. absurd (c.if-first-eq125.false w.0))
+      (λ w. (w.1.0, w.1.1, rw w.1.2 at h, rw (c.new-items.ensures.items) w.1.2, rw w.1.2 at e))
+      (begins ds r c.in-Some.first c.in-Some.rest.now h (sym e ∙ c.in-Some.ensures));
 }
 
 pub read_items-returns-in-None-2-clause-finds : goal.read_items-returns-in-None-2-clause-finds
@@ -102,10 +102,10 @@ pub read_items-all-preserved : goal.read_items-all-preserved
 read_items-all-preserved t c = record {
   shorter = let a = rw c.in-Some-2.is at c.in_ok-read_value.ensures.shorter in omega (arith, a, c.in-Some-read_mark.ensures.shorter, c.all.invariant.shorter);
   left = λ ds r h e.
-  let left = c.all.invariant.left ds r h e in
-  let f = rw c.in-Some-2.is at c.in_ok-read_value.ensures.finds in
-  let item = item_some c.all.rest.now left.0 left.1 r left.2 left.4 c.in-Some-2.item c.in-Some-2.after f in
-  let on = mark_false left.1 r c.in-Some-2.after.now c.in-Some-read_mark.more.now item.1 (rw c.if-ends.false at c.in-Some-read_mark.ensures.finds) in
-  let all = list_goes c.all.items.items ds left.1 c.push.new.self.items left.0 c.in-Some-2.item on.0 on.1 left.3 on.2 item.0 c.in_ok-push-in-Some-2.ensures.items in
-  (on.0, on.1, rw on.2 at (rest_values left.0 left.1 left.2), all, on.3);
+      let left = c.all.invariant.left ds r h e in
+      let f = rw c.in-Some-2.is at c.in_ok-read_value.ensures.finds in
+      let item = item_some c.all.rest.now left.0 left.1 r left.2 left.4 c.in-Some-2.item c.in-Some-2.after f in
+      let on = mark_false left.1 r c.in-Some-2.after.now c.in-Some-read_mark.more.now item.1 (rw c.if-ends.false at c.in-Some-read_mark.ensures.finds) in
+      let all = list_goes c.all.items.items ds left.1 c.push.new.self.items left.0 c.in-Some-2.item on.0 on.1 left.3 on.2 item.0 c.in_ok-push-in-Some-2.ensures.items in
+      (on.0, on.1, rw on.2 at (rest_values left.0 left.1 left.2), all, on.3);
 }

@@ -31,13 +31,13 @@ pub characters-preserved : goal.characters-preserved
 characters-preserved c = record {
   shorter = omega (arith, c.in-Some-next_character.ensures.shorter, c.characters.invariant.shorter);
   left = λ s r h e.
-  let left = c.characters.invariant.left s r h e in
-  let on = text_on left.0 r c.characters.rest.now c.in-Some.more.now c.in-Some.first left.1 left.3 c.in-Some.ensures c.if-first-eq34.false in
-  let got = c.in-Some-next_character.ensures.finds ∙ on.found in
-  let same = first_same c.in-Some-next_character.c on.c c.in-Some-next_character.after.now (escaped on.more ++ 34 ∷ r) got in
-  let after = second_same c.in-Some-next_character.c on.c c.in-Some-next_character.after.now (escaped on.more ++ 34 ∷ r) got in
-  let goes = text_goes s (string_bytes c.characters.text) left.0 r on.c on.more left.2 on.is in
-  let pushed : string_bytes c.push.new.self ≡ string_bytes c.characters.text ++ on.c ∷ [] =
-  c.in_ok-push.ensures.bytes ∙ ap (λ x. string_bytes c.characters.text ++ x) (encode_ascii c.from.result (omega (arith, c.from.ensures, c.if-c-ge128.false)) ∙ ap (λ x. x ∷ []) (c.from.ensures ∙ same)) in
-  (on.more, on.text, goes ∙ ap (λ x. x ++ on.more) (sym pushed), after);
+      let left = c.characters.invariant.left s r h e in
+      let on = text_on left.0 r c.characters.rest.now c.in-Some.more.now c.in-Some.first left.1 left.3 c.in-Some.ensures c.if-first-eq34.false in
+      let got = c.in-Some-next_character.ensures.finds ∙ on.found in
+      let same = first_same c.in-Some-next_character.c on.c c.in-Some-next_character.after.now (escaped on.more ++ 34 ∷ r) got in
+      let after = second_same c.in-Some-next_character.c on.c c.in-Some-next_character.after.now (escaped on.more ++ 34 ∷ r) got in
+      let goes = text_goes s (string_bytes c.characters.text) left.0 r on.c on.more left.2 on.is in
+      let pushed : string_bytes c.push.new.self ≡ string_bytes c.characters.text ++ on.c ∷ [] =
+      c.in_ok-push.ensures.bytes ∙ ap (λ x. string_bytes c.characters.text ++ x) (encode_ascii c.from.result (omega (arith, c.from.ensures, c.if-c-ge128.false)) ∙ ap (λ x. x ∷ []) (c.from.ensures ∙ same)) in
+      (on.more, on.text, goes ∙ ap (λ x. x ++ on.more) (sym pushed), after);
 }

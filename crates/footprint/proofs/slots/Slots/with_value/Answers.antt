@@ -17,4 +17,4 @@ invariant_of-result c = filled_order _ _ _ _ _ c.self.invariant (stands c) (fill
 pub returns : goal.returns
 returns c =
     subst (λ (es : List (Text × Slot)). Some c.fill.new.entries.items ≡ option_map (λ s. with_name es (fold_case c.args.name.now) (with_content s c.args.value)) (named es (fold_case c.args.name.now)))
-      c.self.view_is (filled _ _ _ _ _ c.self.invariant (stands c) (fills c))
+    c.self.view_is (filled _ _ _ _ _ c.self.invariant (stands c) (fills c))

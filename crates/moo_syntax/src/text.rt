@@ -1,0 +1,33 @@
+//! Texts of tokens.
+
+ghost use Rattle.std.specs.Prelude.{◌≡◌, IsTrue, IfOk};
+ghost use Rattle.moo_spec.specs.Datum.{is_text, fold_case};
+
+use moo_value::text::Text;
+use std::alloc::{AllocError, Global};
+
+/// The text of these characters.
+pub fn text_of(alloc: Global, bytes: &[u8]) -> Result<Text, AllocError>
+    requires { IsTrue (is_text bytes.now) }
+    ensures { IfOk result (λ t. t ≡ bytes.now) }
+{
+    match std::str::from_utf8(bytes) {
+        Ok(text) => Text::from_str(alloc, text),
+        Err(_) => unreachable!(),
+    }
+}
+
+fn in_lower_case(alloc: Global, bytes: &[u8]) -> Result<Vec<u8>, AllocError>
+    ensures { IfOk result (λ v. v.items ≡ fold_case bytes.now) }
+{
+    bytes.iter().map(|b| b.to_ascii_lowercase()).collect(alloc)
+}
+
+/// The text of these characters in lower case.
+pub fn folded_text(alloc: Global, bytes: &[u8]) -> Result<Text, AllocError>
+    requires { IsTrue (is_text bytes.now) }
+    ensures { IfOk result (λ t. t ≡ fold_case bytes.now) }
+{
+    let folded = in_lower_case(alloc, bytes)?;
+    text_of(alloc, &folded)
+}

@@ -1,0 +1,125 @@
+//! Hostile values: deep, shared and long ones.
+use crate::compare::{equal, order, same};
+use crate::read::from_literal;
+use crate::text::Text;
+use crate::value::{Shown, Value};
+use crate::write::{to_literal, to_str};
+use std::alloc::{AllocError, Global};
+use std::test::Fail;
+use std::thread::Builder;
+
+const DEPTH: usize = 65_535;
+
+// A list that holds a list, and so on.
+fn nested(alloc: Global) -> Result<Value, AllocError> {
+    let mut value = Value::integer(7);
+    for _ in 0..DEPTH {
+        let mut items = Vec::new(alloc);
+        items.push(value)?;
+        value = Value::list(items)?;
+    }
+    Ok(value)
+}
+
+// Whether each recursive call answers for such a value.
+fn is_answered(alloc: Global) -> Result<bool, AllocError> {
+    let value = nested(alloc)?;
+    let other = nested(alloc)?;
+    let literal = to_literal(alloc, &value)?;
+    let Some(read) = from_literal(alloc, literal.as_str())? else {
+        return Ok(false);
+    };
+    Ok(
+        value.weight() == DEPTH + 1
+            && literal.len() == 2 * DEPTH + 1
+            && equal(&value, &other)
+            && same(&value, &other)
+            && equal(&value, &read)
+            && order(&value, &other).is_err(),
+    )
+}
+
+#[test]
+fn nests_deep(rt: HostRuntime) -> Result<(), Fail> {
+    let alloc = rt.alloc();
+    let thread = Builder::new()
+        .stack_size(64 << 20)
+        .spawn(&rt, move || is_answered(alloc))?;
+    assert!(rt; matches!(thread.join(&rt), Ok(true)));
+    Ok(())
+}
+
+// A list that holds the same list twice, and so on.
+fn shared(alloc: Global) -> Result<Value, AllocError> {
+    let mut value = Value::integer(7);
+    for _ in 0..64 {
+        let mut items = Vec::new(alloc);
+        items.push(value.clone()?)?;
+        items.push(value)?;
+        value = Value::list(items)?;
+    }
+    Ok(value)
+}
+
+#[test]
+fn weighs_what_is_shared(rt: HostRuntime) -> Result<(), Fail> {
+    let mut value = shared(rt.alloc())?;
+    assert_eq!(rt; value.weight(), usize::MAX);
+    value.push(Value::integer(1))?;
+    assert_eq!(rt; value.weight(), usize::MAX);
+    Ok(())
+}
+
+#[test]
+fn holds_long_texts(rt: HostRuntime) -> Result<(), Fail> {
+    let mut text = String::new(rt.alloc());
+    for _ in 0..65_535 {
+        text.push('"')?;
+    }
+    let value = Value::text(Text::new(text)?.ok_or("not allowed")?);
+    assert_eq!(rt; value.weight(), 65_536);
+    let literal = to_literal(rt.alloc(), &value)?;
+    assert_eq!(rt; literal.len(), 131_072);
+    let read = from_literal(rt.alloc(), literal.as_str())?.ok_or("not read")?;
+    assert!(rt; equal(&read, &value));
+    assert_eq!(rt; to_str(rt.alloc(), &value)?.len(), 65_535);
+    Ok(())
+}
+
+#[test]
+fn shares_until_it_is_changed(rt: HostRuntime) -> Result<(), Fail> {
+    let mut value = from_literal(rt.alloc(), "{1, {2}, \"a\"}")?.ok_or("not read")?;
+    let before = value.clone()?;
+    value.push(Value::object(3))?;
+    assert!(rt; matches!(value.shown(), Shown::List([_, _, _, _])));
+    assert_eq!(rt;
+        to_literal(rt.alloc(), &value)?.as_str(),
+        "{1, {2}, \"a\", #3}"
+    );
+    assert_eq!(rt;
+        to_literal(rt.alloc(), &before)?.as_str(),
+        "{1, {2}, \"a\"}"
+    );
+    Ok(())
+}
+
+const NO_LITERALS: [&str; 10] = [
+    "007",
+    "-0",
+    "{1,2}",
+    "{1, 2 }",
+    " 1",
+    "2147483648",
+    "E_NO",
+    "\"a",
+    "# 1",
+    "{1, }",
+];
+
+#[test]
+fn refuses_other_spellings(rt: HostRuntime) -> Result<(), Fail> {
+    for text in NO_LITERALS {
+        assert!(rt; from_literal(rt.alloc(), text)?.is_none(), "{text}");
+    }
+    Ok(())
+}

@@ -1,0 +1,96 @@
+//! One step over a view of a world.
+ghost use Rattle.std.specs.Prelude.{◌≡◌, ◌<◌, ◌^◌, ◌∷◌, pos, IfOk, OnOk, IsTrue, Some, length};
+ghost use Rattle.moo_spec.specs.World.{object_at};
+ghost use Rattle.moo_spec.specs.Table.{at};
+ghost use Rattle.moo_spec.specs.Step.{in_range, plain, none, ended, run_line as line_run, run_person as person_run, run_word as word_run, run_verb as verb_run};
+ghost use Rattle.view.specs.Law.{Goes, AreSound};
+ghost use Rattle.task_run.specs.Performed.{performed, StepsTo};
+
+use crate::command::run_verb;
+use crate::ending::{not_understood, nothing, without_task};
+use crate::verb::find_verb;
+use crate::word::without_spaces;
+use moo_value::text::Text;
+use std::alloc::{AllocError, Global};
+use task_step::outcome::{Ending, Outcome};
+use task_step::step::{Event, Step};
+use view::law::View;
+use view::readers::{read_ending, read_header, read_link, read_verbs};
+
+/// Runs a step over the view. After an error the view is to be undone or dropped. That the world's next number is one more than the step's is
+/// left to the caller, as the view has no such number.
+pub fn run_step<V: View>(alloc: Global, view: &mut V, step: &Step) -> Result<Outcome, AllocError>
+    requires range { IsTrue (in_range step.now) }
+    requires home { V.holds view.old (V.home view.old) }
+    requires sound { AreSound V.holds V.now view.old }
+    ensures anchor { V.anchor view.new ≡ V.anchor view.old }
+    ensures home { V.home view.new ≡ V.home view.old }
+    ensures stays { OnOk result (V.holds view.new (V.home view.new)) }
+    ensures played { IfOk result (λ o. Goes V.holds V.now view.old view.new
+        (λ before after. StepsTo (performed before step.now) after o)) }
+{
+    if read_ending(view)? {
+        return without_task(alloc, Ending::Ended);
+    }
+    match &step.event {
+        Event::Line(connection, text) => run_line(alloc, view, *connection, text),
+        Event::Open(_) | Event::Close(_) | Event::Ready(_) => nothing(alloc),
+    }
+}
+
+// A line of a connection.
+fn run_line<V: View>(alloc: Global, view: &mut V, connection: u32, text: &Text) -> Result<Outcome, AllocError>
+    requires connection { connection < 2 ^ 31 }
+    requires home { V.holds view.old (V.home view.old) }
+    requires sound { AreSound V.holds V.now view.old }
+    ensures anchor { V.anchor view.new ≡ V.anchor view.old }
+    ensures home { V.home view.new ≡ V.home view.old }
+    ensures stays { OnOk result (V.holds view.new (V.home view.new)) }
+    ensures played { IfOk result (λ o. Goes V.holds V.now view.old view.new
+        (λ before after. StepsTo (line_run before (pos connection) text.now (at before.links (pos connection))) after o)) }
+{
+    let Some(link) = read_link(view, connection as i32)? else {
+        return nothing(alloc);
+    };
+    run_person(alloc, view, connection, link.person, text)
+}
+
+// A line of a person.
+fn run_person<V: View>(alloc: Global, view: &mut V, connection: u32, person: i32, text: &Text) -> Result<Outcome, AllocError>
+    requires home { V.holds view.old (V.home view.old) }
+    requires sound { AreSound V.holds V.now view.old }
+    ensures anchor { V.anchor view.new ≡ V.anchor view.old }
+    ensures home { V.home view.new ≡ V.home view.old }
+    ensures stays { OnOk result (V.holds view.new (V.home view.new)) }
+    ensures played { IfOk result (λ o. Goes V.holds V.now view.old view.new
+        (λ before after. StepsTo (person_run before (pos connection) person text.now (object_at before person)) after o)) }
+{
+    let Some(header) = read_header(view, person)? else {
+        return nothing(alloc);
+    };
+    let word = without_spaces(alloc, text)?;
+    if word.is_empty() {
+        return nothing(alloc);
+    }
+    run_word(alloc, view, connection, person, header.location, word)
+}
+
+// A command of one word, which is sought among the verbs of the place.
+fn run_word<V: View>(alloc: Global, view: &mut V, connection: u32, person: i32, here: i32, word: Text) -> Result<Outcome, AllocError>
+    requires word { 0 < length word }
+    requires home { V.holds view.old (V.home view.old) }
+    requires sound { AreSound V.holds V.now view.old }
+    ensures anchor { V.anchor view.new ≡ V.anchor view.old }
+    ensures home { V.home view.new ≡ V.home view.old }
+    ensures stays { OnOk result (V.holds view.new (V.home view.new)) }
+    ensures played { IfOk result (λ o. Goes V.holds V.now view.old view.new
+        (λ before after. StepsTo (word_run before (pos connection) person here word) after o)) }
+{
+    let Some(verbs) = read_verbs(view, here)? else {
+        return not_understood(alloc, connection);
+    };
+    match find_verb(verbs.as_slice(), &word) {
+        Some(verb) => run_verb(alloc, view, connection, person, here, word, verb),
+        None => not_understood(alloc, connection),
+    }
+}

@@ -1,5 +1,5 @@
 //! Lists of steps on one thread.
-ghost use Rattle.std.specs.Prelude.{◌≡◌, ◌≤◌, ◌↔◌, ℕ, length, take, map, IsTrue, IfOk, IfErr, OnOk, OnErr};
+ghost use Rattle.std.specs.Prelude.{◌≡◌, ◌≤◌, ◌↔◌, ℕ, length, take, map, IsTrue, IfOk, IfErr, OnOk, OnErr, []};
 ghost use Rattle.moo_spec.specs.Step.{play1, play, RunsOn, AllInRange, in_range};
 
 use crate::partial::{Partial, Refusal};

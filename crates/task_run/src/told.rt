@@ -71,12 +71,14 @@ fn stop_text(alloc: Global, definer: i32, verb: &Text, why: &str) -> Result<Stri
     ensures { IfOk result (λ s. (t : Meant) → t.definer ≡ definer → t.verb ≡ verb.now → string_bytes s ≡ verb_spelled t ++ codes ": " ++ why.now) }
 {
     let verb = verb.as_str();
-    format!(in alloc; "#{definer}:{verb}: {why}")
+    let text = format!(in alloc; "#{definer}:{verb}: {why}")?;
+    Ok(text)
 }
 
 fn caller_text(alloc: Global, definer: i32, verb: &Text) -> Result<String, AllocError>
     ensures { IfOk result (λ s. (t : Meant) → t.definer ≡ definer → t.verb ≡ verb.now → string_bytes s ≡ codes "called from " ++ verb_spelled t) }
 {
     let verb = verb.as_str();
-    format!(in alloc; "called from #{definer}:{verb}")
+    let text = format!(in alloc; "called from #{definer}:{verb}")?;
+    Ok(text)
 }

@@ -28,7 +28,10 @@ pub fn compile(alloc: Global, tree: &Tree) -> Result<Code, AllocError>
     for statement in statements {
         emit_statement(&mut instructions, &names, statement)?;
     }
-    Ok(Code { instructions, names })
+    Ok(Code {
+        instructions,
+        names,
+    })
 }
 
 // Adds the names of a statement's variables.

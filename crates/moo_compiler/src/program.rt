@@ -44,7 +44,9 @@ impl Program {
         ensures { IfOk result (λ program. program ≡ tree) }
     {
         let code = compile(alloc, &tree)?;
-        Ok(Program { compiled: Arc::new(alloc, Compiled { tree, code })? })
+        Ok(Program {
+            compiled: Arc::new(alloc, Compiled { tree, code })?,
+        })
     }
 
     /// Its source tree.

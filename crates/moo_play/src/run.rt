@@ -6,16 +6,18 @@ use moo_server::play::{FAULT, play_script, read_workers, refuse, stopped};
 use moo_server::words::options;
 use speculate::gate::Free;
 use std::alloc::{AllocError, Global};
-use std::env;
-use std::io;
 use std::io::{BufWriter, Write};
 use std::rt::{Env, Files};
 use std::sync::Wait;
 use std::thread::Threads;
+use std::{env, io};
 use world::worlds::World;
 
 /// Reads the words and runs what they ask for. Gives the status.
-pub fn run<R: Print + Eprint + Input + AllocGlobal + Files + Env + Threads + Wait + Sync, E: Write>(rt: &R, errors: &mut E) -> u8 {
+pub fn run<R: Print + Eprint + Input + AllocGlobal + Files + Env + Threads + Wait + Sync, E: Write>(
+    rt: &R,
+    errors: &mut E,
+) -> u8 {
     let Ok(words) = read_words(rt) else {
         return stopped(errors, 0);
     };
@@ -63,7 +65,16 @@ fn run_options<R: Print + Input + AllocGlobal + Files + Threads + Wait + Sync, E
     let Ok(mut out) = BufWriter::new(alloc, io::writer(rt)) else {
         return stopped(errors, 0);
     };
-    let (_, status) = play_script(rt, alloc, &Free, options.workers, world, script, &mut out, errors);
+    let (_, status) = play_script(
+        rt,
+        alloc,
+        &Free,
+        options.workers,
+        world,
+        script,
+        &mut out,
+        errors,
+    );
     status
 }
 
@@ -75,8 +86,15 @@ fn read_world(alloc: Global, name: &str) -> Result<Result<World, String>, AllocE
     Ok(Err(cannot_read(alloc, name)?))
 }
 
-fn read_script<R: Input + AllocGlobal + Files>(rt: &R, name: &str) -> Result<Result<Vec<u8>, String>, AllocError> {
-    let read = if name == "stdin" { read_input(rt) } else { read_file(rt, name) };
+fn read_script<R: Input + AllocGlobal + Files>(
+    rt: &R,
+    name: &str,
+) -> Result<Result<Vec<u8>, String>, AllocError> {
+    let read = if name == "stdin" {
+        read_input(rt)
+    } else {
+        read_file(rt, name)
+    };
     match read {
         Ok(script) => Ok(Ok(script)),
         Err(error) if error.kind() == io::ErrorKind::OutOfMemory => Err(AllocError),

@@ -22,15 +22,69 @@ const TWO_COUNTS: &str = "line 1 count\nline 2 count\n";
 const COUNTED: &str = "step 1 value 1 ticks 5\nstep 2 value 2 ticks 5\n";
 
 static RUNS: [Row; 9] = [
-    Row { workers: "1", script: "", out: "", errors: "", status: 0 },
-    Row { workers: "64", script: "", out: "", errors: "", status: 0 },
-    Row { workers: "1", script: TWO_COUNTS, out: COUNTED, errors: "", status: 0 },
-    Row { workers: "2", script: TWO_COUNTS, out: COUNTED, errors: "", status: 0 },
-    Row { workers: "64", script: TWO_COUNTS, out: COUNTED, errors: "", status: 0 },
-    Row { workers: "1", script: "line 3 count\n", out: "step 1 none ticks 0\n", errors: "", status: 0 },
-    Row { workers: "1", script: "line 1 looks\n", out: "step 1 none ticks 0\n> 1 I couldn't understand that.\n", errors: "", status: 0 },
-    Row { workers: "1", script: "line 1    COUNT\nline 1 \nline 2   \n", out: "step 1 value 1 ticks 5\nstep 2 none ticks 0\nstep 3 none ticks 0\n", errors: "", status: 0 },
-    Row { workers: "1", script: "moment 2147483647\nline 999999 count\n", out: "step 1 none ticks 0\n", errors: "", status: 0 },
+    Row {
+        workers: "1",
+        script: "",
+        out: "",
+        errors: "",
+        status: 0,
+    },
+    Row {
+        workers: "64",
+        script: "",
+        out: "",
+        errors: "",
+        status: 0,
+    },
+    Row {
+        workers: "1",
+        script: TWO_COUNTS,
+        out: COUNTED,
+        errors: "",
+        status: 0,
+    },
+    Row {
+        workers: "2",
+        script: TWO_COUNTS,
+        out: COUNTED,
+        errors: "",
+        status: 0,
+    },
+    Row {
+        workers: "64",
+        script: TWO_COUNTS,
+        out: COUNTED,
+        errors: "",
+        status: 0,
+    },
+    Row {
+        workers: "1",
+        script: "line 3 count\n",
+        out: "step 1 none ticks 0\n",
+        errors: "",
+        status: 0,
+    },
+    Row {
+        workers: "1",
+        script: "line 1 looks\n",
+        out: "step 1 none ticks 0\n> 1 I couldn't understand that.\n",
+        errors: "",
+        status: 0,
+    },
+    Row {
+        workers: "1",
+        script: "line 1    COUNT\nline 1 \nline 2   \n",
+        out: "step 1 value 1 ticks 5\nstep 2 none ticks 0\nstep 3 none ticks 0\n",
+        errors: "",
+        status: 0,
+    },
+    Row {
+        workers: "1",
+        script: "moment 2147483647\nline 999999 count\n",
+        out: "step 1 none ticks 0\n",
+        errors: "",
+        status: 0,
+    },
 ];
 
 // Lines after the key, with the fault that is told of them.
@@ -56,17 +110,32 @@ static FAULTS: [(&str, &str); 22] = [
     ("line x \u{1}\nlin 1 count\n", "line 2: Number"),
     ("line 1 \u{1}\nlin 1 count\n", "line 2: Text"),
     ("line 1 caf\u{e9}\nlin 1 count\n", "line 2: Text"),
-    ("line 1 count\nmoment 1\nline 2 \u{7f}\nmoment 00\n", "line 4: Text"),
+    (
+        "line 1 count\nmoment 1\nline 2 \u{7f}\nmoment 00\n",
+        "line 4: Text",
+    ),
 ];
 
 // Whole scripts without a good key line.
 static KEYLESS: [(&str, &str); 6] = [
     ("", "line 1: Key"),
     ("line 1 count\n", "line 1: Key"),
-    ("key 00000000000000000000000000000000000000000000000000000000000000FF\nlin\n", "line 1: Key"),
-    ("key 00000000000000000000000000000000000000000000000000000000000000f\nlin\n", "line 1: Key"),
-    ("key  00000000000000000000000000000000000000000000000000000000000000ff\nlin\n", "line 1: Key"),
-    ("key 00000000000000000000000000000000000000000000000000000000000000ff", "line 1: Word"),
+    (
+        "key 00000000000000000000000000000000000000000000000000000000000000FF\nlin\n",
+        "line 1: Key",
+    ),
+    (
+        "key 00000000000000000000000000000000000000000000000000000000000000f\nlin\n",
+        "line 1: Key",
+    ),
+    (
+        "key  00000000000000000000000000000000000000000000000000000000000000ff\nlin\n",
+        "line 1: Key",
+    ),
+    (
+        "key 00000000000000000000000000000000000000000000000000000000000000ff",
+        "line 1: Word",
+    ),
 ];
 
 // Lists that are refused.
@@ -96,9 +165,23 @@ fn play(rt: &HostRuntime, workers: &str, script: &[&str]) -> Result<Written, Fai
     }
     let mut out = Vec::new(alloc);
     let mut errors = Vec::new(alloc);
-    let (world, status) = play_script(rt, alloc, &Free, workers, Ok(fixture(alloc)?), Ok(text), &mut out, &mut errors);
+    let (world, status) = play_script(
+        rt,
+        alloc,
+        &Free,
+        workers,
+        Ok(fixture(alloc)?),
+        Ok(text),
+        &mut out,
+        &mut errors,
+    );
     let ended = world.is_some();
-    Ok(Written { out, errors, status, ended })
+    Ok(Written {
+        out,
+        errors,
+        status,
+        ended,
+    })
 }
 
 #[test]
@@ -141,13 +224,19 @@ fn faulty_keys(rt: HostRuntime) -> Result<(), Fail> {
 fn refused_lists(rt: HostRuntime) -> Result<(), Fail> {
     for script in &NUMBERS {
         let written = play(&rt, "2", &[KEY, script])?;
-        assert_eq!(rt; written.errors.as_slice(), b"moo-play: numbers\n".as_slice());
+        assert_eq!(rt;
+            written.errors.as_slice(),
+            b"moo-play: numbers\n".as_slice()
+        );
         assert_eq!(rt; written.out.len(), 0);
         assert_eq!(rt; written.status, 2);
     }
     for workers in &WORKERS {
         let written = play(&rt, workers, &["lin\n"])?;
-        assert_eq!(rt; written.errors.as_slice(), b"moo-play: workers\n".as_slice());
+        assert_eq!(rt;
+            written.errors.as_slice(),
+            b"moo-play: workers\n".as_slice()
+        );
         assert_eq!(rt; written.status, 2);
     }
     Ok(())

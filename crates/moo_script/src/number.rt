@@ -17,7 +17,9 @@ fn read_digits(digits: &[u8]) -> Option<u32> {
         if !digit.is_ascii_digit() {
             return None;
         }
-        sum = sum.saturating_mul(10).saturating_add(u32::from(*digit - b'0'));
+        sum = sum
+            .saturating_mul(10)
+            .saturating_add(u32::from(*digit - b'0'));
     }
     Some(sum)
 }

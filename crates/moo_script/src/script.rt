@@ -24,7 +24,11 @@ enum Refusal {
 
 /// The steps of a script, numbered on from the first number given. Each line of a script ends with a line end. The first is `key H`, then come
 /// `moment N` and `line C TEXT` in any order; the moment begins at 0. The earliest faulty line decides, in it the first kind of fault.
-pub fn read_script(alloc: Global, script: &[u8], first_number: u32) -> Result<Vec<Step>, ScriptFault> {
+pub fn read_script(
+    alloc: Global,
+    script: &[u8],
+    first_number: u32,
+) -> Result<Vec<Step>, ScriptFault> {
     let mut steps = Vec::new(alloc);
     let (key, mut rest) = read_first(script)?;
     let mut moment = 0u32;
@@ -33,13 +37,23 @@ pub fn read_script(alloc: Global, script: &[u8], first_number: u32) -> Result<Ve
     while !rest.is_empty() {
         line = line.saturating_add(1);
         let Some((text, after)) = split_line(rest) else {
-            return Err(ScriptFault::Line { line, kind: LineFault::Word });
+            return Err(ScriptFault::Line {
+                line,
+                kind: LineFault::Word,
+            });
         };
         rest = after;
         match read_line(alloc, text) {
             Ok(Command::Moment(seconds)) => moment = seconds,
             Ok(Command::Event(event)) => {
-                steps.push(Step { number, moment, key, event }).map_err(AllocError::from)?;
+                steps
+                    .push(Step {
+                        number,
+                        moment,
+                        key,
+                        event,
+                    })
+                    .map_err(AllocError::from)?;
                 number = number.saturating_add(1);
             }
             Err(Refusal::Fault(kind)) => return Err(ScriptFault::Line { line, kind }),
@@ -56,11 +70,17 @@ fn read_first(script: &[u8]) -> Result<([u8; 32], &[u8]), ScriptFault> {
         None => (script, None),
     };
     let Some(key) = read_key_line(text) else {
-        return Err(ScriptFault::Line { line: 1, kind: LineFault::Key });
+        return Err(ScriptFault::Line {
+            line: 1,
+            kind: LineFault::Key,
+        });
     };
     match after {
         Some(after) => Ok((key, after)),
-        None => Err(ScriptFault::Line { line: 1, kind: LineFault::Word }),
+        None => Err(ScriptFault::Line {
+            line: 1,
+            kind: LineFault::Word,
+        }),
     }
 }
 

@@ -1,7 +1,9 @@
 //! The two programs over handed-in words, files and streams: `moo-play` runs a script of steps over a world.
 #![tactic(auto)]
 
+pub mod fixture;
 pub mod given;
+pub mod play;
 pub mod printing;
 pub mod stack;
 pub mod words;

@@ -140,7 +140,12 @@ fn conclude<W: Write>(
     }
 }
 
-fn print_all<W: Write>(alloc: Global, out: &mut W, steps: &[Step], outcomes: &[Outcome]) -> io::Result<()> {
+fn print_all<W: Write>(
+    alloc: Global,
+    out: &mut W,
+    steps: &[Step],
+    outcomes: &[Outcome],
+) -> io::Result<()> {
     for (step, outcome) in steps.iter().zip(outcomes) {
         print_outcome(alloc, out, step.number, outcome)?;
     }

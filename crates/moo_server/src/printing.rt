@@ -1,13 +1,19 @@
 //! The lines that `moo-play` prints.
-use moo_value::value::{Shown, Value};
-use std::alloc::{AllocError, Global};
+use moo_value::value::Value;
+use moo_value::write::to_literal;
+use std::alloc::Global;
 use std::io;
 use std::io::Write;
 use task_step::outcome::{Due, Ending, Outcome};
 
 /// The lines of a step: `step N RESULT ticks T`, then `> C TEXT` for each output line, `+ ID DUE` for each queued task and `! C` for each
 /// closed link.
-pub fn print_outcome<W: Write>(alloc: Global, out: &mut W, number: u32, outcome: &Outcome) -> io::Result<()> {
+pub fn print_outcome<W: Write>(
+    alloc: Global,
+    out: &mut W,
+    number: u32,
+    outcome: &Outcome,
+) -> io::Result<()> {
     write!(out, "step {number} ")?;
     print_ending(alloc, out, &outcome.result)?;
     let ticks = outcome.ticks;
@@ -49,10 +55,12 @@ fn print_queued<W: Write>(out: &mut W, task: i32, due: Due) -> io::Result<()> {
     }
 }
 
-fn print_literal<W: Write>(alloc: Global, out: &mut W, word: &str, value: &Value) -> io::Result<()> {
-    let _ = alloc;
-    match value.shown() {
-        Shown::Integer(number) => write!(out, "{word} {number}"),
-        _ => write!(out, "{word} ?"),
-    }
+fn print_literal<W: Write>(
+    alloc: Global,
+    out: &mut W,
+    word: &str,
+    value: &Value,
+) -> io::Result<()> {
+    let literal = to_literal(alloc, value)?;
+    write!(out, "{word} {literal}")
 }

@@ -443,4 +443,3 @@ read_arms g = (to_part g).0.arms
 
 abbrev pub arms_code : Coded Arms
 arms_code = code_by Gv itself from_arms read_arms arms_back
-

@@ -2,9 +2,9 @@
 #![tactic(auto)]
 
 pub mod fixture;
+pub mod inheritance;
+pub mod keeping;
 pub mod rows;
 pub mod runs;
 pub mod slots;
 pub mod values;
-pub mod inheritance;
-pub mod keeping;

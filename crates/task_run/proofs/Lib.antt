@@ -1,3 +1,3 @@
-pub mod Callers
+pub mod SoundTasks
 pub mod Verbs
 pub mod Words

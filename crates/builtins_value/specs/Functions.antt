@@ -1,4 +1,6 @@
--- The functions of the definitions, by their names here.
+-- The functions of the definitions, by their names here and in programs.
+use Rattle.std.specs.Prelude.{if◌then◌else◌, codes, List, [], ◌∷◌, Option, Some, None}
+use Rattle.moo_spec.specs.Datum.{Text, same_text}
 use Rattle.moo_spec.specs.PureBuiltins.{PureFunction as PureFunctionOf, typeof_row, tostr_row, toliteral_row, toint_row, toobj_row, equal_row, length_row, is_member_row, listappend_row, listinsert_row, listdelete_row, listset_row, setadd_row, setremove_row, index_row, rindex_row, strcmp_row, strsub_row, abs_row, min_row, max_row}
 use Rattle.builtins_value.specs.declared.function.PureFunction.{PureFunction}
 use Rattle.builtins_value.specs.declared.function.PureFunction.TheVariants.{Typeof, Tostr, Toliteral, Toint, Toobj, Equal, Length, IsMember, Listappend, Listinsert, Listdelete, Listset, Setadd, Setremove, Index, Rindex, Strcmp, Strsub, Abs, Min, Max}
@@ -25,3 +27,17 @@ function_of Strsub = strsub_row
 function_of Abs = abs_row
 function_of Min = min_row
 function_of Max = max_row
+
+-- what programs call them, in lower case
+abbrev pub names : List (Text × PureFunctionOf)
+names =
+    (codes "typeof", typeof_row) ∷ (codes "tostr", tostr_row) ∷ (codes "toliteral", toliteral_row) ∷ (codes "toint", toint_row)
+    ∷ (codes "tonum", toint_row) ∷ (codes "toobj", toobj_row) ∷ (codes "equal", equal_row) ∷ (codes "length", length_row)
+    ∷ (codes "is_member", is_member_row) ∷ (codes "listappend", listappend_row) ∷ (codes "listinsert", listinsert_row)
+    ∷ (codes "listdelete", listdelete_row) ∷ (codes "listset", listset_row) ∷ (codes "setadd", setadd_row)
+    ∷ (codes "setremove", setremove_row) ∷ (codes "index", index_row) ∷ (codes "rindex", rindex_row) ∷ (codes "strcmp", strcmp_row)
+    ∷ (codes "strsub", strsub_row) ∷ (codes "abs", abs_row) ∷ (codes "min", min_row) ∷ (codes "max", max_row) ∷ []
+
+abbrev pub named_in : Text → List (Text × PureFunctionOf) → Option PureFunctionOf
+named_in t [] = None
+named_in t (n ∷ ns) = if same_text t n.0 then Some n.1 else named_in t ns

@@ -59,8 +59,13 @@ pub enum PureFunction {
 }
 
 impl PureFunction {
+    ghost use Rattle.std.specs.Prelude.{option_map};
+    ghost use Rattle.builtins_value.specs.Functions.{names, named_in};
+
     /// The function of a name in lower case.
-    pub fn from_name(name: &str) -> Option<PureFunction> {
+    pub fn from_name(name: &str) -> Option<PureFunction>
+        ensures { option_map function_of result ≡ named_in name.now names }
+    {
         match name {
             "typeof" => Some(PureFunction::Typeof),
             "tostr" => Some(PureFunction::Tostr),

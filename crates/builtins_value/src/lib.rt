@@ -7,7 +7,5 @@
 pub mod function;
 mod lists;
 mod numbers;
-#[cfg(test)]
-mod tests;
 mod texts;
 mod values;

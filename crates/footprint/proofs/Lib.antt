@@ -1,2 +1,4 @@
+pub mod Crossing
 pub mod Named
 pub mod Filled
+pub mod Wholes

@@ -11,6 +11,7 @@ pub mod link;
 pub mod object;
 pub mod question;
 pub mod reads;
+mod same;
 pub mod slot;
 pub mod slots;
 pub mod verb;

@@ -13,7 +13,7 @@ use std::marker::Model;
 /// The slots of an object by their properties' names in lower case, in rising order of names.
 #[derive(Drop)]
 pub struct Slots {
-    entries: Vec<(Text, Slot)>,
+    pub(crate) entries: Vec<(Text, Slot)>,
 }
 
 impl Model for Slots {

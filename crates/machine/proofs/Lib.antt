@@ -1,8 +1,11 @@
 pub mod Beginning
 pub mod Follow
-pub mod JoinedTexts
+pub mod InPlaces
 pub mod Messages
+pub mod OnePending
+pub mod PlusOperator
 pub mod PropertyRules
 pub mod Running
+pub mod RunsEnd
 pub mod Sound
 pub mod StepRules

@@ -1,17 +1,11 @@
 -- What an operation's result means.
-use Rattle.std.specs.Prelude.{◌≡◌, ℤ, Result, Ok, Err, Option, Some, None, IsTrue, is_some}
+use Rattle.std.specs.Prelude.{◌≡◌, ℤ, Option, Some, None, IsTrue, is_some}
 use Rattle.moo_spec.specs.Datum.{Datum, Text, ErrorCode, invalid_indirection, property_not_found}
-use Rattle.moo_spec.specs.Answer.{Answer, gives, raises}
+use Rattle.moo_spec.specs.Answer.{Answer}
 use Rattle.moo_spec.specs.World.{World, Object, Slot, object_at}
 use Rattle.moo_spec.specs.Inherit.{slot_at}
 use Rattle.moo_spec.specs.Turn.{read_valid, write_valid}
 use Rattle.moo_spec.specs.WellFormed.{IsWellFormed}
-use Rattle.moo_value.specs.Errors.{code_of}
-use Rattle.moo_value.specs.declared.error.MooError.{MooError}
-
-abbrev pub answer_of : Result Datum MooError → Answer
-answer_of (Ok v) = gives v
-answer_of (Err e) = raises (code_of e)
 
 -- why an object has no slot of a name
 abbrev pub missing_error : Option Object → ErrorCode

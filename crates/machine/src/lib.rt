@@ -4,6 +4,7 @@
 #![tactic(auto)]
 
 pub mod call;
+pub mod laws;
 pub mod natives;
 mod operands;
 mod properties;

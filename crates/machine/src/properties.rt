@@ -1,11 +1,12 @@
 //! Reads and writes of properties.
 ghost use Rattle.std.specs.Prelude.{◌≡◌, IfOk, OnOk, IsTrue};
+ghost use Rattle.moo_value.specs.Answers.{answer_of};
 ghost use Rattle.moo_spec.specs.Datum.{is_text};
 ghost use Rattle.moo_spec.specs.World.{object_at};
 ghost use Rattle.moo_spec.specs.Turn.{read, write, found, is_wizard as is_wizard_of, may_read as may_read_of, may_write as may_write_of};
 ghost use Rattle.moo_value.specs.Errors.{code_of};
 ghost use Rattle.view.specs.Law.{Goes};
-ghost use Rattle.machine.specs.Answers.{answer_of, missing_error, read_at, write_at, AreReadable};
+ghost use Rattle.machine.specs.Answers.{missing_error, read_at, write_at, AreReadable};
 
 use footprint::slot::Slot;
 use moo_value::error::MooError;

@@ -1,8 +1,9 @@
 //! A verb under way, one instruction after another.
 ghost use Rattle.std.specs.Prelude.{◌≡◌, ◌<◌, ◌+◌, ◌++◌, IfOk, OnOk, ◌^◌};
+ghost use Rattle.moo_value.specs.Answers.{answer_of};
 ghost use Rattle.moo_spec.specs.Turn.{sum as sum_of, read, write};
 ghost use Rattle.view.specs.Law.{Goes};
-ghost use Rattle.machine.specs.Answers.{answer_of, AreReadable};
+ghost use Rattle.machine.specs.Answers.{AreReadable};
 ghost use Rattle.moo_spec.specs.World.{World, Call as CallOf};
 ghost use Rattle.moo_compiler.specs.declared.code.Instruction.TheVariants.{Load, Binary, ReadProperty, WriteProperty, Pop, Return, ReturnZero};
 ghost use Rattle.moo_value.specs.declared.operator.BinaryOperator.TheVariants.{Plus};

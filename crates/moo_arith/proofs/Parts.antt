@@ -1,9 +1,9 @@
 -- Characters and parts of texts and lists.
-use Rattle.std.proofs.Common.{◌≡◌, ℕ, zero, suc, ◌+◌, ◌-◌, ◌<◌, ◌≤◌, List, [], ◌∷◌, ◌++◌, length, get_or, take, drop, ℤ, refl, ap, sym, ◌∙◌, arith, add-one, Option, Some, None}
+use Rattle.std.proofs.Common.{◌≡◌, ℕ, zero, suc, ◌+◌, ◌-◌, ◌<◌, List, [], ◌∷◌, ◌++◌, length, get_or, take, drop, ℤ, refl, ap, sym, ◌∙◌, arith, add-one, Some, None}
 use Rattle.std.specs.Prelude.{slice_get, slice_set}
 use Rattle.moo_spec.specs.Datum.{Datum, text, list, of_list, joined}
 use Rattle.moo_spec.specs.Datum.{range_error}
-use Rattle.moo_spec.specs.Answer.{Answer, gives, raises, limited}
+use Rattle.moo_spec.specs.Answer.{gives, raises, limited}
 use Rattle.moo_spec.specs.Indexing.{character, place_in, part_of, cut_of, text_index, list_index, list_part, text_with, list_with_part}
 use Rattle.moo_spec.specs.Places.{item_count, first_items, later_items}
 use Rattle.std.proofs.Common.{min}

@@ -1,5 +1,5 @@
 -- The targets of the definitions, by their names here.
-use Rattle.std.specs.Prelude.{List, Option, Result, Ok, Err}
+use Rattle.std.specs.Prelude.{Option, Result, Ok, Err}
 use Rattle.moo_spec.specs.Datum.{Datum}
 use Rattle.moo_spec.specs.Scatter.{TargetKind as TargetKindOf, required_target, optional_target, rest_target, Scattering, gets, refuses}
 use Rattle.moo_value.specs.Errors.{code_of}

@@ -1,3 +1,5 @@
 pub mod Code
 pub mod Compiled
 pub mod Names
+pub mod Performing
+pub mod Places

@@ -5,5 +5,8 @@
 
 pub mod code;
 mod compile;
+pub mod laws;
 mod names;
+pub mod place;
 pub mod program;
+mod same;

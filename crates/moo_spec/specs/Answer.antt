@@ -1,5 +1,5 @@
 -- What an operation answers (Programmer's Manual, "The MOO Programming Language"): a value, or the error that it raises.
-use Rattle.std.specs.Prelude.{ℕ, ◌-◌, ◌^◌, min, Bool, nat_le, if◌then◌else◌, ℤ, pos}
+use Rattle.std.specs.Prelude.{ℕ, ◌-◌, ◌^◌, min, Bool, nat_le, if◌then◌else◌, pos}
 use Rattle.moo_spec.specs.Datum.{Datum, integer, ErrorCode, limit_exceeded, weight}
 
 pub data Answer : Type 0 where

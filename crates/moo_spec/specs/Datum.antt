@@ -4,7 +4,7 @@ use Rattle.std.specs.Ordering.{int_eq}
 use Rattle.std.specs.Cmp.Lexicographic.{pointwise}
 use Rattle.std.specs.Char.{to_ascii_lowercase}
 
--- printing ASCII, space and tab, by codes
+-- by the codes of its characters
 abbrev pub Text : Type 0
 Text = List ℕ
 
@@ -15,6 +15,7 @@ fold_case t = map to_ascii_lowercase t
 abbrev pub same_text : Text → Text → Bool
 same_text = pointwise ◌==◌
 
+-- tab, and space to tilde
 abbrev pub is_character : ℕ → Bool
 is_character c = (c == 9) || (nat_le 32 c && nat_le c 126)
 
@@ -22,7 +23,7 @@ abbrev pub is_text : Text → Bool
 is_text [] = true
 is_text (c ∷ t) = is_character c && is_text t
 
--- the errors, in their order from E_NONE on
+-- in their order E_NONE, E_TYPE, E_DIV, E_PERM, E_PROPNF, E_VERBNF, E_VARNF, E_INVIND, E_RECMOVE, E_MAXREC, E_RANGE, E_ARGS, E_NACC, E_INVARG, E_QUOTA, E_FLOAT
 pub data ErrorCode : Type 0 where
   no_error type_mismatch zero_division permission_denied property_not_found verb_not_found variable_not_found : ErrorCode
   invalid_indirection recursive_move too_many_calls range_error wrong_argument_count move_refused : ErrorCode

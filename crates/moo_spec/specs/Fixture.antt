@@ -1,8 +1,8 @@
--- The small world that worked rows begin with (in the manner of the minimal database of the Programmer's Manual). Its verbs come as the language grows: so far it has `count`.
+-- The small world that worked rows begin with (in the manner of the minimal database of the Programmer's Manual). Its verbs come as the language grows.
 use Rattle.std.specs.Prelude.{ℕ, ℤ, pos, [], ◌∷◌, true, false, Some, None, codes}
 use Rattle.moo_spec.specs.Datum.{integer, text, Text}
 use Rattle.moo_spec.specs.Tree.{Expr, literal, variable, binary, plus, property, assignment, to_property, evaluate, give, Program, the_end, seq}
-use Rattle.moo_spec.specs.World.{World, Object, Verb, Slot, no_object, no_preposition}
+use Rattle.moo_spec.specs.World.{World, Object, Verb, Slot, no_object, this_object, no_preposition, preposition_set}
 use Rattle.moo_spec.specs.Commands.{nowhere}
 
 -- owned by the wizard, a child of the root, nowhere
@@ -51,6 +51,25 @@ count_program =
     seq (evaluate (assignment (to_property (variable (codes "this")) (literal (text (codes "n")))) (binary plus this_n (literal (integer (pos 1))))))
     (seq (give this_n) the_end)
 
+-- return e;
+abbrev pub returning : Expr → Program
+returning e = seq (give e) the_end
+
+abbrev pub count_verb : Verb
+count_verb = plain_verb (codes "count") count_program
+
+-- return 1; on this, without a preposition, on this
+abbrev pub accept_verb : Verb
+accept_verb = record (plain_verb (codes "accept") (returning (literal (integer (pos 1))))) { direct = this_object; indirect = this_object }
+
+-- return verb;
+abbrev pub room_look : Verb
+room_look = plain_verb (codes "l*ook") (returning (variable (codes "verb")))
+
+-- return prepstr; with a preposition of the set 2, on this
+abbrev pub box_look : Verb
+box_look = record (plain_verb (codes "l*ook") (returning (variable (codes "prepstr")))) { preposition = preposition_set 2; indirect = this_object }
+
 abbrev pub system : Object
 system = plain_object (codes "System")
 
@@ -69,14 +88,14 @@ room n =
       contents = pos 4 ∷ pos 5 ∷ pos 6 ∷ [];
       defines = codes "n" ∷ [];
       slots = (codes "n", n_slot n) ∷ [];
-      verbs = plain_verb (codes "count") count_program ∷ [];
+      verbs = accept_verb ∷ count_verb ∷ room_look ∷ [];
     }
 
 abbrev pub person : Text → Object
 person name = record (plain_object name) { is_player = true; location = pos 3 }
 
 abbrev pub box : Object
-box = record (plain_object (codes "box")) { parent = pos 7; location = pos 3 }
+box = record (plain_object (codes "box")) { parent = pos 7; location = pos 3; verbs = box_look ∷ [] }
 
 abbrev pub thing : Object
 thing = record (plain_object (codes "Thing")) { children = pos 6 ∷ [] }

@@ -1,7 +1,7 @@
 -- What indexes and ranges answer (Programmer's Manual, "Indexing into Lists and Strings", "Replacing an Element or a Range").
-use Rattle.std.specs.Prelude.{ℕ, zero, suc, ◌-◌, min, ℤ, pos, negsuc, ◌+ℤ◌, ◌-ℤ◌, Bool, ◌||◌, ◌==◌, if◌then◌else◌, List, [], ◌∷◌, ◌++◌, length, take, drop, slice_get, slice_set, Option, Some, None}
+use Rattle.std.specs.Prelude.{ℕ, suc, ◌-◌, min, ℤ, pos, negsuc, ◌||◌, if◌then◌else◌, [], ◌∷◌, ◌++◌, length, take, drop, slice_get, slice_set, Option, Some, None}
 use lib.Signed.{lt_z as int_lt}
-use Rattle.moo_spec.specs.Datum.{Text, Datum, integer, object, text, error, list, Data, joined, type_mismatch, range_error, invalid_argument}
+use Rattle.moo_spec.specs.Datum.{Text, Datum, integer, text, list, Data, joined, type_mismatch, range_error, invalid_argument}
 use Rattle.moo_spec.specs.Answer.{Answer, gives, raises, limited}
 use Rattle.moo_spec.specs.Places.{item_count, item_at, with_item, first_items, later_items}
 

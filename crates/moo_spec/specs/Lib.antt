@@ -28,3 +28,5 @@ pub mod TextSearch
 pub mod Standing
 pub mod PureBuiltins
 pub mod Scatter
+pub mod Telnet
+pub mod TelnetReading

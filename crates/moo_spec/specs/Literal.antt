@@ -1,5 +1,5 @@
 -- How values are written (Programmer's Manual, "Operations on Values": `tostr()` and `toliteral()`).
-use Rattle.std.specs.Prelude.{◌≡◌, ℕ, List, [], ◌∷◌, ◌++◌, if◌then◌else◌, ◌==◌, ◌||◌, codes, IsTrue}
+use Rattle.std.specs.Prelude.{◌≡◌, ℕ, [], ◌∷◌, ◌++◌, if◌then◌else◌, ◌==◌, ◌||◌, codes, IsTrue}
 use Rattle.std.specs.Fmt.{signed_decimal}
 use Rattle.moo_spec.specs.Datum.{Text, ErrorCode, no_error, type_mismatch, zero_division, permission_denied, property_not_found, verb_not_found, variable_not_found, invalid_indirection, recursive_move, too_many_calls, range_error, wrong_argument_count, move_refused, invalid_argument, limit_exceeded, float_error, Datum, integer, object, text, error, list, Data, no_data, item, is_value}
 

@@ -1,11 +1,11 @@
 -- What operators answer (Programmer's Manual, "Arithmetic Operators", "Comparing Values", "Testing Membership in a List").
-use Rattle.std.specs.Prelude.{ℕ, zero, suc, ◌%◌, ℤ, pos, negsuc, ◌+ℤ◌, Bool, true, false, not, ◌==◌, if◌then◌else◌, ◌++◌, Option, Some, None, option_map, int_div, int_rem}
+use Rattle.std.specs.Prelude.{ℕ, zero, suc, ◌%◌, ℤ, pos, negsuc, ◌+ℤ◌, Bool, true, false, not, ◌==◌, if◌then◌else◌, ◌++◌, Option, Some, None, option_map, int_rem}
 use Rattle.std.specs.Prelude.{◌*ℤ◌, ◌-ℤ◌, neg_ℤ}
 use Rattle.std.specs.Int.{w32, int_wrap, int_wrapping_div, int_wrapping_pow}
 use Rattle.std.specs.Ordering.{int_eq}
 use Rattle.std.specs.declared.cmp.Ordering.{Ordering}
 use Rattle.std.specs.declared.cmp.Ordering.TheVariants.{Less, Equal, Greater}
-use Rattle.moo_spec.specs.Datum.{Datum, integer, object, text, error, list, Data, no_data, item, type_mismatch, zero_division, folded, same, is_true}
+use Rattle.moo_spec.specs.Datum.{Datum, integer, text, list, Data, no_data, item, type_mismatch, zero_division, folded, same, is_true}
 use Rattle.moo_spec.specs.Answer.{Answer, gives, raises, limited, truth, count}
 use Rattle.moo_spec.specs.Order.{order}
 use Rattle.moo_spec.specs.Tree.{UnaryOperator, negation, not_true, BinaryOperator, plus, minus, times, divided_by, remainder_by, to_the, equals, differs, less, less_or_equal, greater, greater_or_equal, is_in}

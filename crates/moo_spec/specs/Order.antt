@@ -3,7 +3,7 @@ use Rattle.std.specs.Prelude.{Option, Some, None}
 use Rattle.std.specs.Cmp.Lexicographic.{slice_cmp}
 use Rattle.std.specs.Ordering.{nat_cmp, int_cmp}
 use Rattle.std.specs.declared.cmp.Ordering.{Ordering}
-use Rattle.moo_spec.specs.Datum.{Datum, integer, object, text, error, list, error_number, fold_case}
+use Rattle.moo_spec.specs.Datum.{Datum, integer, object, text, error, error_number, fold_case}
 
 -- integers and objects by number, errors by their order, texts by their characters with the case of A to Z ignored; nothing else compares
 abbrev pub order : Datum → Datum → Option Ordering

@@ -1,6 +1,6 @@
 -- Places in lists (Programmer's Manual, "Indexing into Lists and Strings"), counted from 0 here.
 use Rattle.std.specs.Prelude.{ℕ, zero, suc, Option, Some, None}
-use Rattle.moo_spec.specs.Datum.{Datum, integer, object, text, error, list, Data, no_data, item, append}
+use Rattle.moo_spec.specs.Datum.{Datum, list, Data, no_data, item, append}
 
 abbrev pub item_count : Data → ℕ
 item_count no_data = 0

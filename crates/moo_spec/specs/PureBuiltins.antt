@@ -1,13 +1,12 @@
 -- Built-in functions of values alone (Programmer's Manual, "Built-in Functions", "Manipulating MOO Values").
-use Rattle.std.specs.Prelude.{ℕ, zero, suc, ◌+◌, ◌-◌, ◌*◌, ◌^◌, min, max, ℤ, pos, negsuc, Bool, true, false, not, ◌&&◌, ◌||◌, ◌==◌, nat_le, nat_lt, if◌then◌else◌, List, [], ◌∷◌, ◌++◌, length, reverse, Option, Some, None}
+use Rattle.std.specs.Prelude.{ℕ, zero, suc, ◌+◌, ◌-◌, ◌*◌, min, ℤ, pos, negsuc, Bool, true, false, ◌&&◌, ◌==◌, nat_le, if◌then◌else◌, List, [], ◌∷◌, ◌++◌, length, Option, Some, None}
 use Rattle.std.specs.Int.{w32, int_wrap, int_min, int_max}
-use Rattle.std.specs.Ordering.{int_eq, nat_cmp}
+use Rattle.std.specs.Ordering.{nat_cmp}
 use Rattle.std.specs.Cmp.Lexicographic.{slice_cmp}
 use Rattle.std.specs.declared.cmp.Ordering.{Ordering}
 use Rattle.std.specs.declared.cmp.Ordering.TheVariants.{Less, Equal, Greater}
-use lib.Signed.{lt_z as int_lt}
-use Rattle.moo_spec.specs.Datum.{Text, ErrorCode, error_number, wrong_argument_count, type_mismatch, range_error, invalid_argument, Datum, integer, object, text, error, list, Data, no_data, item, append, same, is_true, in_number_range}
-use Rattle.moo_spec.specs.Answer.{Answer, gives, raises, limited, limited_answer, truth, count}
+use Rattle.moo_spec.specs.Datum.{Text, error_number, wrong_argument_count, type_mismatch, range_error, invalid_argument, Datum, integer, object, text, error, list, Data, append, same, is_true, in_number_range}
+use Rattle.moo_spec.specs.Answer.{Answer, gives, raises, limited_answer, truth, count}
 use Rattle.moo_spec.specs.Literal.{literal, to_text}
 use Rattle.moo_spec.specs.Places.{item_count, with_item, inserted, without}
 use Rattle.moo_spec.specs.Operators.{alike, first_place, counted}

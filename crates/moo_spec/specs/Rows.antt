@@ -9,16 +9,19 @@ use Rattle.moo_spec.specs.Turn.{Pending}
 use Rattle.moo_spec.specs.Segment.{segment}
 use Rattle.moo_spec.specs.Commands.{command}
 use Rattle.moo_spec.specs.Step.{Step, line_of, Outcome, value_of, raised_by, ran_out, none, ended, play1, play, plain, after_segment, in_range, runs_on}
-use Rattle.moo_spec.specs.Fixture.{fixture, fixture_at, room, plain_verb, count_program}
+use Rattle.moo_spec.specs.Fixture.{fixture, fixture_at, room, plain_verb, returning, count_verb}
 
 abbrev pub line_step : ℕ → ℤ → Text → Step
 line_step n c t = record { number = n; moment = 0; key = replicate 32 0; event = line_of c t }
+
+abbrev pub answers : Datum → ℕ → Outcome
+answers v ticks = record (plain (value_of v) []) { ticks_used = ticks }
 
 -- ---- two counts
 
 -- what a line `count` answers
 abbrev pub counted : ℤ → Outcome
-counted n = record (plain (value_of (integer n)) []) { ticks_used = 5 }
+counted n = answers (integer n) 5
 
 abbrev pub OneCount : Type 0
 OneCount = play1 fixture (line_step 1 (pos 1) (codes "count")) ≡ (fixture_at (pos 1) 2, counted (pos 1))
@@ -35,6 +38,15 @@ NoSteps = play fixture [] ≡ (fixture, [])
 abbrev pub LooselyTyped : Type 0
 LooselyTyped = play1 fixture (line_step 1 (pos 1) (codes "   CouNT")) ≡ (fixture_at (pos 1) 2, counted (pos 1))
 
+-- ---- the room's other verbs
+
+abbrev pub Accepts : Type 0
+Accepts = play1 fixture (line_step 1 (pos 1) (codes "accept")) ≡ (fixture_at (pos 0) 2, answers (integer (pos 1)) 1)
+
+-- the verb's name with its star
+abbrev pub Looks : Type 0
+Looks = play1 fixture (line_step 1 (pos 1) (codes "l*ook")) ≡ (fixture_at (pos 0) 2, answers (text (codes "l*ook")) 1)
+
 -- ---- lines that run nothing
 
 -- a link that is not open
@@ -50,6 +62,9 @@ UnknownWord = play1 fixture (line_step 1 (pos 1) (codes "looks")) ≡ (fixture_a
 
 abbrev pub PartOfAName : Type 0
 PartOfAName = play1 fixture (line_step 1 (pos 2) (codes "coun")) ≡ (fixture_at (pos 0) 2, misunderstood (pos 2))
+
+abbrev pub WithoutTheStar : Type 0
+WithoutTheStar = play1 fixture (line_step 1 (pos 1) (codes "look")) ≡ (fixture_at (pos 0) 2, misunderstood (pos 1))
 
 abbrev pub TwoWords : Type 0
 TwoWords = play1 fixture (line_step 1 (pos 2) (codes "count count")) ≡ (fixture_at (pos 0) 2, misunderstood (pos 2))
@@ -85,9 +100,6 @@ tried_by owner debug p =
 abbrev pub tried : Program → Outcome
 tried p = (tried_by (pos 2) true p).1
 
-abbrev pub answers : Datum → ℕ → Outcome
-answers v ticks = record (plain (value_of v) []) { ticks_used = ticks }
-
 -- an uncaught error tells the player where it was raised
 abbrev pub uncaught : ErrorCode → Text → ℕ → Outcome
 uncaught e message ticks =
@@ -98,9 +110,6 @@ number n = literal (integer (pos n))
 
 abbrev pub word : Text → Expr
 word t = literal (text t)
-
-abbrev pub returning : Expr → Program
-returning e = seq (give e) the_end
 
 -- the empty program; `return;`
 abbrev pub EmptyProgram : Type 0
@@ -187,7 +196,7 @@ TooHeavy = tried (long_sum 32768) ≡ uncaught limit_exceeded (codes "Resource l
 -- ---- ticks
 
 abbrev pub counting : Pending
-counting = command (pos 4) (pos 3) (codes "count") (plain_verb (codes "count") count_program)
+counting = command (pos 4) (pos 3) (codes "count") count_verb
 
 -- `count` with four ticks: the property has its new value, and `return` is not paid
 abbrev pub FourTicks : Type 0

@@ -1,10 +1,11 @@
 -- A step of the world, and a list of steps (Programmer's Manual, "Server commands and database assumptions" and "Tasks").
-use Rattle.std.specs.Prelude.{ℕ, suc, ◌-◌, max, ℤ, pos, int_le, nat_le, nat_lt, List, [], ◌∷◌, ◌++◌, length, Bool, true, false, ◌&&◌, if◌then◌else◌, ◌==◌, IsTrue, Option, Some, None, codes}
+use Rattle.std.specs.Prelude.{ℕ, suc, ◌-◌, max, ℤ, nat_le, nat_lt, List, [], ◌∷◌, ◌++◌, length, Bool, true, false, ◌&&◌, if◌then◌else◌, ◌==◌, IsTrue, Option, Some, None, codes}
 use Rattle.std.specs.List.{list_all}
 use Rattle.std.specs.Fmt.{signed_decimal}
 use Rattle.moo_spec.specs.Datum.{Datum, Text, is_text, in_number_range}
 use Rattle.moo_spec.specs.Table.{at}
 use Rattle.moo_spec.specs.World.{World, Object, Verb, Link, object_at}
+use Rattle.moo_spec.specs.WellFormed.{is_connection, is_moment}
 use Rattle.moo_spec.specs.Turn.{Traced}
 use Rattle.moo_spec.specs.Segment.{Stop, done, raised, out_of_ticks, Ended, segment}
 use Rattle.moo_spec.specs.Commands.{command, unspaced, verb_named}
@@ -23,19 +24,16 @@ pub record Step : Type 0 where
   pub key : List ℕ
   pub event : Event
 
-abbrev pub is_link_number : ℤ → Bool
-is_link_number c = int_le (pos 1) c && int_le c (pos 999999)
-
 abbrev pub event_in_range : Event → Bool
-event_in_range (open_link c) = is_link_number c
-event_in_range (close_link c) = is_link_number c
-event_in_range (line_of c t) = is_link_number c && (nat_le (length t) 4096 && is_text t)
+event_in_range (open_link c) = is_connection c
+event_in_range (close_link c) = is_connection c
+event_in_range (line_of c t) = is_connection c && (nat_le (length t) 4096 && is_text t)
 event_in_range (ready_task i) = in_number_range i
 
 -- each field of a step is in its range
 abbrev pub in_range : Step → Bool
 in_range s =
-    nat_le 1 s.number && nat_le s.number 33554431 && nat_le s.moment 2147483647
+    nat_le 1 s.number && nat_le s.number 33554431 && is_moment s.moment
     && (length s.key == 32) && list_all (λ b. nat_lt b 256) s.key && event_in_range s.event
 
 abbrev pub runs_on : ℕ → List Step → Bool

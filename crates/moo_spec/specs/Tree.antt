@@ -18,20 +18,20 @@ mutual
     unary : UnaryOperator → Expr → Expr
     binary : BinaryOperator → Expr → Expr → Expr
     both either : Expr → Expr → Expr  -- `&&`, `||`
-    conditional : Expr → Expr → Expr → Expr
+    conditional : Expr → Expr → Expr → Expr  -- `c ? a | b`
     listing : Arguments → Expr
     call : Text → Arguments → Expr
     property : Expr → Expr → Expr
     verb_call : Expr → Expr → Arguments → Expr
     index : Expr → Expr → Expr
     range : Expr → Expr → Expr → Expr
-    caught : Expr → Codes → Fallback → Expr
+    caught : Expr → Codes → Fallback → Expr  -- `e ! codes => d` between a back quote and a quote
     assignment : Target → Expr → Expr
     scatter : Items → Expr → Expr
 
   pub data Arguments : Type 0 where
     no_arguments : Arguments
-    argument splice : Expr → Arguments → Arguments
+    argument splice : Expr → Arguments → Arguments  -- `e`, `@e`
 
   pub data Codes : Type 0 where
     any_code : Codes
@@ -49,8 +49,8 @@ mutual
 
   pub data Items : Type 0 where
     no_items : Items
-    required optional remaining : Text → Items → Items
-    defaulted : Text → Expr → Items → Items
+    required optional remaining : Text → Items → Items  -- `x`, `?x`, `@x`
+    defaulted : Text → Expr → Items → Items  -- `?x = e`
 
 mutual
   pub data Statement : Type 0 where

@@ -53,6 +53,7 @@ unfoldable pub comes_out : (Object → ℤ) → ℕ → World → ℤ → Bool
 comes_out up zero w o = is_none (object_at w o)
 comes_out up (suc n) w o = ends_above (comes_out up n w) up (object_at w o)
 
+-- along parent, and along location
 abbrev pub has_no_cycle : World → ℤ → Object → Bool
 has_no_cycle w o x = comes_out (λ y. y.parent) (line_bound w) w o
 

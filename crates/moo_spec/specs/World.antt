@@ -6,7 +6,7 @@ use Rattle.moo_spec.specs.Table.{Numbered, Named, at, with}
 
 -- ---- objects
 
--- a value, or clear
+-- a value, or clear; by the bit c (here `changeable`) an heir's owner owns the slot that it inherits
 pub record Slot : Type 0 where
   pub content : Option Datum
   pub owner : ℤ
@@ -22,6 +22,7 @@ pub data PrepositionPart : Type 0 where
   no_preposition any_preposition : PrepositionPart
   preposition_set : ℕ → PrepositionPart
 
+-- `callable` is the bit x
 pub record Verb : Type 0 where
   pub names : Text
   pub owner : ℤ

@@ -1,7 +1,6 @@
 -- How the logic stores worlds.
-use Rattle.std.specs.Prelude.{◌≡◌, ℕ, ℤ, pos, List, [], ◌∷◌, Option, Some, None, Bool, ◌==◌, cond, refl}
+use Rattle.std.specs.Prelude.{◌≡◌, ℕ, ℤ, pos, List, [], Option, Some, None, Bool, ◌==◌, cond, refl}
 use Rattle.std.specs.Coded.{Coded, code_by, coded×, coded_list, coded_option, coded_bool, coded_ℕ, coded_ℤ}
-use mathlib.Core.Path.{ap}
 use Rattle.moo_spec.specs.Datum.{Datum, Text, integer}
 use Rattle.moo_spec.specs.DatumCode.{datum_code}
 use Rattle.moo_spec.specs.Tree.{Expr, Target, Statement, Program, own_length, to_variable, give_zero, the_end}

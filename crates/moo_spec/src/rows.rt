@@ -10,7 +10,16 @@ pub fn counts()
     ensures loosely { LooselyTyped }
 {}
 
-ghost use Rattle.moo_spec.specs.Rows.{ClosedLink, UnknownWord, PartOfAName, TwoWords, EmptyLine, SpacesAlone, Ending, LaterNumber};
+ghost use Rattle.moo_spec.specs.Rows.{Accepts, Looks};
+
+/// What the other verbs of the room answer.
+#[tactic(auto, unfolding(crate::specs::Opened::opened))]
+pub fn other_verbs()
+    ensures accepts { Accepts }
+    ensures looks { Looks }
+{}
+
+ghost use Rattle.moo_spec.specs.Rows.{ClosedLink, UnknownWord, PartOfAName, WithoutTheStar, TwoWords, EmptyLine, SpacesAlone, Ending, LaterNumber};
 
 /// Lines that run nothing, and the next number.
 #[tactic(auto, unfolding(crate::specs::Opened::opened))]
@@ -18,6 +27,7 @@ pub fn idle_lines()
     ensures closed { ClosedLink }
     ensures unknown { UnknownWord }
     ensures part { PartOfAName }
+    ensures star { WithoutTheStar }
     ensures two_words { TwoWords }
     ensures empty { EmptyLine }
     ensures spaces { SpacesAlone }

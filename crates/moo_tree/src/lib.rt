@@ -5,4 +5,5 @@
 #![tactic(auto)]
 
 pub mod expression;
+mod same;
 pub mod statement;

@@ -1,3 +1,4 @@
+pub mod Crossing
 pub mod Characters
 pub mod EscapedTexts
 pub mod Folding

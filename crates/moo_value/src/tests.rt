@@ -1,18 +1,25 @@
 //! Hostile values: deep, shared and long ones.
+use crate::answer::limited;
 use crate::compare::{equal, order, same};
+use crate::error::MooError;
 use crate::read::from_literal;
 use crate::text::Text;
 use crate::value::{Shown, Value};
 use crate::write::{to_literal, to_str};
 use std::alloc::{AllocError, Global};
+use std::cmp::Ordering;
 use std::test::Fail;
 use std::thread::Builder;
 
+/// The deepest value that a program can make.
 const DEPTH: usize = 65_535;
 
-// A list that holds a list, and so on.
-fn nested(alloc: Global) -> Result<Value, AllocError> {
-    let mut value = Value::integer(7);
+/// The stack of the threads that run steps.
+const STACK_SIZE: usize = 64 << 20;
+
+// A list that holds a list, and so on, with a number in the innermost one.
+fn nested(alloc: Global, number: i32) -> Result<Value, AllocError> {
+    let mut value = Value::integer(number);
     for _ in 0..DEPTH {
         let mut items = Vec::new(alloc);
         items.push(value)?;
@@ -23,28 +30,46 @@ fn nested(alloc: Global) -> Result<Value, AllocError> {
 
 // Whether each recursive call answers for such a value.
 fn is_answered(alloc: Global) -> Result<bool, AllocError> {
-    let value = nested(alloc)?;
-    let other = nested(alloc)?;
+    let value = nested(alloc, 7)?;
+    let other = nested(alloc, 8)?;
     let literal = to_literal(alloc, &value)?;
     let Some(read) = from_literal(alloc, literal.as_str())? else {
+        return Ok(false);
+    };
+    let Ok(value) = limited(value) else {
         return Ok(false);
     };
     Ok(
         value.weight() == DEPTH + 1
             && literal.len() == 2 * DEPTH + 1
-            && equal(&value, &other)
-            && same(&value, &other)
             && equal(&value, &read)
-            && order(&value, &other).is_err(),
+            && same(&value, &read)
+            && !equal(&value, &other)
+            && !same(&value, &other)
+            && order(&value, &other).is_err()
+            && to_str(alloc, &value)?.as_str() == "{list}",
     )
+}
+
+// Whether a text of opening braces alone is no literal.
+fn is_refused(alloc: Global) -> Result<bool, AllocError> {
+    let mut text = String::new(alloc);
+    for _ in 0..DEPTH {
+        text.push('{')?;
+    }
+    Ok(from_literal(alloc, text.as_str())?.is_none())
+}
+
+fn are_as_wanted(alloc: Global) -> Result<bool, AllocError> {
+    Ok(is_answered(alloc)? && is_refused(alloc)?)
 }
 
 #[test]
 fn nests_deep(rt: HostRuntime) -> Result<(), Fail> {
     let alloc = rt.alloc();
     let thread = Builder::new()
-        .stack_size(64 << 20)
-        .spawn(&rt, move || is_answered(alloc))?;
+        .stack_size(STACK_SIZE)
+        .spawn(&rt, move || are_as_wanted(alloc))?;
     assert!(rt; matches!(thread.join(&rt), Ok(true)));
     Ok(())
 }
@@ -66,7 +91,9 @@ fn weighs_what_is_shared(rt: HostRuntime) -> Result<(), Fail> {
     let mut value = shared(rt.alloc())?;
     assert_eq!(rt; value.weight(), usize::MAX);
     value.push(Value::integer(1))?;
+    value.insert(0, Value::integer(1))?;
     assert_eq!(rt; value.weight(), usize::MAX);
+    assert!(rt; matches!(limited(value), Err(MooError::LimitExceeded)));
     Ok(())
 }
 
@@ -82,6 +109,8 @@ fn holds_long_texts(rt: HostRuntime) -> Result<(), Fail> {
     assert_eq!(rt; literal.len(), 131_072);
     let read = from_literal(rt.alloc(), literal.as_str())?.ok_or("not read")?;
     assert!(rt; equal(&read, &value));
+    assert!(rt; same(&read, &value));
+    assert!(rt; matches!(order(&read, &value), Ok(Ordering::Equal)));
     assert_eq!(rt; to_str(rt.alloc(), &value)?.len(), 65_535);
     Ok(())
 }

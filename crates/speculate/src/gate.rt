@@ -1,10 +1,39 @@
 //! The gate through which guesses are made.
+ghost use Rattle.std.specs.Prelude.{IsTrue};
+ghost use Rattle.moo_spec.specs.Step.{in_range};
 
-/// Makes the guesses of a list. It has no function until workers guess.
-pub trait Gate: Sync {}
+use crate::guesses::Guess;
+use crate::guessing::guess;
+use std::alloc::{AllocError, Global};
+use task_step::step::Step;
+use world::worlds::Snapshot;
+
+/// Makes every guess of a list, each on the thread of the worker that took its position. It may answer want of memory at will;
+/// the step is then run when its turn comes.
+pub trait Gate: Sync {
+    /// A guess for the step at this position of the list, on this snapshot.
+    fn guess(
+        &self,
+        alloc: Global,
+        position: usize,
+        snapshot: &Snapshot,
+        step: &Step,
+    ) -> Result<Guess, AllocError>
+        requires { IsTrue (in_range step.now) };
+}
 
 /// The gate that only guesses.
 #[derive(Drop)]
 pub struct Free;
 
-impl Gate for Free {}
+impl Gate for Free {
+    fn guess(
+        &self,
+        alloc: Global,
+        _position: usize,
+        snapshot: &Snapshot,
+        step: &Step,
+    ) -> Result<Guess, AllocError> {
+        guess(alloc, snapshot, step)
+    }
+}

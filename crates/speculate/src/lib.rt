@@ -1,7 +1,15 @@
-//! Lists of steps by several workers.
-//!
-//! Today the caller's thread alone runs the steps; guesses and a board come with the workers.
+//! Lists of steps by several workers: guesses of steps on snapshots, and the board that commits them in their order.
 #![tactic(auto)]
 
+pub mod board;
+mod commit;
+mod finish;
 pub mod gate;
+pub mod guesses;
+pub mod guessing;
+pub mod held;
+mod here;
 pub mod list;
+mod rounds;
+pub mod shared;
+mod steps;

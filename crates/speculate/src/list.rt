@@ -1,13 +1,20 @@
 //! A list of steps.
-ghost use Rattle.std.specs.Prelude.{◌≡◌, ◌≢◌, ◌≤◌, ◌<◌, ◌↔◌, ◌⊎◌, length, IfOk, IfErr, IsOk};
-ghost use Rattle.moo_spec.specs.Step.{RunsOn, AllInRange};
+ghost use Rattle.std.specs.Prelude.{◌≡◌, ◌≢◌, ◌≤◌, ◌<◌, ◌↔◌, ◌⊎◌, length, take, IfOk, IfErr, IsOk};
+ghost use Rattle.moo_spec.specs.Step.{RunsOn, AllInRange, play};
 
+use crate::board::Board;
 use crate::gate::Gate;
+use crate::held::Mark;
+use crate::here::play_here;
+use crate::rounds::play_in_rounds;
+use crate::steps::all_again;
 use std::alloc::Global;
+use std::marker::Brand;
 use std::sync::Wait;
 use std::thread::Threads;
-use task_run::list::{play_list, refused};
+use task_run::list::refused;
 use task_run::partial::{Partial, Refusal};
+use task_step::list::may_play;
 use task_step::outcome::Outcome;
 use task_step::step::Step;
 use world::worlds::World;
@@ -22,30 +29,45 @@ pub struct Report {
     pub world: World,
     /// The outcome of each step, in order.
     pub outcomes: Vec<Outcome>,
+    /// How each step was committed, in order.
+    pub marks: Vec<Mark>,
 }
 
-/// Runs the steps by as many workers, of which the caller is one. Refused are, in this order, a number of workers that is not from 1 to 64, and steps whose numbers do not run
-/// on from the world's next one or that are out of range; then the world is as it was. After want of memory the first steps were run.
+/// Runs the steps by as many workers, of which the caller is one: what comes is what the steps do one after another. Refused are, in this order,
+/// a number of workers that is not from 1 to 64, and steps whose numbers do not run on from the world's next one or that are out of range;
+/// then the world is as it was. After want of memory the first steps were run.
 pub fn run_list<G: Gate, R: Threads + Wait + Sync>(
-    _rt: &R,
+    rt: &R,
     alloc: Global,
-    _gate: &G,
+    gate: &G,
     world: World,
     steps: &[Step],
     workers: usize,
 ) -> Result<Report, Partial>
-    ensures count { IfOk result (λ r. length r.outcomes.items ≡ length steps.now) }
+    ensures ok { IfOk result (λ r. play world.plain steps.now ≡ (r.world.plain, r.outcomes.items)) }
+    ensures part { IfErr result (λ p. play world.plain (take p.count steps.now) ≡ (p.world.plain, p.outcomes.items)) }
+    ensures count { IfOk result (λ r. (length r.outcomes.items ≡ length steps.now) × (length r.marks.items ≡ length steps.now)) }
     ensures err { IfErr result (λ p. (p.count ≡ length p.outcomes.items) × (p.count ≤ length steps.now)) }
     ensures workers { IfErr result (λ p. (p.refusal ≡ Refusal.Workers) ↔ ((workers ≡ 0) ⊎ (64 < workers))) }
-    ensures numbers { IfErr result (λ p. p.refusal ≡ Refusal.Numbers → ¬ (RunsOn world.plain steps.now × AllInRange steps.now)) }
+    ensures numbers { IfErr result (λ p. (p.refusal ≡ Refusal.Numbers) ↔ ((0 < workers) × (workers ≤ 64) × ¬ (RunsOn world.plain steps.now × AllInRange steps.now))) }
     ensures untouched { IfErr result (λ p. (p.refusal ≢ Refusal.Memory) → (p.world ≡ world) × (p.count ≡ 0)) }
     ensures right { IsOk result → (0 < workers) × (workers ≤ 64) × RunsOn world.plain steps.now × AllInRange steps.now }
 {
     if workers == 0 || workers > MOST_WORKERS {
         return Err(refused(alloc, Refusal::Workers, world));
     }
-    match play_list(alloc, world, steps) {
-        Ok((world, outcomes)) => Ok(Report { world, outcomes }),
-        Err(partial) => Err(partial),
+    if !may_play(world.next(), steps) {
+        return Err(refused(alloc, Refusal::Numbers, world));
     }
+    let Ok(list) = all_again(alloc, steps) else {
+        return Err(refused(alloc, Refusal::Memory, world));
+    };
+    let board = match Board::new(alloc, world, list) {
+        Ok(board) => board,
+        Err((refusal, world)) => return Err(refused(alloc, refusal, world)),
+    };
+    if workers == 1 || steps.len() <= 1 {
+        return play_here(alloc, gate, board, steps);
+    }
+    play_in_rounds::<Brand, G, R>(rt, alloc, gate, board, steps, workers)
 }

@@ -1,5 +1,5 @@
 -- Verbs by their names.
-use Rattle.std.proofs.Common.{◌≡◌, ◌↔◌, ℕ, zero, suc, ◌+◌, ◌<◌, ◌≤◌, Bool, true, false, IsTrue, List, [], ◌∷◌, length, get_or, drop, Option, Some, None, refl, arith, add-one}
+use Rattle.std.proofs.Common.{◌≡◌, ◌↔◌, ℕ, zero, suc, ◌+◌, ◌<◌, ◌≤◌, Bool, true, false, IsTrue, List, [], ◌∷◌, length, get_or, drop, Some, None, refl, arith, add-one}
 use Rattle.moo_spec.specs.Datum.{Text, fold_case, same_text}
 use Rattle.moo_spec.specs.World.{Verb}
 use Rattle.moo_spec.specs.Commands.{verb_named}

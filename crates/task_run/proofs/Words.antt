@@ -1,5 +1,5 @@
 -- The spaces at the front of a line.
-use Rattle.std.proofs.Common.{◌≡◌, ℕ, zero, suc, ◌<◌, ◌+◌, Bool, true, IsTrue, List, [], ◌∷◌, length, get_or, take, drop, refl, arith, ◌&&◌}
+use Rattle.std.proofs.Common.{◌≡◌, ℕ, zero, suc, ◌<◌, IsTrue, List, [], ◌∷◌, length, get_or, refl, arith}
 use Rattle.std.proofs.lemmas.Bool.Decides.{nat_tests}
 use Rattle.moo_spec.specs.Datum.{is_text}
 use Rattle.moo_spec.specs.Commands.{unspaced}

@@ -1,7 +1,13 @@
 //! A command.
-ghost use Rattle.std.specs.Prelude.{◌≡◌, OnOk};
-ghost use Rattle.machine.specs.Stands.{Verb as VerbUnderWay, Standing, StandsFor};
-ghost use Rattle.view.specs.Law.{AreSound};
+ghost use Rattle.std.specs.Prelude.{◌≡◌, pos, IfOk, OnOk, Some};
+ghost use Rattle.moo_spec.specs.Turn.{Pending};
+ghost use Rattle.moo_spec.specs.Segment.{segment, raised as raised_by};
+ghost use Rattle.moo_spec.specs.Commands.{command as command_of, one_word as one_word_start};
+ghost use Rattle.moo_spec.specs.Step.{run_verb as verb_run, after_segment, plain, stop_result, stop_lines};
+ghost use Rattle.machine.specs.Stands.{stop_meant, failure_meant};
+ghost use Rattle.view.specs.Law.{Goes, AreSound};
+ghost use Rattle.task_run.specs.Performed.{StepsTo};
+ghost use Rattle.task_run.specs.Tasks.{IsRunOf, outcome_of};
 
 use crate::ending::telling;
 use crate::told::traceback;
@@ -41,6 +47,22 @@ pub fn run_verb<V: View>(
     ensures home { V.home view.new ≡ V.home view.old }
     ensures stays { OnOk result (V.holds view.new (V.home view.new)) }
     ensures sound { OnOk result (AreSound V.holds V.now view.new) }
+    ensures played { IfOk result (λ o. Goes V.holds V.now view.old view.new
+        (λ before after. StepsTo (verb_run before (pos connection) person here word (Some verb.now)) after o)) }
+{
+    let task = command(alloc, person, here, word, verb)?;
+    run_task(alloc, view, connection, task)
+}
+
+// The verb of a command of one word, at its beginning.
+fn command(
+    alloc: Global,
+    person: i32,
+    here: i32,
+    word: Text,
+    verb: &Verb,
+) -> Result<Run, AllocError>
+    ensures { IfOk result (λ task. IsRunOf task (command_of person here word verb.now)) }
 {
     let call = Call {
         this: here,
@@ -51,34 +73,37 @@ pub fn run_verb<V: View>(
         debug: verb.debug,
     };
     let start = one_word(alloc)?;
-    let task = Run::start(
-        alloc,
-        person,
-        call,
-        &start,
-        Vec::new(alloc),
-        verb.program.clone()?,
-    )?;
-    let stopped = run_task(alloc, view, task)?;
-    ended(alloc, connection, stopped)
+    let program = verb.program.clone()?;
+    let task = Run::start(alloc, person, call, &start, Vec::new(alloc), program)?;
+    Ok(task)
 }
 
 // Runs a task until it stops.
-fn run_task<V: View>(alloc: Global, view: &mut V, task: Run) -> Result<Stopped, AllocError>
-    requires stands { (f : VerbUnderWay) × (a : Standing) × StandsFor task f a }
+fn run_task<V: View>(
+    alloc: Global,
+    view: &mut V,
+    connection: u32,
+    task: Run,
+) -> Result<Outcome, AllocError>
+    requires stands { (p : Pending) × IsRunOf task p }
     requires home { V.holds view.old (V.home view.old) }
     requires sound { AreSound V.holds V.now view.old }
     ensures anchor { V.anchor view.new ≡ V.anchor view.old }
     ensures home { V.home view.new ≡ V.home view.old }
     ensures stays { OnOk result (V.holds view.new (V.home view.new)) }
     ensures sound { OnOk result (AreSound V.holds V.now view.new) }
+    ensures played { IfOk result (λ o. (p : Pending) → IsRunOf task p → Goes V.holds V.now view.old view.new
+        (λ before after. StepsTo (after_segment (pos connection) 30000 (segment 30000 before p)) after o)) }
 {
     let stopped = run(alloc, view, &mut NoNatives, task, COMMAND_TICKS)?;
-    Ok(stopped)
+    let outcome = ended(alloc, connection, stopped)?;
+    Ok(outcome)
 }
 
 // What a command of one word gives besides the word.
-fn one_word(alloc: Global) -> Result<Start, AllocError> {
+fn one_word(alloc: Global) -> Result<Start, AllocError>
+    ensures { IfOk result (λ start. start ≡ one_word_start) }
+{
     Ok(Start {
         argstr: Text::from_str(alloc, "")?,
         dobj: NOTHING,
@@ -90,7 +115,9 @@ fn one_word(alloc: Global) -> Result<Start, AllocError> {
 }
 
 // The outcome of a task that stopped.
-fn ended(alloc: Global, connection: u32, stopped: Stopped) -> Result<Outcome, AllocError> {
+fn ended(alloc: Global, connection: u32, stopped: Stopped) -> Result<Outcome, AllocError>
+    ensures { IfOk result (λ o. o ≡ outcome_of (pos connection) (stop_meant stopped.stop) stopped.ticks_used) }
+{
     let Stopped { stop, ticks_used } = stopped;
     let mut outcome = stop_outcome(alloc, connection, stop)?;
     outcome.ticks = ticks_used;
@@ -98,7 +125,9 @@ fn ended(alloc: Global, connection: u32, stopped: Stopped) -> Result<Outcome, Al
 }
 
 // The same without its ticks.
-fn stop_outcome(alloc: Global, connection: u32, stop: Stop) -> Result<Outcome, AllocError> {
+fn stop_outcome(alloc: Global, connection: u32, stop: Stop) -> Result<Outcome, AllocError>
+    ensures { IfOk result (λ o. o ≡ plain (stop_result (stop_meant stop)) (stop_lines (pos connection) (stop_meant stop))) }
+{
     match stop {
         Stop::Done(value) => Ok(telling(alloc, Ending::Value(value), Vec::new(alloc))),
         Stop::Raised(failure) => raised(alloc, connection, failure),
@@ -109,7 +138,9 @@ fn stop_outcome(alloc: Global, connection: u32, stop: Stop) -> Result<Outcome, A
     }
 }
 
-fn raised(alloc: Global, connection: u32, failure: Failure) -> Result<Outcome, AllocError> {
+fn raised(alloc: Global, connection: u32, failure: Failure) -> Result<Outcome, AllocError>
+    ensures { IfOk result (λ o. o ≡ plain (stop_result (raised_by (failure_meant failure))) (stop_lines (pos connection) (raised_by (failure_meant failure)))) }
+{
     let Failure {
         code,
         message,

@@ -1,6 +1,7 @@
 //! Lists of steps on one thread.
-ghost use Rattle.std.specs.Prelude.{◌≡◌, ◌≢◌, ◌≤◌, ◌+◌, length, max, IsTrue, IsOk, IfOk, IfErr, OnOk, OnErr, []};
-ghost use Rattle.moo_spec.specs.Step.{RunsOn, AllInRange, in_range};
+ghost use Rattle.std.specs.Prelude.{◌≡◌, ◌≢◌, ◌≤◌, ◌+◌, ◌↔◌, length, take, IsTrue, IsOk, IfOk, IfErr, OnErr, []};
+ghost use Rattle.moo_spec.specs.Step.{play1, play, RunsOn, AllInRange, in_range};
+ghost use Rattle.task_run.specs.Performed.{performed, StepsTo};
 
 use crate::partial::{Partial, Refusal};
 use crate::step::run_step;
@@ -17,12 +18,12 @@ pub fn play_list(
     mut world: World,
     steps: &[Step],
 ) -> Result<(World, Vec<Outcome>), Partial>
+    ensures ok { IfOk result (λ r. play world.plain steps.now ≡ ((r.0).plain, (r.1).items)) }
+    ensures err { IfErr result (λ p. (play world.plain (take p.count steps.now) ≡ (p.world.plain, p.outcomes.items)) × (p.count ≤ length steps.now)) }
+    ensures numbers { IfErr result (λ p. (p.refusal ≡ Refusal.Numbers) ↔ ¬ (RunsOn world.plain steps.now × AllInRange steps.now)) }
     ensures numbers_fit { IsOk result → RunsOn world.plain steps.now × AllInRange steps.now }
-    ensures count { IfOk result (λ r. length (r.1).items ≡ length steps.now) }
-    ensures err { IfErr result (λ p. (p.count ≡ length p.outcomes.items) × (p.count ≤ length steps.now)) }
-    ensures workers { IfErr result (λ p. p.refusal ≢ Refusal.Workers) }
     ensures untouched { IfErr result (λ p. (p.refusal ≡ Refusal.Numbers) → (p.world ≡ world) × (p.count ≡ 0)) }
-    ensures numbers { IfErr result (λ p. (p.refusal ≡ Refusal.Numbers) → ¬ (RunsOn world.plain steps.now × AllInRange steps.now)) }
+    ensures workers { IfErr result (λ p. p.refusal ≢ Refusal.Workers) }
 {
     if !may_play(world.next(), steps) {
         return Err(refused(alloc, Refusal::Numbers, world));
@@ -48,17 +49,29 @@ pub fn play_list(
     Ok((world, outcomes))
 }
 
-/// Runs a step on the world itself. After an error the world is as it was.
+/// Runs a step on the world itself, in one view of it. After an error the world is as it was.
 pub fn play_step(alloc: Global, world: &mut World, step: &Step) -> Result<Outcome, AllocError>
     requires { IsTrue (in_range step.now) }
-    ensures ok { OnOk result (world.new.plain.next ≡ max (step.now.number + 1) world.new.plain.next) }
+    ensures ok { IfOk result (λ o. play1 world.old.plain step.now ≡ (world.new.plain, o)) }
     ensures err { OnErr result (world.new.plain ≡ world.old.plain) }
+    ensures opened { world.new.opened ≡ world.old.opened + 1 }
+{
+    let outcome = perform(alloc, world, step)?;
+    world.raise(u64::from(step.number));
+    Ok(outcome)
+}
+
+// What a step does but for the world's next number. After an error the world is as it was.
+fn perform(alloc: Global, world: &mut World, step: &Step) -> Result<Outcome, AllocError>
+    requires { IsTrue (in_range step.now) }
+    ensures ok { IfOk result (λ o. StepsTo (performed world.old.plain step.now) world.new.plain o) }
+    ensures err { OnErr result (world.new.plain ≡ world.old.plain) }
+    ensures opened { world.new.opened ≡ world.old.opened + 1 }
 {
     world.know();
     let mut live = Live::open(world);
     let outcome = run_step(alloc, &mut live, step)?;
     live.keep();
-    world.raise(u64::from(step.number));
     Ok(outcome)
 }
 

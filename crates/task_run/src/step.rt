@@ -1,12 +1,17 @@
 //! One step over a view of a world.
-ghost use Rattle.std.specs.Prelude.{◌≡◌, ◌<◌, ◌^◌, IfOk, OnOk, IsTrue, length};
-ghost use Rattle.moo_spec.specs.Step.{in_range};
-ghost use Rattle.view.specs.Law.{AreSound};
+ghost use Rattle.std.specs.Prelude.{◌≡◌, ◌<◌, ◌^◌, pos, IfOk, OnOk, IsTrue, Some, option_map, length};
+ghost use Rattle.moo_spec.specs.World.{object_at};
+ghost use Rattle.moo_spec.specs.Table.{at};
+ghost use Rattle.moo_spec.specs.Step.{in_range, event_in_range, run_event as event_run, run_line as line_run, run_person as person_run, run_word as word_run, run_verb as verb_run};
+ghost use Rattle.task_step.specs.StepView.{event_of};
+ghost use Rattle.view.specs.Law.{Goes, AreSound};
+ghost use Rattle.task_run.specs.Performed.{performed, StepsTo};
 
 use crate::command::run_verb;
 use crate::ending::{not_understood, nothing, without_task};
 use crate::verb::find_verb;
 use crate::word::without_spaces;
+use footprint::verb::Verb;
 use moo_value::text::Text;
 use std::alloc::{AllocError, Global};
 use task_step::outcome::{Ending, Outcome};
@@ -24,11 +29,27 @@ pub fn run_step<V: View>(alloc: Global, view: &mut V, step: &Step) -> Result<Out
     ensures home { V.home view.new ≡ V.home view.old }
     ensures stays { OnOk result (V.holds view.new (V.home view.new)) }
     ensures sound { OnOk result (AreSound V.holds V.now view.new) }
+    ensures played { IfOk result (λ o. Goes V.holds V.now view.old view.new
+        (λ before after. StepsTo (performed before step.now) after o)) }
 {
     if read_ending(view)? {
         return without_task(alloc, Ending::Ended);
     }
-    match &step.event {
+    run_event(alloc, view, &step.event)
+}
+
+// What happens in a step.
+fn run_event<V: View>(alloc: Global, view: &mut V, event: &Event) -> Result<Outcome, AllocError>
+    requires range { IsTrue (event_in_range (event_of event.now)) }
+    requires home { V.holds view.old (V.home view.old) }
+    requires sound { AreSound V.holds V.now view.old }
+    ensures anchor { V.anchor view.new ≡ V.anchor view.old }
+    ensures home { V.home view.new ≡ V.home view.old }
+    ensures stays { OnOk result (V.holds view.new (V.home view.new)) }
+    ensures played { IfOk result (λ o. Goes V.holds V.now view.old view.new
+        (λ before after. StepsTo (event_run before (event_of event.now)) after o)) }
+{
+    match event {
         Event::Line(connection, text) => run_line(alloc, view, *connection, text),
         Event::Open(_) | Event::Close(_) | Event::Ready(_) => nothing(alloc),
     }
@@ -47,12 +68,13 @@ fn run_line<V: View>(
     ensures anchor { V.anchor view.new ≡ V.anchor view.old }
     ensures home { V.home view.new ≡ V.home view.old }
     ensures stays { OnOk result (V.holds view.new (V.home view.new)) }
-    ensures sound { OnOk result (AreSound V.holds V.now view.new) }
+    ensures played { IfOk result (λ o. Goes V.holds V.now view.old view.new
+        (λ before after. StepsTo (line_run before (pos connection) text.now (at before.links (pos connection))) after o)) }
 {
-    let Some(link) = read_link(view, connection as i32)? else {
-        return nothing(alloc);
-    };
-    run_person(alloc, view, connection, link.person, text)
+    match read_link(view, connection as i32)? {
+        Some(link) => run_person(alloc, view, connection, link.person, text),
+        None => nothing(alloc),
+    }
 }
 
 // A line of a person.
@@ -68,20 +90,43 @@ fn run_person<V: View>(
     ensures anchor { V.anchor view.new ≡ V.anchor view.old }
     ensures home { V.home view.new ≡ V.home view.old }
     ensures stays { OnOk result (V.holds view.new (V.home view.new)) }
-    ensures sound { OnOk result (AreSound V.holds V.now view.new) }
+    ensures played { IfOk result (λ o. Goes V.holds V.now view.old view.new
+        (λ before after. StepsTo (person_run before (pos connection) person text.now (object_at before person)) after o)) }
 {
-    let Some(header) = read_header(view, person)? else {
-        return nothing(alloc);
-    };
-    let word = without_spaces(alloc, text)?;
+    match read_header(view, person)? {
+        Some(header) => {
+            let word = without_spaces(alloc, text)?;
+            run_word(alloc, view, connection, person, header.location, word)
+        }
+        None => nothing(alloc),
+    }
+}
+
+// A command of one word, or none.
+fn run_word<V: View>(
+    alloc: Global,
+    view: &mut V,
+    connection: u32,
+    person: i32,
+    here: i32,
+    word: Text,
+) -> Result<Outcome, AllocError>
+    requires home { V.holds view.old (V.home view.old) }
+    requires sound { AreSound V.holds V.now view.old }
+    ensures anchor { V.anchor view.new ≡ V.anchor view.old }
+    ensures home { V.home view.new ≡ V.home view.old }
+    ensures stays { OnOk result (V.holds view.new (V.home view.new)) }
+    ensures played { IfOk result (λ o. Goes V.holds V.now view.old view.new
+        (λ before after. StepsTo (word_run before (pos connection) person here word) after o)) }
+{
     if word.is_empty() {
         return nothing(alloc);
     }
-    run_word(alloc, view, connection, person, header.location, word)
+    seek_verb(alloc, view, connection, person, here, word)
 }
 
-// A command of one word, which is sought among the verbs of the place.
-fn run_word<V: View>(
+// The verb is sought among those of the place.
+fn seek_verb<V: View>(
     alloc: Global,
     view: &mut V,
     connection: u32,
@@ -95,12 +140,37 @@ fn run_word<V: View>(
     ensures anchor { V.anchor view.new ≡ V.anchor view.old }
     ensures home { V.home view.new ≡ V.home view.old }
     ensures stays { OnOk result (V.holds view.new (V.home view.new)) }
-    ensures sound { OnOk result (AreSound V.holds V.now view.new) }
+    ensures played { IfOk result (λ o. Goes V.holds V.now view.old view.new
+        (λ before after. StepsTo (word_run before (pos connection) person here word) after o)) }
 {
-    let Some(verbs) = read_verbs(view, here)? else {
-        return not_understood(alloc, connection);
-    };
-    match find_verb(verbs.as_slice(), &word) {
+    match read_verbs(view, here)? {
+        Some(verbs) => {
+            let verb = find_verb(verbs.as_slice(), &word);
+            run_found(alloc, view, connection, person, here, word, verb)
+        }
+        None => not_understood(alloc, connection),
+    }
+}
+
+// The verb that was found runs.
+fn run_found<V: View>(
+    alloc: Global,
+    view: &mut V,
+    connection: u32,
+    person: i32,
+    here: i32,
+    word: Text,
+    verb: Option<&Verb>,
+) -> Result<Outcome, AllocError>
+    requires home { V.holds view.old (V.home view.old) }
+    requires sound { AreSound V.holds V.now view.old }
+    ensures anchor { V.anchor view.new ≡ V.anchor view.old }
+    ensures home { V.home view.new ≡ V.home view.old }
+    ensures stays { OnOk result (V.holds view.new (V.home view.new)) }
+    ensures played { IfOk result (λ o. Goes V.holds V.now view.old view.new
+        (λ before after. StepsTo (verb_run before (pos connection) person here word (option_map (λ v. v.now) verb.entry)) after o)) }
+{
+    match verb {
         Some(verb) => run_verb(alloc, view, connection, person, here, word, verb),
         None => not_understood(alloc, connection),
     }

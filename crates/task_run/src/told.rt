@@ -15,6 +15,9 @@ pub const NOT_UNDERSTOOD: &str = "I couldn't understand that.";
 /// The last line of what a stopped task tells.
 const END_OF_TRACEBACK: &str = "(End of traceback)";
 
+/// How the line of a verb that called another begins.
+const CALLED_FROM: &str = "called from ";
+
 /// One line.
 pub fn line(alloc: Global, connection: u32, text: &str) -> Result<Vec<OutputLine>, AllocError>
     ensures { IfOk result (λ v. lines_of v.items ≡ (pos connection, text.now) ∷ []) }
@@ -30,17 +33,15 @@ pub fn traceback(
     connection: u32,
     why: &str,
     verbs: &[Traced],
-) -> Result<Vec<OutputLine>, AllocError> {
+) -> Result<Vec<OutputLine>, AllocError>
+    ensures { IfOk result (λ v. lines_of v.items ≡ told_of (pos connection) why.now verbs.now) }
+{
     let mut lines = Vec::new(alloc);
     if let Some((innermost, outer)) = verbs.split_first() {
         push_stopped(alloc, &mut lines, connection, innermost, why)?;
         push_callers(alloc, &mut lines, connection, outer)?;
     }
-    push(
-        &mut lines,
-        connection,
-        String::from_str(alloc, END_OF_TRACEBACK)?,
-    )?;
+    push_end(alloc, &mut lines, connection)?;
     Ok(lines)
 }
 
@@ -50,11 +51,23 @@ fn push_callers(
     lines: &mut Vec<OutputLine>,
     connection: u32,
     verbs: &[Traced],
-) -> Result<(), AllocError> {
+) -> Result<(), AllocError>
+    ensures { OnOk result (lines_of lines.new.items ++ called_from (pos connection) [] ≡ lines_of lines.old.items ++ called_from (pos connection) verbs.now) }
+{
     for verb in verbs {
         push_caller(alloc, lines, connection, verb)?;
     }
     Ok(())
+}
+
+fn push_end(alloc: Global, lines: &mut Vec<OutputLine>, connection: u32) -> Result<(), AllocError>
+    ensures { OnOk result (lines_of lines.new.items ≡ lines_of lines.old.items ++ called_from (pos connection) []) }
+{
+    push(
+        lines,
+        connection,
+        String::from_str(alloc, END_OF_TRACEBACK)?,
+    )
 }
 
 fn push_stopped(
@@ -78,7 +91,9 @@ fn push_caller(
     lines: &mut Vec<OutputLine>,
     connection: u32,
     verb: &Traced,
-) -> Result<(), AllocError> {
+) -> Result<(), AllocError>
+    ensures { OnOk result (lines_of lines.new.items ≡ lines_of lines.old.items ++ (pos connection, codes "called from " ++ verb_spelled verb.now) ∷ []) }
+{
     push(
         lines,
         connection,
@@ -101,8 +116,10 @@ fn stop_text(alloc: Global, definer: i32, verb: &Text, why: &str) -> Result<Stri
     Ok(text)
 }
 
-fn caller_text(alloc: Global, definer: i32, verb: &Text) -> Result<String, AllocError> {
-    let mut text = String::from_str(alloc, "called from ")?;
+fn caller_text(alloc: Global, definer: i32, verb: &Text) -> Result<String, AllocError>
+    ensures { IfOk result (λ s. (t : Meant) → t.definer ≡ definer → t.verb ≡ verb.now → string_bytes s ≡ codes "called from " ++ verb_spelled t) }
+{
+    let mut text = String::from_str(alloc, CALLED_FROM)?;
     spell(&mut text, definer, verb)?;
     Ok(text)
 }

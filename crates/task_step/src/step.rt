@@ -2,7 +2,8 @@
 ghost use Rattle.std.specs.Prelude.{◌≡◌, ◌&&◌, ◌==◌, nat_le, nat_lt, length, pos};
 ghost use Rattle.std.specs.List.{list_all};
 ghost use Rattle.moo_spec.specs.Datum.{in_number_range, is_text};
-ghost use Rattle.moo_spec.specs.Step.{in_range as step_in_range, event_in_range, is_link_number};
+ghost use Rattle.moo_spec.specs.Step.{in_range as step_in_range, event_in_range};
+ghost use Rattle.moo_spec.specs.WellFormed.{is_connection as is_connection_number};
 ghost use Rattle.task_step.specs.StepView.{event_of};
 
 use moo_value::text::Text;
@@ -101,7 +102,7 @@ fn is_short(text: &Text) -> bool
 }
 
 fn is_connection(number: u32) -> bool
-    ensures { result ≡ is_link_number (pos number) }
+    ensures { result ≡ is_connection_number (pos number) }
 {
     1 <= number && number <= GREATEST_CONNECTION
 }

@@ -2,8 +2,9 @@
 
 ghost use Rattle.std.specs.Prelude.{◌≡◌, ◌++◌, ◌<◌, ◌≤◌, ℕ, true, List, [], length, take, OnOk, IfOk, OnErr};
 ghost use Rattle.std.specs.List.{list_all};
-ghost use Rattle.telnet_line.specs.Telnet as telnet;
-ghost use Rattle.telnet_line.specs.TelnetReading as reading;
+ghost use Rattle.moo_spec.specs.Datum as datum;
+ghost use Rattle.moo_spec.specs.Telnet as telnet;
+ghost use Rattle.moo_spec.specs.TelnetReading as reading;
 ghost use Rattle.telnet_line.specs.TelnetSteps.{takes, holds, replies, step_data, step_return, step_iac, step_by, step};
 ghost use Rattle.telnet_line.specs.Drafts.{verb_of, begun_of, reading_of, Stepped, ReadsUpTo, ReadsAll};
 
@@ -191,7 +192,7 @@ impl Draft {
     /// How many bytes at the beginning of a piece are characters that may be kept, where no unit has begun.
     fn ready_count(&self, piece: &[u8]) -> usize
         ensures within { result ≤ length piece.now }
-        ensures kept { list_all telnet.is_kept (take result piece.now) ≡ true }
+        ensures kept { list_all datum.is_character (take result piece.now) ≡ true }
         ensures nothing { 0 < result → begun_of self.now.begun ≡ reading.Nothing }
     {
         match self.begun {
@@ -203,7 +204,7 @@ impl Draft {
     /// Takes the characters that a piece begins with.
     fn take_characters(&mut self, characters: &[u8]) -> Result<(), AllocError>
         requires nothing { begun_of self.old.begun ≡ reading.Nothing }
-        requires kept { list_all telnet.is_kept characters.now ≡ true }
+        requires kept { list_all datum.is_character characters.now ≡ true }
         ensures { OnOk result (ReadsAll characters.now self.old self.new) }
     {
         self.line.push_all(characters)?;

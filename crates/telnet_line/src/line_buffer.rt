@@ -3,8 +3,9 @@
 ghost use Rattle.std.specs.Prelude.{◌≡◌, ◌≤◌, true, [], length, take, IfOk, OnOk, OnErr};
 ghost use Rattle.std.specs.List.{list_all};
 ghost use Rattle.std.specs.String.{string_bytes};
-ghost use Rattle.telnet_line.specs.Telnet as telnet;
-ghost use Rattle.telnet_line.specs.Telnet.{with_data, without_last};
+ghost use Rattle.moo_spec.specs.Datum as datum;
+ghost use Rattle.moo_spec.specs.Telnet as telnet;
+ghost use Rattle.moo_spec.specs.Telnet.{with_data, without_last};
 ghost use Rattle.telnet_line.specs.TelnetSteps.{with_all};
 
 use std::alloc::{AllocError, Global};
@@ -21,7 +22,7 @@ pub struct LineBuffer {
 
 impl Model for LineBuffer {
     ghost use Rattle.std.specs.Prelude.{ℕ, List};
-    ghost use Rattle.telnet_line.specs.Telnet.{IsText};
+    ghost use Rattle.moo_spec.specs.Telnet.{IsText};
 
     ghost Value = { List ℕ };
 
@@ -31,8 +32,8 @@ impl Model for LineBuffer {
 }
 
 /// Tab, and space to tilde.
-fn is_kept(byte: u8) -> bool
-    ensures { result ≡ telnet.is_kept byte }
+fn is_character(byte: u8) -> bool
+    ensures { result ≡ datum.is_character byte }
 {
     byte == b'\t' || (b' ' <= byte && byte <= b'~')
 }
@@ -40,10 +41,10 @@ fn is_kept(byte: u8) -> bool
 /// How many characters that may be kept stand at the beginning of a piece.
 pub fn kept_count(piece: &[u8]) -> usize
     ensures within { result ≤ length piece.now }
-    ensures kept { list_all telnet.is_kept (take result piece.now) ≡ true }
+    ensures kept { list_all datum.is_character (take result piece.now) ≡ true }
 {
     for (place, byte) in piece.iter().enumerate() {
-        if !is_kept(*byte) {
+        if !is_character(*byte) {
             return place;
         }
     }
@@ -74,7 +75,7 @@ impl LineBuffer {
         ensures ok { OnOk result (self.new ≡ with_data self.old byte) }
         ensures err { OnErr result (self.new ≡ self.old) }
     {
-        if is_kept(byte) && self.text.len() < MAX_LINE {
+        if is_character(byte) && self.text.len() < MAX_LINE {
             self.text.push(byte)?;
         }
         Ok(())
@@ -82,7 +83,7 @@ impl LineBuffer {
 
     /// Keeps the first of these characters, as many as there is room for.
     pub fn push_all(&mut self, characters: &[u8]) -> Result<(), AllocError>
-        requires { list_all telnet.is_kept characters.now ≡ true }
+        requires { list_all datum.is_character characters.now ≡ true }
         ensures ok { OnOk result (self.new ≡ with_all self.old characters.now) }
         ensures err { OnErr result (self.new ≡ self.old) }
     {

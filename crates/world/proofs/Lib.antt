@@ -1,6 +1,9 @@
+pub mod Crossing
 pub mod Maps
 pub mod Applied
 pub mod Settled
 pub mod Changed
 pub mod FixtureIsSimple
 pub mod SoundKeeps
+pub mod Walks
+pub mod RoomsAreSound

@@ -2,3 +2,4 @@ pub mod Counted
 pub mod Counts
 pub mod Numbered
 pub mod Sound
+pub mod Rooms

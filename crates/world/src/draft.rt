@@ -1,18 +1,19 @@
 //! A world between two changes.
-ghost use Rattle.std.specs.Prelude.{◌≡◌, ◌<◌, ℕ, ℤ, pos, negsuc, false, [], max, IfOk, OnOk, OnErr, IsTrue, is_some, option_map, MatchOption};
+ghost use Rattle.std.specs.Prelude.{◌≡◌, ◌↔◌, ◌<◌, ℕ, ℤ, pos, negsuc, false, [], max, IfOk, OnOk, OnErr, IsTrue, is_some, option_map, MatchOption};
 ghost use Rattle.moo_spec.specs.Table.{at, with};
 ghost use Rattle.moo_spec.specs.World.{object_at, with_object};
 ghost use Rattle.moo_spec.specs.Inherit.{slot_at};
-ghost use Rattle.moo_spec.specs.Questions.{header_at, verbs_at, ask, apply, apply_all, new_value};
+ghost use Rattle.moo_spec.specs.Questions.{header_at, verbs_at, ask, Agrees, apply, apply_all, new_value};
 ghost use Rattle.footprint.specs.Meanings.{question_of, answer_of, change_of};
 ghost use Rattle.world.specs.Numbered.{numbered};
 
-use crate::records::{record_at, with_record};
+use crate::records::{record_at, same_records, with_record};
 use footprint::change::Change;
 use footprint::header::Header;
 use footprint::link::Link;
 use footprint::object::Object;
 use footprint::question::{Answer, Question};
+use footprint::reads::Reads;
 use footprint::slot::Slot;
 use footprint::verb::Verbs;
 use moo_value::text::Text;
@@ -137,43 +138,28 @@ impl Draft {
         record_at(&self.objects, number)
     }
 
-    fn header(&self, number: i32) -> Result<Option<Header>, AllocError>
-        ensures { IfOk result (λ h. h ≡ header_at self.now number) }
+    fn header(&self, number: i32) -> Option<&Header>
+        ensures { option_map (λ h. h.now) result ≡ header_at self.now number }
     {
-        match self.object(number) {
-            Some(object) => Ok(Some(object.header().clone()?)),
-            None => Ok(None),
-        }
+        Some(self.object(number)?.header())
     }
 
-    fn slot(&self, number: i32, name: &Text) -> Result<Option<Slot>, AllocError>
-        ensures { IfOk result (λ s. s ≡ slot_at self.now number name.now) }
+    fn slot(&self, number: i32, name: &Text) -> Option<&Slot>
+        ensures { option_map (λ s. s.now) result ≡ slot_at self.now number name.now }
     {
-        let Some(object) = self.object(number) else {
-            return Ok(None);
-        };
-        match object.slots().get(name) {
-            Some(slot) => Ok(Some(slot.clone()?)),
-            None => Ok(None),
-        }
+        self.object(number)?.slots().get(name)
     }
 
-    fn verbs(&self, number: i32) -> Result<Option<Verbs>, AllocError>
-        ensures { IfOk result (λ v. v ≡ verbs_at self.now number) }
+    fn verbs(&self, number: i32) -> Option<&Verbs>
+        ensures { option_map (λ v. v.now) result ≡ verbs_at self.now number }
     {
-        match self.object(number) {
-            Some(object) => Ok(Some(object.verbs().clone()?)),
-            None => Ok(None),
-        }
+        Some(self.object(number)?.verbs())
     }
 
-    fn link(&self, number: i32) -> Result<Option<Link>, AllocError>
-        ensures { IfOk result (λ k. k ≡ at self.now.links number) }
+    fn link(&self, number: i32) -> Option<&Link>
+        ensures { option_map (λ k. k.now) result ≡ at self.now.links number }
     {
-        match record_at(&self.links, number) {
-            Some(link) => Ok(Some(link.clone()?)),
-            None => Ok(None),
-        }
+        record_at(&self.links, number)
     }
 
     /// The answer to a question.
@@ -181,12 +167,48 @@ impl Draft {
         ensures { IfOk result (λ a. answer_of a ≡ ask self.now (question_of question.now)) }
     {
         match question {
-            Question::Header(object) => Ok(Answer::Header(self.header(*object)?)),
-            Question::Slot(object, name) => Ok(Answer::Slot(self.slot(*object, name)?)),
-            Question::Verbs(object) => Ok(Answer::Verbs(self.verbs(*object)?)),
-            Question::Link(number) => Ok(Answer::Link(self.link(*number)?)),
+            Question::Header(object) => Ok(Answer::Header(self.header(*object).cloned()?)),
+            Question::Slot(object, name) => Ok(Answer::Slot(self.slot(*object, name).cloned()?)),
+            Question::Verbs(object) => Ok(Answer::Verbs(self.verbs(*object).cloned()?)),
+            Question::Link(number) => Ok(Answer::Link(self.link(*number).cloned()?)),
             Question::Ending => Ok(Answer::Ending(self.ending)),
         }
+    }
+
+    /// Whether a question has this answer. It takes no memory.
+    pub fn answers(&self, question: &Question, answer: &Answer) -> bool
+        ensures { IsTrue result ↔ ask self.now (question_of question.now) ≡ answer_of answer.now }
+    {
+        match question {
+            Question::Header(object) => answer.is_header(self.header(*object)),
+            Question::Slot(object, name) => answer.is_slot(self.slot(*object, name)),
+            Question::Verbs(object) => answer.is_verbs(self.verbs(*object)),
+            Question::Link(number) => answer.is_link(self.link(*number)),
+            Question::Ending => answer.is_ending(self.ending),
+        }
+    }
+
+    /// Whether each question that was asked has the answer that was read. It takes no memory.
+    pub fn agrees(&self, reads: &Reads) -> bool
+        ensures { IsTrue result ↔ Agrees self.now reads.now }
+    {
+        for read in reads.as_slice() {
+            if !self.answers(&read.question, &read.answer) {
+                return false;
+            }
+        }
+        true
+    }
+
+    /// Whether two worlds are the same. It takes no memory.
+    pub fn same(&self, other: &Draft) -> bool
+        ensures { IsTrue result ↔ self.now ≡ other.now }
+    {
+        same_records(&self.objects, &other.objects)
+            && same_records(&self.links, &other.links)
+            && self.greatest == other.greatest
+            && self.next == other.next
+            && self.ending == other.ending
     }
 
     /// A change.

@@ -1,30 +1,26 @@
 //! The small world that worked rows begin with.
 ghost use Rattle.std.specs.Prelude.{◌≡◌, pos, negsuc, false, [], ◌∷◌, IfOk, IsTrue, codes};
-ghost use Rattle.moo_spec.specs.Datum.{is_text, text as characters};
-ghost use Rattle.moo_spec.specs.Tree.{literal, variable};
+ghost use Rattle.moo_spec.specs.Datum.{is_text};
 ghost use Rattle.moo_spec.specs.Fixture as meant;
 ghost use Rattle.moo_spec.specs.Questions.{header as header_of};
 ghost use Rattle.footprint.specs.ObjectParts.{object_of};
 
 use crate::draft::Draft;
+use crate::fixture_verbs::{box_verbs, room_verbs};
 use crate::worlds::World;
 use footprint::header::Header;
 use footprint::link::Link;
 use footprint::object::{Lists, Object};
 use footprint::slot::Slot;
 use footprint::slots::Slots;
-use footprint::verb::{ObjectPart, PrepositionPart, Verb, Verbs};
-use moo_compiler::program::Program;
-use moo_tree::expression::{Expression, ExpressionNode, Target};
-use moo_tree::statement::{Statement, StatementNode, Tree};
-use moo_value::operator::BinaryOperator;
+use footprint::verb::Verbs;
 use moo_value::text::Text;
 use moo_value::value::Value;
 use std::alloc::{AllocError, Global};
 
-const NOWHERE: i32 = -1;
+pub(crate) const NOWHERE: i32 = -1;
 
-const WIZARD: i32 = 2;
+pub(crate) const WIZARD: i32 = 2;
 
 /// The fixture: the objects #0 to #7, and the links 1 and 2 of the players #4 and #5.
 pub fn fixture(alloc: Global) -> Result<World, AllocError>
@@ -35,7 +31,7 @@ pub fn fixture(alloc: Global) -> Result<World, AllocError>
     Ok(World::of_draft(draft))
 }
 
-fn records(alloc: Global) -> Result<Draft, AllocError>
+pub(crate) fn records(alloc: Global) -> Result<Draft, AllocError>
     ensures { IfOk result (λ d. d ≡ meant.fixture) }
 {
     let mut draft = objects(alloc)?;
@@ -87,9 +83,22 @@ fn wizard(alloc: Global) -> Result<Object, AllocError>
 fn room(alloc: Global) -> Result<Object, AllocError>
     ensures { IfOk result (λ x. x ≡ meant.room (pos 0)) }
 {
+    let header = header(alloc, "Room")?;
+    room_of(alloc, header, &[4, 5, 6], room_verbs(alloc)?)
+}
+
+// A room with a number, with this header, these contents and these verbs.
+pub(crate) fn room_of(
+    alloc: Global,
+    header: Header,
+    contents: &[i32],
+    verbs: Verbs,
+) -> Result<Object, AllocError>
+    ensures { IfOk result (λ x. x ≡ object_of header [] contents.now (codes "n" ∷ []) ((codes "n", meant.n_slot (pos 0)) ∷ []) verbs) }
+{
     let lists = Lists {
         children: Vec::new(alloc),
-        contents: [4, 5, 6].to_vec(alloc)?,
+        contents: contents.to_vec(alloc)?,
         defines: one_name(alloc)?,
     };
     let slot = Slot {
@@ -100,13 +109,7 @@ fn room(alloc: Global) -> Result<Object, AllocError>
         changeable: false,
     };
     let slots = Slots::single(alloc, text(alloc, "n")?, slot)?;
-    Object::new(
-        alloc,
-        header(alloc, "Room")?,
-        lists,
-        slots,
-        count_alone(alloc)?,
-    )
+    Object::new(alloc, header, lists, slots, verbs)
 }
 
 fn person(alloc: Global, name: &str) -> Result<Object, AllocError>
@@ -125,7 +128,7 @@ fn box_in_room(alloc: Global) -> Result<Object, AllocError>
     let mut header = header(alloc, "box")?;
     header.parent = 7;
     header.location = 3;
-    plain(alloc, header, &[], &[])
+    with_verbs(alloc, header, &[], &[], box_verbs(alloc)?)
 }
 
 fn thing(alloc: Global) -> Result<Object, AllocError>
@@ -135,7 +138,7 @@ fn thing(alloc: Global) -> Result<Object, AllocError>
 }
 
 // The header of a child of the root, nowhere and owned by the wizard.
-fn header(alloc: Global, name: &str) -> Result<Header, AllocError>
+pub(crate) fn header(alloc: Global, name: &str) -> Result<Header, AllocError>
     requires { IsTrue (is_text name.now) }
     ensures { IfOk result (λ h. h ≡ header_of (meant.plain_object name.now)) }
 {
@@ -154,7 +157,7 @@ fn header(alloc: Global, name: &str) -> Result<Header, AllocError>
 }
 
 // An object with no properties and no verbs.
-fn plain(
+pub(crate) fn plain(
     alloc: Global,
     header: Header,
     children: &[i32],
@@ -162,12 +165,25 @@ fn plain(
 ) -> Result<Object, AllocError>
     ensures { IfOk result (λ x. x ≡ object_of header children.now contents.now [] [] []) }
 {
+    let verbs = Verbs::new(alloc, Vec::new(alloc))?;
+    with_verbs(alloc, header, children, contents, verbs)
+}
+
+// An object with no properties and these verbs.
+fn with_verbs(
+    alloc: Global,
+    header: Header,
+    children: &[i32],
+    contents: &[i32],
+    verbs: Verbs,
+) -> Result<Object, AllocError>
+    ensures { IfOk result (λ x. x ≡ object_of header children.now contents.now [] [] verbs) }
+{
     let lists = Lists {
         children: children.to_vec(alloc)?,
         contents: contents.to_vec(alloc)?,
         defines: Vec::new(alloc),
     };
-    let verbs = Verbs::new(alloc, Vec::new(alloc))?;
     Object::new(alloc, header, lists, Slots::new(alloc), verbs)
 }
 
@@ -179,83 +195,7 @@ fn one_name(alloc: Global) -> Result<Vec<Text>, AllocError>
     Ok(names)
 }
 
-fn count_alone(alloc: Global) -> Result<Verbs, AllocError>
-    ensures { IfOk result (λ vs. vs ≡ meant.plain_verb (codes "count") meant.count_program ∷ []) }
-{
-    let mut verbs = Vec::with_capacity(alloc, 1)?;
-    verbs.push(Verb {
-        names: text(alloc, "count")?,
-        owner: WIZARD,
-        readable: false,
-        writable: false,
-        callable: true,
-        debug: true,
-        direct: ObjectPart::Absent,
-        preposition: PrepositionPart::Absent,
-        indirect: ObjectPart::Absent,
-        program: Program::compile(alloc, count_tree(alloc)?)?,
-    })?;
-    Verbs::new(alloc, verbs)
-}
-
-// this.n = this.n + 1; return this.n;
-fn count_tree(alloc: Global) -> Result<Tree, AllocError>
-    ensures { IfOk result (λ t. t ≡ meant.count_program) }
-{
-    let one = Expression {
-        node: ExpressionNode::Literal(Value::integer(1)),
-    };
-    let sum = Expression {
-        node: ExpressionNode::Binary(
-            BinaryOperator::Plus,
-            Box::new(alloc, this_n(alloc)?)?,
-            Box::new(alloc, one)?,
-        ),
-    };
-    let target = Target::Property(
-        Box::new(alloc, this(alloc)?)?,
-        Box::new(alloc, name_n(alloc)?)?,
-    );
-    let assignment = Expression {
-        node: ExpressionNode::Assignment(target, Box::new(alloc, sum)?),
-    };
-    let mut statements = Vec::with_capacity(alloc, 2)?;
-    statements.push(Statement {
-        node: StatementNode::Evaluate(assignment),
-    })?;
-    statements.push(Statement {
-        node: StatementNode::Return(Some(this_n(alloc)?)),
-    })?;
-    Ok(Tree::new(statements))
-}
-
-fn this_n(alloc: Global) -> Result<Expression, AllocError>
-    ensures { IfOk result (λ e. e ≡ meant.this_n) }
-{
-    let object = Box::new(alloc, this(alloc)?)?;
-    let name = Box::new(alloc, name_n(alloc)?)?;
-    Ok(Expression {
-        node: ExpressionNode::Property(object, name),
-    })
-}
-
-fn this(alloc: Global) -> Result<Expression, AllocError>
-    ensures { IfOk result (λ e. e ≡ variable (codes "this")) }
-{
-    Ok(Expression {
-        node: ExpressionNode::Variable(text(alloc, "this")?),
-    })
-}
-
-fn name_n(alloc: Global) -> Result<Expression, AllocError>
-    ensures { IfOk result (λ e. e ≡ literal (characters (codes "n"))) }
-{
-    Ok(Expression {
-        node: ExpressionNode::Literal(Value::text(text(alloc, "n")?)),
-    })
-}
-
-fn text(alloc: Global, characters: &str) -> Result<Text, AllocError>
+pub(crate) fn text(alloc: Global, characters: &str) -> Result<Text, AllocError>
     requires { IsTrue (is_text characters.now) }
     ensures { IfOk result (λ t. t ≡ characters.now) }
 {

@@ -7,5 +7,8 @@
 mod count;
 pub mod draft;
 pub mod fixture;
+mod fixture_verbs;
+pub mod keeping;
 mod records;
+pub mod rooms;
 pub mod worlds;

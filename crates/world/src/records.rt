@@ -1,8 +1,10 @@
 //! Tables of records, by the numbers of objects and links.
-ghost use Rattle.std.specs.Prelude.{◌≡◌, ◌<◌, ◌^◌, ℕ, ℤ, pos, negsuc, IfOk, IsTrue, is_some, None, option_map, MatchOption};
+ghost use Rattle.std.specs.Prelude.{◌≡◌, ◌↔◌, ◌<◌, ◌^◌, ℕ, ℤ, pos, negsuc, IfOk, IsTrue, is_some, None, option_map, MatchOption};
 ghost use Rattle.moo_spec.specs.Table.{at, with};
 ghost use Rattle.world.specs.Numbered.{numbered};
 
+use footprint::link::Link;
+use footprint::object::Object;
 use std::alloc::AllocError;
 use world_table::Table;
 
@@ -44,4 +46,41 @@ fn key_of(number: i32) -> Option<u64>
         return None;
     }
     Some(number as u64)
+}
+
+/// A record that can be compared.
+pub(crate) trait Compared {
+    /// Whether two records are the same. It takes no memory.
+    fn is_same(&self, other: &Self) -> bool
+        ensures { IsTrue result ↔ self.now ≡ other.now };
+}
+
+impl Compared for Object {
+    fn is_same(&self, other: &Object) -> bool {
+        self.same(other)
+    }
+}
+
+impl Compared for Link {
+    fn is_same(&self, other: &Link) -> bool {
+        self.same(other)
+    }
+}
+
+/// Whether two tables have the same records for the same numbers. It takes no memory.
+pub(crate) fn same_records<R: Compared + Drop>(a: &Table<R, 4>, b: &Table<R, 4>) -> bool
+    ensures { IsTrue result ↔ numbered a.now.entries ≡ numbered b.now.entries }
+{
+    let _sizes = (a.len(), b.len());
+    let mut key = 0;
+    while let Some((number, record)) = a.next_from(key) {
+        let Some((other_number, other)) = b.next_from(key) else {
+            return false;
+        };
+        if number != other_number || !record.is_same(other) {
+            return false;
+        }
+        key = number + 1;
+    }
+    b.next_from(key).is_none()
 }

@@ -1,13 +1,13 @@
 //! Worlds and snapshots.
-ghost use Rattle.std.specs.Prelude.{◌≡◌, ◌+◌, ◌≤◌, ℕ, negsuc, false, [], max, IfOk, OnOk, OnErr};
-ghost use Rattle.moo_spec.specs.Questions.{ask, apply_all};
+ghost use Rattle.std.specs.Prelude.{◌≡◌, ◌↔◌, ◌+◌, ◌≤◌, ℕ, negsuc, false, [], max, IfOk, OnOk, OnErr, IsTrue};
+ghost use Rattle.moo_spec.specs.Questions.{ask, Agrees, apply_all};
 ghost use Rattle.footprint.specs.Meanings.{question_of, answer_of};
 ghost use Rattle.world.specs.Sound.{IsSound};
 
 use crate::count::Count;
 use crate::draft::Draft;
 use footprint::question::{Answer, Question};
-use footprint::reads::Changes;
+use footprint::reads::{Changes, Reads};
 use std::alloc::{AllocError, Global};
 use std::marker::Model;
 
@@ -88,6 +88,13 @@ impl World {
         ensures { IfOk result (λ a. answer_of a ≡ ask self.now.plain (question_of question.now)) }
     {
         self.draft.ask(question)
+    }
+
+    /// Whether each question that was asked has the answer that was read. It takes no memory.
+    pub fn agrees(&self, reads: &Reads) -> bool
+        ensures { IsTrue result ↔ Agrees self.now.plain reads.now }
+    {
+        self.draft.agrees(reads)
     }
 
     /// The number that the next step has.
@@ -173,6 +180,13 @@ impl Snapshot {
         ensures { IfOk result (λ a. answer_of a ≡ ask self.now (question_of question.now)) }
     {
         self.draft.ask(question)
+    }
+
+    /// Whether two snapshots are of the same world. It takes no memory.
+    pub fn same_world(&self, other: &Snapshot) -> bool
+        ensures { IsTrue result ↔ self.now ≡ other.now }
+    {
+        self.draft.same(&other.draft)
     }
 
     /// The records of the snapshot, with one more owner.

@@ -1,3 +1,4 @@
+pub mod Crossing
 pub mod Rising
 pub mod Rows
 pub mod Roots

@@ -1,6 +1,6 @@
 use Rattle.std.proofs.Common.{◌∙◌, sym, ap}
 use Rattle.moo_spec.specs.Datum.{same}
-use Rattle.moo_arith.proofs.Finding.{found_here, found_further, found_nowhere, found_first}
+use Rattle.moo_arith.proofs.Finding.{found_here, found_further, found_first}
 use Rattle.builtins_value.proofs.lists.first_equal.Goals as goal
 
 pub loop-i-init : goal.loop-i-init

@@ -1,6 +1,6 @@
 use Rattle.std.proofs.Common.{sym, w32}
 use Rattle.std.proofs.lemmas.Int.{to_z-of_z}
-use Rattle.machine.specs.Answers.{answer_of}
+use Rattle.moo_value.specs.Answers.{answer_of}
 use Rattle.machine.proofs.PropertyRules.{allowed_read_left}
 use Rattle.machine.proofs.properties.read_slot_of.Goals as goal
 

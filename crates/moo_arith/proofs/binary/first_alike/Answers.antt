@@ -1,6 +1,6 @@
 use Rattle.std.proofs.Common.{◌∙◌, sym, ap}
 use Rattle.moo_spec.specs.Operators.{alike}
-use Rattle.moo_arith.proofs.Finding.{found_here, found_further, found_nowhere, found_first}
+use Rattle.moo_arith.proofs.Finding.{found_here, found_further, found_first}
 use Rattle.moo_arith.proofs.binary.first_alike.Goals as goal
 
 pub loop-i-init : goal.loop-i-init

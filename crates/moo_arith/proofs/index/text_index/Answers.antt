@@ -1,9 +1,6 @@
-use Rattle.std.proofs.Common.{◌≡◌, sym, ◌∙◌, ap, w32, append_assoc, ◌++◌, ◌∷◌, [], List, take, drop, length, ◌-◌}
+use Rattle.std.proofs.Common.{w32}
 use Rattle.std.proofs.lemmas.Int.{to_z-of_z}
-use Rattle.moo_spec.specs.Datum.{list, of_list}
-use Rattle.moo_spec.specs.Answer.{gives, limited}
 use Rattle.moo_arith.proofs.Parts.{index_of_text}
-use Rattle.moo_value.proofs.Listing.{item_count-of_list, take_rest}
 use Rattle.moo_arith.proofs.index.text_index.Goals as goal
 
 pub returns : goal.returns

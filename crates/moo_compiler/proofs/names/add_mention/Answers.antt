@@ -1,4 +1,4 @@
-use Rattle.std.proofs.Common.{◌≡◌, ◌≢◌, ◌+◌, ◌∙◌, List, [], ◌∷◌, ◌++◌, length, sym, ap, arith}
+use Rattle.std.proofs.Common.{◌≡◌, ◌∙◌, [], ◌∷◌, ◌++◌, sym, ap, arith}
 use Rattle.moo_compiler.specs.Names.{slot_of}
 use Rattle.moo_compiler.proofs.Slots.{mention_known, mention_new}
 use Rattle.moo_compiler.proofs.names.add_mention.Goals as goal

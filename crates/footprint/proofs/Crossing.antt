@@ -1,0 +1,86 @@
+-- What worlds consist of, and what was read and changed, may go to other threads, and be lent to them.
+use denote.Param.Send.{IsSend, IsSync, sendable}
+use denote.Param.SendFields.{declared_send}
+use Rattle.std.proofs.Crossing.{crosses}
+use Rattle.moo_value.proofs.Crossing.{value_send, value_sync, text_send, text_sync}
+use Rattle.moo_compiler.proofs.Crossing.{program_send, program_sync}
+use Rattle.footprint.specs.contracts.change.Change as change
+use Rattle.footprint.specs.contracts.header.Header as header
+use Rattle.footprint.specs.contracts.link.Link as link
+use Rattle.footprint.specs.contracts.object.Lists as lists
+use Rattle.footprint.specs.contracts.object.Object as object
+use Rattle.footprint.specs.contracts.question.Answer as answer
+use Rattle.footprint.specs.contracts.question.Question as question
+use Rattle.footprint.specs.contracts.reads.Changes as changes
+use Rattle.footprint.specs.contracts.reads.Read as read
+use Rattle.footprint.specs.contracts.reads.Reads as reads
+use Rattle.footprint.specs.contracts.slot.Slot as slot
+use Rattle.footprint.specs.contracts.slots.Slots as slots
+use Rattle.footprint.specs.contracts.verb.Verb as verb
+use Rattle.footprint.specs.contracts.verb.Verbs as verbs
+
+pub header_send : IsSend header.the_row
+header_send = search (sendable, crosses, text_send) depth 60
+
+pub link_send : IsSend link.the_row
+link_send = search (sendable, crosses) depth 60
+
+pub slot_send : IsSend slot.the_row
+slot_send = search (sendable, crosses, value_send) depth 60
+
+pub slots_send : IsSend slots.the_row
+slots_send = search (sendable, crosses, text_send, slot_send) depth 60
+
+verb_send : IsSend verb.the_row
+verb_send = search (sendable, crosses, text_send, program_send) depth 60
+
+pub header_sync : IsSync header.the_row
+header_sync = search (sendable, crosses, text_sync) depth 60
+
+pub link_sync : IsSync link.the_row
+link_sync = search (sendable, crosses) depth 60
+
+pub slot_sync : IsSync slot.the_row
+slot_sync = search (sendable, crosses, value_sync) depth 60
+
+pub slots_sync : IsSync slots.the_row
+slots_sync = search (sendable, crosses, text_sync, slot_sync) depth 60
+
+verb_sync : IsSync verb.the_row
+verb_sync = search (sendable, crosses, text_sync, program_sync) depth 60
+
+pub verbs_send : IsSend verbs.the_row
+verbs_send = search (sendable, crosses, verb_send, verb_sync) depth 60
+
+lists_send : IsSend lists.the_row
+lists_send = search (sendable, crosses, text_send) depth 60
+
+pub verbs_sync : IsSync verbs.the_row
+verbs_sync = search (sendable, crosses, verb_send, verb_sync) depth 60
+
+lists_sync : IsSync lists.the_row
+lists_sync = search (sendable, crosses, text_sync) depth 60
+
+pub object_send : IsSend object.the_row
+object_send = search (sendable, crosses, header_send, slots_send, verbs_send, lists_send, lists_sync) depth 60
+
+pub object_sync : IsSync object.the_row
+object_sync = search (sendable, crosses, header_sync, slots_sync, verbs_sync, lists_send, lists_sync) depth 60
+
+question_send : IsSend question.the_row
+question_send = search (sendable, crosses, text_send) depth 60
+
+answer_send : IsSend answer.the_row
+answer_send = search (sendable, crosses, header_send, slot_send, verbs_send, link_send) depth 60
+
+read_send : IsSend read.the_row
+read_send = declared_send read.the_type (question_send, (answer_send, tt))
+
+pub reads_send : IsSend reads.the_row
+reads_send = search (sendable, crosses, read_send) depth 60
+
+change_send : IsSend change.the_row
+change_send = search (sendable, crosses, text_send, value_send) depth 60
+
+pub changes_send : IsSend changes.the_row
+changes_send = search (sendable, crosses, change_send) depth 60

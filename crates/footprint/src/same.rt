@@ -1,0 +1,259 @@
+//! Comparisons of records and answers. None takes memory.
+ghost use Rattle.std.specs.Prelude.{◌≡◌, ◌↔◌, IsTrue, option_map};
+ghost use Rattle.moo_spec.specs.Questions.{the_header, the_slot, the_verbs, the_link, the_ending};
+ghost use Rattle.footprint.specs.Meanings.{answer_of};
+
+use crate::header::Header;
+use crate::link::Link;
+use crate::object::Object;
+use crate::question::Answer;
+use crate::slot::Slot;
+use crate::verb::{Verb, Verbs};
+use moo_value::compare::equal;
+use moo_value::text::Text;
+use moo_value::value::Value;
+
+impl Header {
+    /// Whether two headers are the same.
+    pub fn same(&self, other: &Header) -> bool
+        ensures { IsTrue result ↔ self.now ≡ other.now }
+    {
+        same_text(&self.name, &other.name)
+            && self.owner == other.owner
+            && self.parent == other.parent
+            && self.location == other.location
+            && same_flags(self, other)
+    }
+}
+
+fn same_flags(a: &Header, b: &Header) -> bool
+    ensures { IsTrue result ↔ (a.now.is_player ≡ b.now.is_player) × (a.now.is_programmer ≡ b.now.is_programmer) × (a.now.is_wizard ≡ b.now.is_wizard)
+        × (a.now.readable ≡ b.now.readable) × (a.now.writable ≡ b.now.writable) × (a.now.fertile ≡ b.now.fertile) }
+{
+    a.is_player == b.is_player
+        && a.is_programmer == b.is_programmer
+        && a.is_wizard == b.is_wizard
+        && a.readable == b.readable
+        && a.writable == b.writable
+        && a.fertile == b.fertile
+}
+
+impl Slot {
+    /// Whether two slots are the same, the case of letters in their values counted.
+    pub fn same(&self, other: &Slot) -> bool
+        ensures { IsTrue result ↔ self.now ≡ other.now }
+    {
+        same_contents(&self.content, &other.content)
+            && self.owner == other.owner
+            && self.readable == other.readable
+            && self.writable == other.writable
+            && self.changeable == other.changeable
+    }
+}
+
+fn same_contents(a: &Option<Value>, b: &Option<Value>) -> bool
+    ensures { IsTrue result ↔ a.now ≡ b.now }
+{
+    match (a, b) {
+        (Some(x), Some(y)) => equal(x, y),
+        (None, None) => true,
+        _ => false,
+    }
+}
+
+impl Link {
+    /// Whether two links are the same.
+    pub fn same(&self, other: &Link) -> bool
+        ensures { IsTrue result ↔ self.now ≡ other.now }
+    {
+        self.person == other.person
+    }
+}
+
+impl Verb {
+    /// Whether two verbs are the same.
+    pub fn same(&self, other: &Verb) -> bool
+        ensures { IsTrue result ↔ self.now ≡ other.now }
+    {
+        same_text(&self.names, &other.names)
+            && self.owner == other.owner
+            && same_bits(self, other)
+            && same_specifier(self, other)
+            && self.program.same(&other.program)
+    }
+}
+
+fn same_bits(a: &Verb, b: &Verb) -> bool
+    ensures { IsTrue result ↔ (a.now.readable ≡ b.now.readable) × (a.now.writable ≡ b.now.writable)
+        × (a.now.callable ≡ b.now.callable) × (a.now.debug ≡ b.now.debug) }
+{
+    a.readable == b.readable
+        && a.writable == b.writable
+        && a.callable == b.callable
+        && a.debug == b.debug
+}
+
+fn same_specifier(a: &Verb, b: &Verb) -> bool
+    ensures { IsTrue result ↔ (a.now.direct ≡ b.now.direct) × (a.now.preposition ≡ b.now.preposition) × (a.now.indirect ≡ b.now.indirect) }
+{
+    a.direct == b.direct && a.preposition == b.preposition && a.indirect == b.indirect
+}
+
+impl Verbs {
+    /// Whether two lists of verbs are the same.
+    pub fn same(&self, other: &Verbs) -> bool
+        ensures { IsTrue result ↔ self.now ≡ other.now }
+    {
+        same_verbs(self.as_slice(), other.as_slice())
+    }
+}
+
+fn same_verbs(xs: &[Verb], ys: &[Verb]) -> bool
+    ensures { IsTrue result ↔ xs.now ≡ ys.now }
+{
+    if xs.len() != ys.len() {
+        return false;
+    }
+    for i in 0..xs.len() {
+        if !xs[i].same(&ys[i]) {
+            return false;
+        }
+    }
+    true
+}
+
+impl Object {
+    /// Whether two objects are the same.
+    #[tactic(auto, using(crate::proofs::Wholes::same_objects))]
+    pub fn same(&self, other: &Object) -> bool
+        ensures { IsTrue result ↔ self.now ≡ other.now }
+    {
+        self.header().same(other.header())
+            && same_lists(self, other)
+            && same_slots(&self.slots().entries, &other.slots().entries)
+            && self.verbs().same(other.verbs())
+    }
+}
+
+fn same_lists(a: &Object, b: &Object) -> bool
+    ensures { IsTrue result ↔ (a.now.children ≡ b.now.children) × (a.now.contents ≡ b.now.contents) × (a.now.defines ≡ b.now.defines) }
+{
+    same_numbers(a.children(), b.children())
+        && same_numbers(a.contents(), b.contents())
+        && same_names(a.defines(), b.defines())
+}
+
+fn same_numbers(xs: &[i32], ys: &[i32]) -> bool
+    ensures { IsTrue result ↔ xs.now ≡ ys.now }
+{
+    xs == ys
+}
+
+fn same_text(a: &Text, b: &Text) -> bool
+    ensures { IsTrue result ↔ a.now ≡ b.now }
+{
+    a.as_str() == b.as_str()
+}
+
+fn same_names(xs: &[Text], ys: &[Text]) -> bool
+    ensures { IsTrue result ↔ xs.now ≡ ys.now }
+{
+    if xs.len() != ys.len() {
+        return false;
+    }
+    for i in 0..xs.len() {
+        if !same_text(&xs[i], &ys[i]) {
+            return false;
+        }
+    }
+    true
+}
+
+fn same_slots(xs: &[(Text, Slot)], ys: &[(Text, Slot)]) -> bool
+    ensures { IsTrue result ↔ xs.now ≡ ys.now }
+{
+    if xs.len() != ys.len() {
+        return false;
+    }
+    for i in 0..xs.len() {
+        if !same_entry(&xs[i], &ys[i]) {
+            return false;
+        }
+    }
+    true
+}
+
+fn same_entry(a: &(Text, Slot), b: &(Text, Slot)) -> bool
+    ensures { IsTrue result ↔ a.now ≡ b.now }
+{
+    same_text(&a.0, &b.0) && a.1.same(&b.1)
+}
+
+impl Answer {
+    /// Whether the answer is this header, or that there is none.
+    pub fn is_header(&self, found: Option<&Header>) -> bool
+        ensures { IsTrue result ↔ the_header (option_map (λ x. x.now) found.entry) ≡ answer_of self.now }
+    {
+        match (found, self) {
+            (Some(a), Answer::Header(Some(b))) => a.same(b),
+            (None, Answer::Header(None)) => true,
+            _ => false,
+        }
+    }
+
+    /// Whether the answer is this slot, or that there is none.
+    pub fn is_slot(&self, found: Option<&Slot>) -> bool
+        ensures { IsTrue result ↔ the_slot (option_map (λ x. x.now) found.entry) ≡ answer_of self.now }
+    {
+        match (found, self) {
+            (Some(a), Answer::Slot(Some(b))) => a.same(b),
+            (None, Answer::Slot(None)) => true,
+            _ => false,
+        }
+    }
+
+    /// Whether the answer is these verbs, or that there are none.
+    pub fn is_verbs(&self, found: Option<&Verbs>) -> bool
+        ensures { IsTrue result ↔ the_verbs (option_map (λ x. x.now) found.entry) ≡ answer_of self.now }
+    {
+        match (found, self) {
+            (Some(a), Answer::Verbs(Some(b))) => a.same(b),
+            (None, Answer::Verbs(None)) => true,
+            _ => false,
+        }
+    }
+
+    /// Whether the answer is this link, or that there is none.
+    pub fn is_link(&self, found: Option<&Link>) -> bool
+        ensures { IsTrue result ↔ the_link (option_map (λ x. x.now) found.entry) ≡ answer_of self.now }
+    {
+        match (found, self) {
+            (Some(a), Answer::Link(Some(b))) => a.same(b),
+            (None, Answer::Link(None)) => true,
+            _ => false,
+        }
+    }
+
+    /// Whether the answer is this ending flag.
+    pub fn is_ending(&self, ending: bool) -> bool
+        ensures { IsTrue result ↔ the_ending ending ≡ answer_of self.now }
+    {
+        match self {
+            Answer::Ending(other) => ending == *other,
+            _ => false,
+        }
+    }
+
+    /// Whether two answers are the same.
+    pub fn same(&self, other: &Answer) -> bool
+        ensures { IsTrue result ↔ answer_of self.now ≡ answer_of other.now }
+    {
+        match self {
+            Answer::Header(found) => other.is_header(found.as_ref()),
+            Answer::Slot(found) => other.is_slot(found.as_ref()),
+            Answer::Verbs(found) => other.is_verbs(found.as_ref()),
+            Answer::Link(found) => other.is_link(found.as_ref()),
+            Answer::Ending(ending) => other.is_ending(*ending),
+        }
+    }
+}

@@ -1,0 +1,82 @@
+//! The words of `moo-play`.
+use moo_server::words::options;
+use std::test::Fail;
+
+// Words after the program's name, and the world, the script, the number of workers and the file that they name.
+const GIVEN: [(&[&str], &str, &str, &str, Option<&str>); 5] = [
+    (
+        &["moo-play", "fixture", "stdin"],
+        "fixture",
+        "stdin",
+        "1",
+        None,
+    ),
+    (
+        &["moo-play", "fixture", "a.script", "--workers", "2"],
+        "fixture",
+        "a.script",
+        "2",
+        None,
+    ),
+    (&["moo-play", "--workers=x", "w", "s"], "w", "s", "x", None),
+    (
+        &[
+            "moo-play",
+            "--out",
+            "f",
+            "fixture",
+            "--workers",
+            "64",
+            "stdin",
+        ],
+        "fixture",
+        "stdin",
+        "64",
+        Some("f"),
+    ),
+    (
+        &["moo-play", "--", "--workers", "2"],
+        "--workers",
+        "2",
+        "1",
+        None,
+    ),
+];
+
+// Words that are refused.
+const REFUSED: [&[&str]; 6] = [
+    &["moo-play"],
+    &["moo-play", "fixture"],
+    &["moo-play", "fixture", "stdin", "more"],
+    &["moo-play", "fixture", "stdin", "--workers"],
+    &["moo-play", "fixture", "stdin", "--out"],
+    &["moo-play", "fixture", "stdin", "--port", "1"],
+];
+
+#[test]
+fn words_given(rt: HostRuntime) -> Result<(), Fail> {
+    for (words, world, script, workers, out) in GIVEN {
+        let options = options(rt.alloc(), words)?;
+        assert_eq!(rt; options.world, world);
+        assert_eq!(rt; options.script, script);
+        assert_eq!(rt; options.workers, workers);
+        assert_eq!(rt; options.out, out);
+    }
+    Ok(())
+}
+
+// They are faults for the standard error; the help is none.
+#[test]
+fn words_refused(rt: HostRuntime) -> Result<(), Fail> {
+    for words in REFUSED {
+        let Err(error) = options(rt.alloc(), words) else {
+            return Err(Fail::new("read"));
+        };
+        assert!(rt; error.use_stderr());
+    }
+    let Err(help) = options(rt.alloc(), &["moo-play", "--help"]) else {
+        return Err(Fail::new("no help"));
+    };
+    assert!(rt; !help.use_stderr());
+    Ok(())
+}

@@ -1,0 +1,205 @@
+-- Each change keeps a board honest.
+use Rattle.std.proofs.Common.{◌≡◌, ℕ, zero, suc, ◌+◌, ◌≤◌, List, [], ◌∷◌, ◌++◌, length, take, Some, slice_get, slice_set, inl, inr, refl, sym, ap, subst, ◌∙◌, arith, length-append, length-drop}
+use Rattle.std.proofs.lemmas.List.{take_all}
+use Rattle.std.proofs.lemmas.Option.{slice_get_within}
+use Rattle.moo_spec.specs.World.{World}
+use Rattle.moo_spec.specs.Questions.{Agrees}
+use Rattle.moo_spec.specs.Step.{Step, Outcome, RunsOn, AllInRange, play1, play}
+use Rattle.world.specs.Counted.{Counted}
+use Rattle.world.specs.Sound.{IsSound}
+use Rattle.speculate.specs.declared.held.Held.{Held}
+use Rattle.speculate.specs.declared.held.Held.TheVariants.{Empty, Loss, Holds}
+use Rattle.speculate.specs.declared.held.Mark.{Mark}
+use Rattle.speculate.specs.declared.held.Mark.TheVariants.{Kept, Rerun, Lost}
+use Rattle.speculate.specs.Right.{Guessed, IsRight, after_guess}
+use Rattle.speculate.specs.BoardState.{BoardState, FitsStep, runs, IsHonest, opened_on, with_held}
+use Rattle.speculate.specs.Progress.{Committed, Commits, with_commit, Advances, ready, rest, IsUndone, StaysPut, AdvancesInPart, AllHeld}
+use Rattle.speculate.proofs.Places.{fits_at, fits_set, fits_any, fits_empty, fits_length, ready_more, ready_all}
+use Rattle.speculate.proofs.Plays.{play_more, range_at, play1_sound}
+
+kept_plays : (w : World) (s : Step) (g : Guessed) (w' : Counted) (n : ℕ) (o : Outcome) → IsSound w → g.step ≡ s → IsRight g → Agrees w g.reads
+    → w' ≡ record { plain = after_guess g w; opened = n } → o ≡ g.outcome → play1 w s ≡ (w'.plain, o)
+kept_plays w s g w' n o sound same right agrees a b =
+    let P : Step → Type 0 = λ z. play1 w z ≡ (after_guess g w, g.outcome) in
+    rw (a, b) (subst P same (right w sound agrees))
+
+-- whatever a position holds, its commit is one step of the play
+pub committed_plays : (w : Counted) (s : Step) (h : Held) (w' : Counted) (o : Outcome) (m : Mark) → IsSound w.plain → FitsStep s h → Committed w s h w' o m → play1 w.plain s ≡ (w'.plain, o)
+committed_plays w s Empty w' o m sound fits c = absurd c
+committed_plays w s Loss w' o m sound fits c = c.0.0
+committed_plays w s (Holds g) w' o m sound fits c =
+    elim c [ inl a ↦ kept_plays w.plain s g w' w.opened o sound fits.0 fits.1 a.0 a.1 a.2 | inr b ↦ b.1.0 ]
+
+-- one more mark
+runs_more : (ms : List Mark) (m : Mark) → runs (ms ++ m ∷ []) ≡ runs ms + runs (m ∷ [])
+runs_more [] m = omega arith
+runs_more (Kept ∷ ms) m = runs_more ms m
+runs_more (Rerun ∷ ms) m = omega (arith, runs_more ms m)
+runs_more (Lost ∷ ms) m = omega (arith, runs_more ms m)
+
+-- and one view was opened for each mark but Kept
+views_more : (w : Counted) (s : Step) (h : Held) (w' : Counted) (o : Outcome) (m : Mark) (ms : List Mark) (n : ℕ) → Committed w s h w' o m → n + runs ms ≤ w.opened → n + runs (ms ++ m ∷ []) ≤ w'.opened
+views_more w s Empty w' o m ms n c h = absurd c
+views_more w s Loss w' o m ms n c h = rw c.1 (omega (arith, runs_more ms Lost, c.0.1))
+views_more w s (Holds g) w' o m ms n c h =
+    elim c [
+      | inl a ↦ rw a.3 (omega (arith, runs_more ms Kept, ap (λ (x : Counted). x.opened) a.1))
+      | inr b ↦ rw b.2 (omega (arith, runs_more ms Rerun, b.1.1))
+    ]
+
+holds_something : (w : Counted) (s : Step) (h : Held) (w' : Counted) (o : Outcome) (m : Mark) → Committed w s h w' o m → h ≡ Empty → ⊥
+holds_something w s h w' o m c is =
+    let P : Held → Type 0 = λ x. Committed w s x w' o m in subst P is c
+
+-- ---- the next position is committed
+
+next_played : (w : World) (ss : List Step) (k : ℕ) (now : World) (os : List Outcome) (s : Step) (w' : World) (o : Outcome)
+    → play w (take k ss) ≡ (now, os) → slice_get ss k ≡ Some s → play1 now s ≡ (w', o) → play w (take (suc k) ss) ≡ (w', os ++ o ∷ [])
+next_played w ss k now os s w' o before at one = rw (play_more w ss k s at, before, one) refl
+
+pub commits_keeps : (b b' : BoardState) → IsHonest b → Commits b b' → IsHonest b'
+commits_keeps b b' honest c =
+    let fits = fits_at b.steps b.held (length b.outcomes) c.step c.held honest.held c.step_is c.held_is in
+    let one = committed_plays b.world c.step c.held c.world c.outcome c.mark honest.sound fits c.committed in
+    let within = slice_get_within b.steps (length b.outcomes) c.step c.step_is in
+    let more : length (b.outcomes ++ c.outcome ∷ []) ≡ suc (length b.outcomes) = omega (arith, length-append b.outcomes (c.outcome ∷ [])) in
+    let after : IsSound (play1 b.world.plain c.step).0 = play1_sound b.world.plain c.step honest.sound (range_at b.steps (length b.outcomes) c.step honest.in_range c.step_is) in
+    let next : IsHonest (with_commit b c.world c.outcome c.mark) = record {
+      sound = subst IsSound (ap (λ (p : World × Outcome). p.0) one) after;
+      numbers = honest.numbers;
+      in_range = honest.in_range;
+      count = omega arith;
+      marks = omega (arith, length-append b.marks (c.mark ∷ []), honest.marks);
+      played = rw more (next_played b.base.plain b.steps (length b.outcomes) b.world.plain b.outcomes c.step c.world.plain c.outcome honest.played c.step_is one);
+      held = fits_any b.steps b.held (length b.outcomes) Empty (λ s. tt) honest.held;
+      views = views_more b.world c.step c.held c.world c.outcome c.mark b.marks b.base.opened c.committed honest.views;
+    } in
+    subst IsHonest (sym c.after) next
+
+pub advances_keep : (k : ℕ) (b b' : BoardState) → IsHonest b → Advances k b b' → IsHonest b'
+advances_keep zero b b' honest a = subst IsHonest (sym a) honest
+advances_keep (suc k) b b' honest a = commits_keeps a.0 b' (advances_keep k b a.0 honest a.1) a.2
+
+-- ---- nothing is committed
+
+pub undone_keeps : (b : BoardState) (w : Counted) → IsHonest b → IsUndone b.world w → IsHonest (record b { world = w })
+undone_keeps b w honest u = record {
+  sound = subst IsSound (sym u.0) honest.sound;
+  numbers = honest.numbers;
+  in_range = honest.in_range;
+  count = honest.count;
+  marks = honest.marks;
+  played = honest.played ∙ ap (λ (p : World). (p, b.outcomes)) (sym u.0);
+  held = honest.held;
+  views = elim u.1 [ inl a ↦ omega (arith, a, honest.views) | inr a ↦ omega (arith, a, honest.views) ];
+}
+
+pub stays_keep : (b b' : BoardState) → IsHonest b → StaysPut b b' → IsHonest b'
+stays_keep b b' honest s = subst IsHonest (sym s.2) (undone_keeps b s.0 honest s.1)
+
+pub part_keeps : (b b' : BoardState) → IsHonest b → AdvancesInPart b b' → IsHonest b'
+part_keeps b b' honest p = stays_keep p.2.0 b' (advances_keep p.0 b p.2.0 honest p.2.1) p.2.2
+
+-- ---- a position takes something
+
+-- what fits its step
+pub holding_keeps : (b : BoardState) (i : ℕ) (s : Step) (h : Held) → IsHonest b → slice_get b.steps i ≡ Some s → FitsStep s h → IsHonest (with_held b i h)
+holding_keeps b i s h honest at fits = record {
+  sound = honest.sound;
+  numbers = honest.numbers;
+  in_range = honest.in_range;
+  count = honest.count;
+  marks = honest.marks;
+  played = honest.played;
+  held = fits_set b.steps b.held i s h honest.held at fits;
+  views = honest.views;
+}
+
+-- a loss
+pub lose_keeps : (b : BoardState) (i : ℕ) → IsHonest b → IsHonest (with_held b i Loss)
+lose_keeps b i honest = record {
+  sound = honest.sound;
+  numbers = honest.numbers;
+  in_range = honest.in_range;
+  count = honest.count;
+  marks = honest.marks;
+  played = honest.played;
+  held = fits_any b.steps b.held i Loss (λ s. tt) honest.held;
+  views = honest.views;
+}
+
+pub opened_honest : (base : Counted) (ss : List Step) → IsSound base.plain → RunsOn base.plain ss → AllInRange ss → IsHonest (opened_on base ss)
+unfolding play
+opened_honest base ss sound runs range = record {
+  sound = sound;
+  numbers = runs;
+  in_range = range;
+  count = omega arith;
+  marks = refl;
+  played = refl;
+  held = fits_empty ss;
+  views = omega arith;
+}
+
+-- ---- nothing happened
+
+pub stays_same : (b b' : BoardState) → b' ≡ b → StaysPut b b'
+stays_same b b' e = (b.world, (refl, inl refl), e)
+
+pub stays_at : (b : BoardState) (w : Counted) (os : List Outcome) (ms : List Mark) (hs : List Held)
+    → IsUndone b.world w → os ≡ b.outcomes → ms ≡ b.marks → hs ≡ b.held
+    → StaysPut b record { base = b.base; steps = b.steps; world = w; outcomes = os; marks = ms; held = hs }
+stays_at b w os ms hs u a c d = (w, u, rw (a, c, d) refl)
+
+-- ---- what an advance counts
+
+-- what was ready before a commit is one more than what is ready after it
+pub commits_ready : (b b' : BoardState) → Commits b b' → ready (rest b) ≡ suc (ready (rest b'))
+commits_ready b b' c =
+    let more : length (b.outcomes ++ c.outcome ∷ []) ≡ suc (length b.outcomes) = omega (arith, length-append b.outcomes (c.outcome ∷ [])) in
+    let P : BoardState → Type 0 = λ x. ready (rest b) ≡ suc (ready (rest x)) in
+    subst P (sym c.after) (rw more (ready_more b.held (length b.outcomes) c.held Empty c.held_is (holds_something b.world c.step c.held c.world c.outcome c.mark c.committed)))
+
+pub commits_count : (b b' : BoardState) → Commits b b' → length b'.outcomes ≡ suc (length b.outcomes)
+commits_count b b' c = omega (arith, length-append b.outcomes (c.outcome ∷ []), ap (λ (x : BoardState). length x.outcomes) c.after)
+
+-- an advance keeps the base and the steps, and counts what it commits
+pub advances_same : (k : ℕ) (b b' : BoardState) → Advances k b b' → (b'.base ≡ b.base) × (b'.steps ≡ b.steps) × (length b'.outcomes ≡ k + length b.outcomes)
+advances_same zero b b' a = (ap (λ (x : BoardState). x.base) a, ap (λ (x : BoardState). x.steps) a, omega (arith, ap (λ (x : BoardState). length x.outcomes) a))
+advances_same (suc k) b b' a =
+    let m : BoardState = a.0 in
+    let r = advances_same k b m a.1 in
+    let c = a.2 in
+    (ap (λ (x : BoardState). x.base) c.after ∙ r.0, ap (λ (x : BoardState). x.steps) c.after ∙ r.1, omega (arith, commits_count m b' c, r.2))
+
+-- where each later position holds something, an advance ends the list
+pub advances_all : (b b' : BoardState) (k : ℕ) → IsHonest b → AllHeld (rest b) → k ≡ ready (rest b) → Advances k b b' → length b'.outcomes ≡ length b.steps
+advances_all b b' k honest all is a =
+    let s = advances_same k b b' a in
+    let n = fits_length b.steps b.held honest.held in
+    let r = ready_all (rest b) all in
+    omega (arith, length-drop (length b.outcomes) b.held, honest.count, s.2)
+
+-- an honest board at the end of its list is the whole play
+pub ended_plays : (b : BoardState) → IsHonest b → length b.outcomes ≡ length b.steps → play b.base.plain b.steps ≡ (b.world.plain, b.outcomes)
+ended_plays b honest end =
+    let e : take (length b.outcomes) b.steps ≡ b.steps = take_all (length b.outcomes) b.steps (omega arith) in
+    rw e at honest.played
+
+-- ---- the next commit, by its parts
+
+pub commit_at : (b : BoardState) (at : ℕ) (s : Step) (h : Held) (w : Counted) (o : Outcome) (m : Mark) (os : List Outcome) (ms : List Mark) (hs : List Held)
+    → at ≡ length b.outcomes → slice_get b.steps at ≡ Some s → slice_get b.held at ≡ Some h → Committed b.world s h w o m
+    → os ≡ b.outcomes ++ o ∷ [] → ms ≡ b.marks ++ m ∷ [] → hs ≡ slice_set b.held at Empty
+    → Commits b record { base = b.base; steps = b.steps; world = w; outcomes = os; marks = ms; held = hs }
+commit_at b at s h w o m os ms hs here s_at h_at done os_is ms_is hs_is = record {
+  step = s;
+  held = h;
+  world = w;
+  outcome = o;
+  mark = m;
+  step_is = subst (λ (k : ℕ). slice_get b.steps k ≡ Some s) here s_at;
+  held_is = subst (λ (k : ℕ). slice_get b.held k ≡ Some h) here h_at;
+  committed = done;
+  after = rw (os_is, ms_is, hs_is, here) refl;
+}

@@ -1,0 +1,7 @@
+pub mod Changed
+pub mod Honest
+pub mod Places
+pub mod Plays
+pub mod Recorded
+pub mod Rests
+pub mod Seen

@@ -1,0 +1,62 @@
+-- A board as plain data, and when it is honest.
+use Rattle.std.specs.Prelude.{◌≡◌, ℕ, suc, ◌+◌, ◌≤◌, List, [], ◌∷◌, length, take, replicate, Some, slice_get, slice_set}
+use Rattle.moo_spec.specs.Step.{Step, Outcome, RunsOn, AllInRange, play}
+use Rattle.world.specs.Counted.{Counted}
+use Rattle.world.specs.Sound.{IsSound}
+use Rattle.speculate.specs.Right.{IsRight}
+use Rattle.speculate.specs.declared.held.Held.{Held}
+use Rattle.speculate.specs.declared.held.Held.TheVariants.{Empty, Loss, Holds}
+use Rattle.speculate.specs.declared.held.Mark.{Mark}
+use Rattle.speculate.specs.declared.held.Mark.TheVariants.{Kept, Rerun, Lost}
+
+-- The world that it began with and its steps; the world, the outcomes and the marks of the steps that are committed; and what
+-- each position holds. A world comes with the number of the views that were opened on it to change it.
+pub record BoardState : Type 0 where
+  pub base : Counted
+  pub steps : List Step
+  pub world : Counted
+  pub outcomes : List Outcome
+  pub marks : List Mark
+  pub held : List Held
+
+-- a position holds nothing, a loss, or a right guess for its very step
+abbrev pub FitsStep : Step → Held → Type 0
+FitsStep s Empty = Unit {0}
+FitsStep s Loss = Unit {0}
+FitsStep s (Holds g) = (g.step ≡ s) × IsRight g
+
+abbrev pub EachFits : List Step → List Held → Type 0
+EachFits [] [] = Unit {0}
+EachFits [] (h ∷ hs) = ⊥
+EachFits (s ∷ ss) [] = ⊥
+EachFits (s ∷ ss) (h ∷ hs) = FitsStep s h × EachFits ss hs
+
+-- how many steps were run on the world itself
+abbrev pub runs : List Mark → ℕ
+runs [] = 0
+runs (Kept ∷ ms) = runs ms
+runs (Rerun ∷ ms) = suc (runs ms)
+runs (Lost ∷ ms) = suc (runs ms)
+
+-- What is committed is the play of the base over as many steps, each position holds what fits its step, and a view was opened
+-- on the world for each step that was run there; views beyond those were undone for want of memory.
+pub record IsHonest (b : BoardState) : Type 0 where
+  pub sound : IsSound b.world.plain
+  pub numbers : RunsOn b.base.plain b.steps
+  pub in_range : AllInRange b.steps
+  pub count : length b.outcomes ≤ length b.steps
+  pub marks : length b.marks ≡ length b.outcomes
+  pub played : play b.base.plain (take (length b.outcomes) b.steps) ≡ (b.world.plain, b.outcomes)
+  pub held : EachFits b.steps b.held
+  pub views : b.base.opened + runs b.marks ≤ b.world.opened
+
+-- a board with nothing committed and nothing held
+abbrev pub opened_on : Counted → List Step → BoardState
+opened_on base steps = record { base = base; steps = steps; world = base; outcomes = []; marks = []; held = replicate (length steps) Empty }
+
+-- the position is not committed yet and holds nothing
+abbrev pub IsFree : BoardState → ℕ → Type 0
+IsFree b i = (length b.outcomes ≤ i) × (slice_get b.held i ≡ Some Empty)
+
+abbrev pub with_held : BoardState → ℕ → Held → BoardState
+with_held b i h = record b { held = slice_set b.held i h }

@@ -1,0 +1,4 @@
+pub mod BoardCode
+pub mod BoardState
+pub mod Progress
+pub mod Right

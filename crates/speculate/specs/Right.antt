@@ -1,0 +1,29 @@
+-- What a guess says of a step, and when it is right.
+use Rattle.std.specs.Prelude.{◌≡◌, suc, max, List, refl}
+use Rattle.std.specs.Coded.{Coded, code_by, coded×, coded_list}
+use Rattle.moo_spec.specs.World.{World}
+use Rattle.moo_spec.specs.Questions.{Read, Change, Agrees, apply_all}
+use Rattle.moo_spec.specs.Step.{Step, Outcome, play1}
+use Rattle.moo_spec.specs.StepCode.{step_code, outcome_code}
+use Rattle.footprint.specs.QuestionCode.{read_code, change_code}
+use Rattle.world.specs.Sound.{IsSound}
+
+-- a step, what it read, what it is to change, and its outcome
+pub record Guessed : Type 0 where
+  pub step : Step
+  pub reads : List Read
+  pub changes : List Change
+  pub outcome : Outcome
+
+-- the world with the changes; its next number is greater than the step's
+abbrev pub after_guess : Guessed → World → World
+after_guess g w = record (apply_all g.changes w) { next = max (suc g.step.number) w.next }
+
+-- in every sound world that gives the answers that were read, the step does what the guess says
+abbrev pub IsRight : Guessed → Type 0
+IsRight g = (w : World) → IsSound w → Agrees w g.reads → play1 w g.step ≡ (after_guess g w, g.outcome)
+
+abbrev pub guessed_code : Coded Guessed
+guessed_code =
+    code_by (Step × (List Read × (List Change × Outcome))) (coded× step_code (coded× (coded_list read_code) (coded× (coded_list change_code) outcome_code)))
+    (λ g. (g.step, (g.reads, (g.changes, g.outcome)))) (λ p. record { step = p.0; reads = p.1.0; changes = p.1.1.0; outcome = p.1.1.1 }) (λ _. refl)

@@ -1,0 +1,307 @@
+//! The board of a list: one world, and what each position that is not committed yet holds.
+ghost use Rattle.std.specs.Prelude.{◌≡◌, ◌≤◌, ◌<◌, ◌↔◌, ◌⊎◌, ◌≢◌, [], true, false, IsTrue, IsErrOf, IfOk, IfErr, OnOk, OnErr, length, replicate, Some, slice_get};
+ghost use Rattle.moo_spec.specs.Step.{RunsOn, AllInRange};
+ghost use Rattle.speculate.specs.BoardState.{IsHonest, IsFree, opened_on, with_held};
+ghost use Rattle.speculate.specs.Progress.{Commits, Advances, AdvancesInPart, IsNextHeld, StaysPut, SameRun, ready, rest, AllHeld};
+
+use crate::commit::commit;
+use crate::guesses::Guess;
+use crate::held::{Held, Mark, put_back, take_out};
+use crate::list::Report;
+use std::alloc::{AllocError, Global};
+use std::marker::Model;
+use std::snapshot::Snapshot as Remembered;
+use task_run::partial::Refusal;
+use task_step::list::may_play;
+use task_step::outcome::Outcome;
+use task_step::step::Step;
+use world::worlds::{Snapshot, World};
+
+/// A list of steps under way. The steps are committed in their order: what is committed is what they do one after another.
+#[derive(Drop)]
+pub struct Board {
+    base: Remembered<World>,
+    steps: Vec<Step>,
+    world: World,
+    outcomes: Vec<Outcome>,
+    marks: Vec<Mark>,
+    held: Vec<Held>,
+}
+
+impl Model for Board {
+    ghost use Rattle.speculate.specs.BoardState.{BoardState, IsHonest};
+    ghost use Rattle.speculate.specs.BoardCode.{board_code};
+
+    ghost Value = { BoardState };
+
+    ghost coded = { board_code };
+
+    ghost view = { λ b. record { base = b.base.value; steps = b.steps.items; world = b.world; outcomes = b.outcomes.items; marks = b.marks.items; held = b.held.items } };
+
+    ghost invariant = { λ b. IsHonest record { base = b.base.value; steps = b.steps.items; world = b.world; outcomes = b.outcomes.items; marks = b.marks.items; held = b.held.items } };
+}
+
+/// Why a guess or a loss was refused.
+#[derive(Clone, Copy, PartialEq, Eq, Debug)]
+pub enum Refused {
+    /// The list has no such position.
+    Position,
+    /// The position is committed, or holds a guess or a loss.
+    Taken,
+    /// The guess is for another step.
+    Step,
+}
+
+impl Board {
+    /// A board with nothing committed and nothing held. Refused are, in this order, steps whose numbers do not run on from the world's next
+    /// one or that are out of range, and want of memory; the world is handed back as it was.
+    pub fn new(alloc: Global, world: World, steps: Vec<Step>) -> Result<Board, (Refusal, World)>
+        ensures ok { IfOk result (λ b. b ≡ opened_on world steps.items) }
+        ensures err { IfErr result (λ e. e.1 ≡ world) }
+        ensures right { IfOk result (λ b. RunsOn world.plain steps.items × AllInRange steps.items) }
+        ensures numbers { IfErr result (λ e. e.0 ≡ Refusal.Numbers ↔ ¬ (RunsOn world.plain steps.items × AllInRange steps.items)) }
+        ensures memory { IfErr result (λ e. e.0 ≢ Refusal.Workers) }
+    {
+        world.know();
+        if !may_play(world.next(), steps.as_slice()) {
+            return Err((Refusal::Numbers, world));
+        }
+        match places(alloc, steps.len()) {
+            Ok((outcomes, marks, held)) => Ok(Board {
+                base: Remembered::of(&world),
+                steps,
+                world,
+                outcomes,
+                marks,
+                held,
+            }),
+            Err(_) => Err((Refusal::Memory, world)),
+        }
+    }
+
+    /// The world after the steps that are committed.
+    pub fn snapshot(&self) -> Result<Snapshot, AllocError>
+        ensures { IfOk result (λ s. s ≡ self.now.world.plain) }
+    {
+        self.world.snapshot()
+    }
+
+    /// How many steps are committed.
+    pub fn count(&self) -> usize
+        ensures count { result ≡ length self.now.outcomes }
+        ensures honest { IsHonest self.now }
+    {
+        self.outcomes.len()
+    }
+
+    // Whether a position is not committed yet and holds nothing.
+    fn is_free(&self, position: usize) -> bool
+        ensures { IsTrue result ↔ IsFree self.now position }
+    {
+        if position < self.outcomes.len() {
+            return false;
+        }
+        match self.held.get(position) {
+            Some(held) => held.is_empty(),
+            None => false,
+        }
+    }
+
+    // Whether a guess is for the step at a position.
+    fn is_for(&self, position: usize, guess: &Guess) -> bool
+        ensures { IsTrue result ↔ slice_get self.now.steps position ≡ Some guess.now.step }
+    {
+        match self.steps.get(position) {
+            Some(step) => guess.is_for(step),
+            None => false,
+        }
+    }
+
+    /// A guess for the step at a position that holds nothing yet. A refused one is handed back, and the board is as it was.
+    pub fn post(&mut self, position: usize, guess: Guess) -> Result<(), (Refused, Guess)>
+        ensures ok { OnOk result (IsFree self.old position × (slice_get self.old.steps position ≡ Some guess.step) × (self.new ≡ with_held self.old position (Held.Holds guess))) }
+        ensures err { IfErr result (λ e. (self.new ≡ self.old) × (e.1 ≡ guess)) }
+        ensures position { IfErr result (λ e. e.0 ≡ Refused.Position ↔ length self.old.steps ≤ position) }
+        ensures taken { IfErr result (λ e. e.0 ≡ Refused.Taken → ¬ IsFree self.old position) }
+        ensures step { IfErr result (λ e. e.0 ≡ Refused.Step → IsFree self.old position × (¬ (slice_get self.old.steps position ≡ Some guess.step))) }
+    {
+        if position >= self.steps.len() {
+            return Err((Refused::Position, guess));
+        }
+        if !self.is_free(position) {
+            return Err((Refused::Taken, guess));
+        }
+        if !self.is_for(position, &guess) {
+            return Err((Refused::Step, guess));
+        }
+        guess.know();
+        self.held[position] = Held::Holds(guess);
+        Ok(())
+    }
+
+    /// No guess comes for a position that holds nothing yet. Where it is refused, the board is as it was.
+    pub fn lose(&mut self, position: usize) -> Result<(), Refused>
+        ensures ok { OnOk result (IsFree self.old position × (self.new ≡ with_held self.old position Held.Loss)) }
+        ensures err { OnErr result (self.new ≡ self.old) }
+        ensures position { IsErrOf result Refused.Position ↔ length self.old.steps ≤ position }
+        ensures taken { IsErrOf result Refused.Taken → (position < length self.old.steps) × (¬ IsFree self.old position) }
+        ensures step { ¬ IsErrOf result Refused.Step }
+        ensures after { ¬ IsFree self.new position }
+    {
+        if position >= self.steps.len() {
+            return Err(Refused::Position);
+        }
+        if !self.is_free(position) {
+            return Err(Refused::Taken);
+        }
+        self.held[position] = Held::Loss;
+        Ok(())
+    }
+
+    // Whether the next position holds something.
+    #[tactic(auto, using(crate::proofs::Places::ready_past_end, crate::proofs::Places::ready_empty))]
+    fn is_next_held(&self) -> bool
+        ensures no { result ≡ false → ready (rest self.now) ≡ 0 }
+        ensures yes { result ≡ true → IsNextHeld self.now }
+    {
+        match self.held.get(self.outcomes.len()) {
+            Some(held) => !held.is_empty(),
+            None => false,
+        }
+    }
+
+    // Commits the next position, which holds something.
+    fn commit_held(&mut self, alloc: Global) -> Result<(), AllocError>
+        requires { IsNextHeld self.old }
+        ensures ok { OnOk result (Commits self.old self.new) }
+        ensures err { OnErr result (StaysPut self.old self.new) }
+    {
+        let at = self.outcomes.len();
+        if self.outcomes.reserve(1).is_err() {
+            return Err(AllocError);
+        }
+        if self.marks.reserve(1).is_err() {
+            return Err(AllocError);
+        }
+        let held = take_out(&mut self.held, at);
+        match commit(alloc, &mut self.world, held, &self.steps[at]) {
+            Ok((outcome, mark)) => {
+                self.outcomes.push_reserved(outcome);
+                self.marks.push_reserved(mark);
+                Ok(())
+            }
+            Err(held) => {
+                put_back(&mut self.held, at, held);
+                Err(AllocError)
+            }
+        }
+    }
+
+    // Commits the next position, if it holds something.
+    fn commit_next(&mut self, alloc: Global) -> Result<bool, AllocError>
+        ensures stuck { IfOk result (λ b. b ≡ false → (self.new ≡ self.old) × (ready (rest self.old) ≡ 0)) }
+        ensures done { IfOk result (λ b. b ≡ true → Commits self.old self.new) }
+        ensures err { OnErr result (StaysPut self.old self.new) }
+    {
+        if !self.is_next_held() {
+            return Ok(false);
+        }
+        match self.commit_held(alloc) {
+            Ok(()) => Ok(true),
+            Err(error) => Err(error),
+        }
+    }
+
+    /// Commits from the next position on, as far as each holds a guess or a loss, and answers how many. After want of memory what was
+    /// committed stands.
+    pub fn advance(&mut self, alloc: Global) -> Result<usize, AllocError>
+        ensures ok { IfOk result (λ k. (k ≡ ready (rest self.old)) × Advances k self.old self.new) }
+        ensures err { OnErr result (AdvancesInPart self.old self.new) }
+        ensures same { (self.new.base ≡ self.old.base) × (self.new.steps ≡ self.old.steps) }
+        ensures honest { IsHonest self.new }
+    {
+        let from = self.count();
+        'next: while self.commit_next(alloc)? {}
+        Ok(self.count() - from)
+    }
+
+    /// Posts a guess, or loses the position where there is none or it is refused.
+    pub(crate) fn settle(&mut self, position: usize, guess: Option<Guess>)
+        ensures { (self.new.base ≡ self.old.base) × (self.new.steps ≡ self.old.steps) }
+    {
+        let posted = match guess {
+            Some(guess) => self.post(position, guess).is_ok(),
+            None => false,
+        };
+        if !posted {
+            let _ = self.lose(position);
+        }
+    }
+
+    /// Loses each position that is not committed yet and holds nothing.
+    pub(crate) fn lose_rest(&mut self)
+        ensures same { SameRun self.old self.new }
+        ensures full { AllHeld (rest self.new) }
+        ensures honest { IsHonest self.new }
+    {
+        let from = self.count();
+        let end = self.steps.len();
+        'rest: for at in from..end {
+            self.fill(at);
+        }
+        let _ = self.count();
+    }
+
+    // Loses a position, if it is free.
+    fn fill(&mut self, at: usize)
+        ensures one { (self.new ≡ self.old) ⊎ (self.new ≡ with_held self.old at Held.Loss) }
+        ensures after { ¬ IsFree self.new at }
+    {
+        match self.lose(at) {
+            Ok(()) => {}
+            Err(_) => {}
+        }
+    }
+
+    /// The world, the outcomes and the marks of what is committed.
+    pub fn take(self) -> Report
+        ensures world { result.world ≡ self.world }
+        ensures outcomes { result.outcomes.items ≡ self.outcomes }
+        ensures marks { result.marks.items ≡ self.marks }
+    {
+        let Board {
+            base: _,
+            steps: _,
+            world,
+            outcomes,
+            marks,
+            held: _,
+        } = self;
+        Report {
+            world,
+            outcomes,
+            marks,
+        }
+    }
+}
+
+// Room for the outcomes and the marks, and the positions, which hold nothing.
+fn places(alloc: Global, count: usize) -> Result<(Vec<Outcome>, Vec<Mark>, Vec<Held>), AllocError>
+    ensures { IfOk result (λ r. (r.0.items ≡ []) × (r.1.items ≡ []) × (r.2.items ≡ replicate count Held.Empty)) }
+{
+    Ok((
+        Vec::with_capacity(alloc, count)?,
+        Vec::with_capacity(alloc, count)?,
+        empties(alloc, count)?,
+    ))
+}
+
+fn empties(alloc: Global, count: usize) -> Result<Vec<Held>, AllocError>
+    ensures { IfOk result (λ v. v.items ≡ replicate count Held.Empty) }
+{
+    let mut held = Vec::with_capacity(alloc, count)?;
+    for _ in 0..count {
+        held.push(Held::Empty)?;
+    }
+    Ok(held)
+}

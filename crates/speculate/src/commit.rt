@@ -1,0 +1,70 @@
+//! The commit of one position.
+ghost use Rattle.std.specs.Prelude.{◌≡◌, ◌≢◌, IsTrue, IfOk, IfErr};
+ghost use Rattle.moo_spec.specs.Step.{in_range};
+ghost use Rattle.speculate.specs.BoardState.{FitsStep};
+ghost use Rattle.speculate.specs.Right.{after_guess};
+ghost use Rattle.speculate.specs.Progress.{Ran, Committed, IsUndone};
+
+use crate::guesses::Guess;
+use crate::held::{Held, Mark};
+use std::alloc::Global;
+use task_run::list::play_step;
+use task_step::outcome::Outcome;
+use task_step::step::Step;
+use world::worlds::World;
+
+/// Commits a step on the world, as its position says. After want of memory the world is as it was, and what was held is given back.
+pub(crate) fn commit(
+    alloc: Global,
+    world: &mut World,
+    held: Held,
+    step: &Step,
+) -> Result<(Outcome, Mark), Held>
+    requires range { IsTrue (in_range step.now) }
+    requires fits { FitsStep step.now held }
+    requires some { held ≢ Held.Empty }
+    ensures ok { IfOk result (λ r. Committed world.old step.now held world.new r.0 r.1) }
+    ensures err { IfErr result (λ h. (h ≡ held) × IsUndone world.old world.new) }
+{
+    match held {
+        Held::Empty => unreachable!(),
+        Held::Loss => run(alloc, world, Held::Loss, step, Mark::Lost),
+        Held::Holds(guess) => {
+            if guess.agrees(world) {
+                keep(world, guess)
+            } else {
+                run(alloc, world, Held::Holds(guess), step, Mark::Rerun)
+            }
+        }
+    }
+}
+
+// A guess that agrees is kept.
+fn keep(world: &mut World, guess: Guess) -> Result<(Outcome, Mark), Held>
+    requires { IsTrue (in_range guess.step) }
+    ensures ok { IfOk result (λ r. (world.new ≡ record { plain = after_guess guess world.old.plain; opened = world.old.opened }) × (r.0 ≡ guess.outcome) × (r.1 ≡ Mark.Kept)) }
+    ensures err { IfErr result (λ h. (h ≡ Held.Holds guess) × (world.new ≡ world.old)) }
+{
+    match guess.keep(world) {
+        Ok(outcome) => Ok((outcome, Mark::Kept)),
+        Err(guess) => Err(Held::Holds(guess)),
+    }
+}
+
+// The step is run on the world.
+fn run(
+    alloc: Global,
+    world: &mut World,
+    held: Held,
+    step: &Step,
+    mark: Mark,
+) -> Result<(Outcome, Mark), Held>
+    requires { IsTrue (in_range step.now) }
+    ensures ok { IfOk result (λ r. Ran world.old step.now world.new r.0 × (r.1 ≡ mark)) }
+    ensures err { IfErr result (λ h. (h ≡ held) × IsUndone world.old world.new) }
+{
+    match play_step(alloc, world, step) {
+        Ok(outcome) => Ok((outcome, mark)),
+        Err(_) => Err(held),
+    }
+}

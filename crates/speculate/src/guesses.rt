@@ -1,0 +1,78 @@
+//! Guesses.
+ghost use Rattle.std.specs.Prelude.{◌≡◌, ◌↔◌, IsTrue, IfOk, IfErr};
+ghost use Rattle.moo_spec.specs.Questions.{Agrees};
+ghost use Rattle.moo_spec.specs.Step.{in_range};
+ghost use Rattle.speculate.specs.Right.{IsRight, after_guess};
+
+use crate::steps::is_same;
+use footprint::reads::{Changes, Reads};
+use std::marker::Model;
+use task_step::outcome::Outcome;
+use task_step::step::Step;
+use world::worlds::World;
+
+/// What a step reads, changes and answers, found on a snapshot. It is so on each world that gives the answers that were read.
+#[derive(Drop)]
+pub struct Guess {
+    pub(crate) step: Step,
+    pub(crate) reads: Reads,
+    pub(crate) changes: Changes,
+    pub(crate) outcome: Outcome,
+}
+
+impl Model for Guess {
+    ghost use Rattle.speculate.specs.Right.{Guessed, guessed_code, IsRight};
+
+    ghost Value = { Guessed };
+
+    ghost coded = { guessed_code };
+
+    ghost view = { λ g. record { step = g.step; reads = g.reads; changes = g.changes; outcome = g.outcome } };
+
+    ghost invariant = { λ g. IsRight record { step = g.step; reads = g.reads; changes = g.changes; outcome = g.outcome } };
+}
+
+impl Guess {
+    /// A guess is right.
+    pub fn know(&self)
+        ensures { IsRight self.now }
+    {
+        let _step = &self.step;
+    }
+
+    /// Whether it is a guess for this step.
+    pub fn is_for(&self, step: &Step) -> bool
+        ensures { IsTrue result ↔ self.now.step ≡ step.now }
+    {
+        is_same(&self.step, step)
+    }
+
+    /// Whether the world gives the answers that were read.
+    pub fn agrees(&self, world: &World) -> bool
+        ensures { IsTrue result ↔ Agrees world.now.plain self.now.reads }
+    {
+        world.agrees(&self.reads)
+    }
+
+    /// The world has the changes, and the guess's outcome is the step's. After want of memory nothing has changed.
+    #[tactic(auto, using(crate::proofs::Changed::sound_changes, crate::proofs::Changed::next_stays))]
+    pub fn keep(self, world: &mut World) -> Result<Outcome, Guess>
+        requires { IsTrue (in_range self.step) }
+        ensures ok { IfOk result (λ o. (world.new ≡ record { plain = after_guess self world.old.plain; opened = world.old.opened }) × (o ≡ self.outcome)) }
+        ensures err { IfErr result (λ g. (g ≡ self) × (world.new ≡ world.old)) }
+    {
+        world.know();
+        let Ok(draft) = world.prepare(&self.changes) else {
+            return Err(self);
+        };
+        let Guess {
+            step,
+            reads: _,
+            changes: _,
+            outcome,
+        } = self;
+        world.commit(draft);
+        world.raise(u64::from(step.number));
+        Ok(outcome)
+    }
+}

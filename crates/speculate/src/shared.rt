@@ -1,0 +1,85 @@
+//! The board of one list, under a lock.
+ghost use Rattle.std.specs.Prelude.{◌≡◌};
+ghost use Rattle.std.specs.Coded.{Coded-set, coded_list};
+ghost use Rattle.moo_spec.specs.StepCode.{step_code};
+ghost use Rattle.world.specs.Counted.{counted_code};
+
+use crate::board::Board;
+use crate::guesses::Guess;
+use std::alloc::{AllocError, Global};
+use std::marker::{Brand, PhantomData};
+use std::sync::{Mutex, Wait};
+use world::worlds::Snapshot;
+
+/// Which list is played: the world that it began with, and its steps. Each call that plays one picks it.
+pub trait Run: Send + Sync {
+    ghost use Rattle.std.specs.Prelude.{List};
+    ghost use Rattle.moo_spec.specs.Step.{Step as Meant};
+    ghost use Rattle.world.specs.Counted.{Counted};
+
+    ghost base: { Counted };
+
+    ghost steps: { List Meant };
+}
+
+impl Run for Brand {
+    ghost use Rattle.std.specs.Prelude.{[], negsuc, false};
+
+    ghost base = { record { plain = record { objects = []; tasks = []; links = []; greatest = negsuc 0; next = 1; ending = false }; opened = 0 } };
+
+    ghost steps = { [] };
+}
+
+// A board of the list `J`.
+#[derive(Drop)]
+struct Tied<J: Run> {
+    board: Board,
+    of: PhantomData<J>,
+    ghost base_is: { board.base ≡ J.base } by { Coded-set counted_code _ _ },
+    ghost steps_are: { board.steps ≡ J.steps } by { Coded-set (coded_list step_code) _ _ },
+}
+
+/// The board of the list `J`, for several workers. Whenever it is got it is honest, and of this list.
+#[derive(Drop)]
+pub struct SharedBoard<J: Run> {
+    board: Mutex<Tied<J>>,
+}
+
+impl<J: Run> SharedBoard<J> {
+    /// Puts the board of the list under a lock.
+    pub fn new(board: Board) -> SharedBoard<J>
+        requires base { board.base ≡ J.base }
+        requires steps { board.steps ≡ J.steps }
+    {
+        SharedBoard {
+            board: Mutex::new(Tied {
+                board,
+                of: PhantomData,
+            }),
+        }
+    }
+
+    /// The world after the steps that are committed.
+    pub fn snapshot<R: Wait>(&self, rt: &R) -> Result<Snapshot, AllocError> {
+        self.board.lock(rt).board.snapshot()
+    }
+
+    /// Posts a guess, or loses the position where there is none or it is refused.
+    pub fn settle<R: Wait>(&self, rt: &R, position: usize, guess: Option<Guess>) {
+        self.board.lock(rt).board.settle(position, guess);
+    }
+
+    /// Commits from the next position on, as far as each holds a guess or a loss, and answers how many.
+    pub fn advance<R: Wait>(&self, rt: &R, alloc: Global) -> Result<usize, AllocError> {
+        self.board.lock(rt).board.advance(alloc)
+    }
+
+    /// The board, when no worker has it any more.
+    pub fn into_board(self) -> Board
+        ensures base { result.base ≡ J.base }
+        ensures steps { result.steps ≡ J.steps }
+    {
+        let SharedBoard { board } = self;
+        board.into_inner().board
+    }
+}

@@ -1,0 +1,43 @@
+-- A step on a world, and steps one after another.
+use Rattle.std.proofs.Common.{◌≡◌, ℕ, suc, ◌+◌, ◌<◌, ◌≤◌, List, [], ◌∷◌, ◌++◌, length, get_or, take, sym, ap, ◌∙◌, arith, add-one}
+use Rattle.std.specs.Prelude.{max}
+use Rattle.std.proofs.Math.Seq.{take-suc, take-length}
+use Rattle.moo_spec.specs.World.{World}
+use Rattle.moo_spec.specs.Step.{Step, Outcome, play1, play}
+use Rattle.moo_spec.proofs.Steps.{play_goes_on}
+use Rattle.task_run.specs.Performed.{performed, StepsTo}
+use Rattle.task_run.proofs.SoundSteps.{next_performed}
+
+-- a step is what it does, and then its number
+pub played_once : (w u v : World) (s : Step) (n : ℕ) (o : Outcome)
+    → StepsTo (performed w s) u o → v ≡ record u { next = max (n + 1) u.next } → n ≡ s.number → play1 w s ≡ (v, o)
+unfolding play1
+played_once w u v s n o h raised same =
+    let performs : play1 w s ≡ (record u { next = max (suc s.number) w.next }, o) = λ i. (record (sym h.0 i) { next = max (suc s.number) w.next }, h.1 i) in
+    let stays : u.next ≡ w.next = ap (λ (x : World). x.next) h.0 ∙ next_performed w s in
+    let number : max (n + 1) u.next ≡ max (suc s.number) w.next = omega arith in
+    performs ∙ ap (λ (x : World). (x, o)) (ap (λ m. record u { next = m }) (sym number) ∙ sym raised)
+
+-- one step more
+pub played_more : (w u v : World) (ss : List Step) (i : ℕ) (d : Step) (os : List Outcome) (o : Outcome)
+    → i < length ss → play w (take i ss) ≡ (u, os) → play1 u (get_or ss i d) ≡ (v, o) → play w (take (i + 1) ss) ≡ (v, os ++ o ∷ [])
+unfolding play
+played_more w u v ss i d os o l h k =
+    let s = get_or ss i d in
+    let rest : World × Outcome → World × List Outcome = λ p. (p.0, os ++ p.1 ∷ []) in
+    let more : World × List Outcome → World × List Outcome = λ r. ((play r.0 (s ∷ [])).0, r.1 ++ (play r.0 (s ∷ [])).1) in
+    rw add-one (ap (play w) (take-suc ss i d l) ∙ play_goes_on w (take i ss) (s ∷ []) ∙ ap more h ∙ ap rest k)
+
+-- no step yet
+pub none_played : (w u : World) (ss : List Step) (n : ℕ) (os : List Outcome) → n ≡ 0 → u ≡ w → os ≡ [] → (play w (take n ss) ≡ (u, os)) × (n ≤ length ss)
+unfolding play
+none_played w u ss n os zero_steps same none_given = (ap (λ k. play w (take k ss)) zero_steps ∙ (λ i. (sym same i, sym none_given i)), omega arith)
+
+-- the first part
+pub first_played : (w u v : World) (ss : List Step) (i n : ℕ) (os : List Outcome)
+    → play w (take i ss) ≡ (u, os) → n ≡ i → v ≡ u → i ≤ length ss → (play w (take n ss) ≡ (v, os)) × (n ≤ length ss)
+first_played w u v ss i n os h count same l = (ap (λ k. play w (take k ss)) count ∙ h ∙ ap (λ (x : World). (x, os)) (sym same), omega arith)
+
+-- the whole
+pub all_played : (w u : World) (ss : List Step) (i : ℕ) (os : List Outcome) → play w (take i ss) ≡ (u, os) → i ≡ length ss → play w ss ≡ (u, os)
+all_played w u ss i os h e = sym (ap (play w) (ap (λ k. take k ss) e ∙ take-length ss)) ∙ h

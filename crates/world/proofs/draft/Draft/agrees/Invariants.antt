@@ -1,0 +1,7 @@
+use Rattle.std.proofs.Common.{◌↔◌, map, drop}
+use Rattle.moo_spec.specs.Questions.{Agrees}
+use Rattle.footprint.specs.ReadMeaning.{read_of}
+use Rattle.world.proofs.draft.Draft.agrees.Given as goal
+
+abbrev pub invariant-loop-read : goal.invariant-loop-read
+invariant-loop-read l = Agrees l.self (map read_of (drop l.read-index l.read-items)) ↔ Agrees l.self (map read_of l.read-items)

@@ -1,0 +1,24 @@
+-- The fixture with more rooms, in each of which a player with a link is alone.
+use Rattle.std.specs.Prelude.{ℕ, zero, suc, ◌+◌, ◌*◌, ℤ, pos, [], ◌∷◌, true, None, codes}
+use Rattle.moo_spec.specs.Table.{with}
+use Rattle.moo_spec.specs.World.{World, Object, Link, with_object}
+use Rattle.moo_spec.specs.Commands.{nowhere}
+use Rattle.moo_spec.specs.Fixture.{plain_object, room, count_verb, fixture}
+
+-- a room that counts as that of the fixture, which has no parent and no other verb, with one player in it
+abbrev pub lone_room : ℤ → Object
+lone_room player = record (room (pos 0)) { parent = nowhere; contents = player ∷ []; verbs = count_verb ∷ [] }
+
+abbrev pub guest : ℤ → Object
+guest place = record (plain_object (codes "Guest")) { parent = nowhere; is_player = true; location = place }
+
+-- room 8 + 2n with player 9 + 2n and link 3 + n
+abbrev pub with_room : ℕ → World → World
+with_room n w = record (with_object (with_object w (pos (8 + 2 * n)) (lone_room (pos (9 + 2 * n)))) (pos (9 + 2 * n)) (guest (pos (8 + 2 * n)))) {
+  links = with w.links (pos (3 + n)) (record { person = pos (9 + 2 * n); programming = None });
+  greatest = pos (9 + 2 * n);
+}
+
+unfoldable pub with_rooms : ℕ → World → World
+with_rooms zero w = w
+with_rooms (suc n) w = with_room n (with_rooms n w)

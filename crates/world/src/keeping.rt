@@ -1,0 +1,10 @@
+//! Sound worlds stay sound.
+ghost use Rattle.std.specs.Prelude.{◌≡◌};
+ghost use Rattle.moo_spec.specs.World.{World};
+ghost use Rattle.moo_spec.specs.Questions.{Change, apply};
+ghost use Rattle.world.specs.Sound.{IsSound};
+
+/// A change leaves a sound world sound.
+pub fn changes()
+    ensures { (c : Change) (before after : World) → IsSound before → after ≡ apply c before → IsSound after }
+{}

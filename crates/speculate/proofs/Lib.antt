@@ -1,4 +1,5 @@
 pub mod Changed
+pub mod Crossing
 pub mod Honest
 pub mod Places
 pub mod Plays

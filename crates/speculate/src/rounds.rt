@@ -1,6 +1,7 @@
 //! A list in rounds, with the positions of a round shared out to several workers.
 ghost use Rattle.std.specs.Prelude.{◌≡◌, ◌≤◌, ◌<◌, ◌+◌, length, take, IfOk, IfErr};
 ghost use Rattle.moo_spec.specs.Step.{AllInRange, play};
+ghost use denote.Param.Send.{IsSend, IsSync};
 
 use crate::board::Board;
 use crate::finish::conclude;
@@ -10,12 +11,17 @@ use crate::list::Report;
 use crate::shared::{Run, SharedBoard};
 use std::alloc::Global;
 use std::sync::Wait;
+use std::thread;
+use std::thread::{Builder, Threads};
 use task_run::partial::{Partial, Refusal};
 use task_step::step::Step;
 use world::worlds::Snapshot;
 
 /// The most positions of a round.
 pub const LONGEST_ROUND: usize = 64;
+
+// The stack of a worker's thread, in bytes: what the deepest values need.
+const WORKER_STACK: usize = 64 * 1024 * 1024;
 
 /// Where the round that begins at `first` ends, in a list of so many steps.
 pub(crate) fn end_of_round(first: usize, count: usize) -> usize
@@ -30,7 +36,7 @@ pub(crate) fn end_of_round(first: usize, count: usize) -> usize
 }
 
 /// Plays the board of the list `J` to its end by several workers.
-pub(crate) fn play_in_rounds<J: Run, G: Gate, R: Wait>(
+pub(crate) fn play_in_rounds<J: Run, G: Gate, R: Threads + Wait + Sync>(
     rt: &R,
     alloc: Global,
     gate: &G,
@@ -53,7 +59,7 @@ pub(crate) fn play_in_rounds<J: Run, G: Gate, R: Wait>(
 }
 
 // Rounds on one snapshot each, every one followed by one advance. Want of memory ends them.
-fn rounds<J: Run, G: Gate, R: Wait>(
+fn rounds<J: Run, G: Gate, R: Threads + Wait + Sync>(
     rt: &R,
     alloc: Global,
     gate: &G,
@@ -80,9 +86,9 @@ fn rounds<J: Run, G: Gate, R: Wait>(
     }
 }
 
-// One round: worker i of k guesses the positions whose distance from the first has the remainder i by k. The caller's thread does the share
-// of every worker.
-fn round<J: Run, G: Gate, R: Wait>(
+// One round: worker i of k guesses the positions whose distance from the first has the remainder i by k, each on a thread of its own. The
+// caller's thread is the first worker, and does the share of each whose thread could not be started.
+fn round<J: Run, G: Gate, R: Threads + Wait + Sync>(
     rt: &R,
     alloc: Global,
     gate: &G,
@@ -97,22 +103,32 @@ fn round<J: Run, G: Gate, R: Wait>(
     requires workers { (0 < workers) × (workers ≤ 64) }
     requires end { (first ≤ end) × (end ≤ length steps.now) }
 {
-    for worker in 0..workers {
-        if worker >= end - first {
-            break;
-        }
-        work(
-            rt,
-            alloc,
-            gate,
-            shared,
-            snapshot,
-            steps,
-            first + worker,
-            end,
-            workers,
-        );
-    }
+    thread::scope(
+        thread::scope_env(),
+        rt,
+        |scope|
+            requires { IsSend J.row × IsSync G.row × IsSync R.row × AllInRange steps.now × (0 < workers) × (workers ≤ 64) × (first ≤ end) × (end ≤ length steps.now) }
+        {
+            for worker in 1..workers {
+                if worker >= end - first {
+                    break;
+                }
+                let from = first + worker;
+                let job = move ||
+                    requires { AllInRange steps.now × (0 < workers) × (end ≤ length steps.now) }
+                { work(rt, alloc, gate, shared, snapshot, steps, from, end, workers) };
+                let started = Builder::new()
+                    .stack_size(WORKER_STACK)
+                    .spawn_scoped(scope, job);
+                if started.is_err() {
+                    work(rt, alloc, gate, shared, snapshot, steps, from, end, workers);
+                }
+            }
+            work(
+                rt, alloc, gate, shared, snapshot, steps, first, end, workers,
+            );
+        },
+    );
 }
 
 // Guesses the positions from `first` on below `end`, each `by` further on, and posts or loses each.

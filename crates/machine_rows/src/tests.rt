@@ -817,7 +817,9 @@ fn result_on<V: View>(
 fn rows(rt: HostRuntime) -> Result<(), Fail> {
     let alloc = rt.alloc();
     for row in ROWS.iter() {
-        let tree = parse(alloc, row.program.as_bytes()).ok().ok_or("no program")?;
+        let tree = parse(alloc, row.program.as_bytes())
+            .ok()
+            .ok_or("no program")?;
         let program = Program::compile(alloc, tree)?;
         let expected = format!(in alloc; "{}, {}", row.result, row.used)?;
         let mut world = fixture(alloc)?;
@@ -825,7 +827,12 @@ fn rows(rt: HostRuntime) -> Result<(), Fail> {
         let snapshot = world.snapshot()?;
         let mut tracked = Tracked::over(alloc, &snapshot);
         let guessed = result_on(alloc, &mut tracked, row, program.clone()?)?;
-        assert_eq!(rt; guessed.as_str(), expected.as_str(), "guessed for {}", row.program);
+        assert_eq!(rt;
+            guessed.as_str(),
+            expected.as_str(),
+            "guessed for {}",
+            row.program
+        );
         let mut live = Live::open(&mut world);
         let result = result_on(alloc, &mut live, row, program)?;
         assert_eq!(rt; result.as_str(), expected.as_str(), "for {}", row.program);

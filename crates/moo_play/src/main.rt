@@ -5,7 +5,7 @@ mod files;
 mod run;
 
 use moo_server::play::stopped;
-use moo_server::stack::STACK_SIZE;
+use speculate::stack::STACK_SIZE;
 use std::process::ExitCode;
 use std::thread::Builder;
 

@@ -5,5 +5,4 @@ pub mod fixture;
 pub mod given;
 pub mod play;
 pub mod printing;
-pub mod stack;
 pub mod words;

@@ -16,6 +16,14 @@ fits_at (x ∷ ss) (y ∷ hs) zero s h fits a b =
     let Q : Held → Type 0 = λ z. FitsStep x z in subst P e (subst Q f fits.0)
 fits_at (x ∷ ss) (y ∷ hs) (suc k) s h fits a b = fits_at ss hs k s h fits.1 a b
 
+-- past the steps no position holds nothing, since there is none
+pub past_end_not_free : (ss : List Step) (hs : List Held) (k : ℕ) → EachFits ss hs → length ss ≤ k → slice_get hs k ≡ Some Empty → ⊥
+past_end_not_free [] [] k fits le free = cc
+past_end_not_free [] (y ∷ hs) k fits le free = absurd fits
+past_end_not_free (x ∷ ss) [] k fits le free = absurd fits
+past_end_not_free (x ∷ ss) (y ∷ hs) zero fits le free = absurd (omega arith)
+past_end_not_free (x ∷ ss) (y ∷ hs) (suc k) fits le free = past_end_not_free ss hs k fits.1 (omega arith) free
+
 pub fits_set : (ss : List Step) (hs : List Held) (k : ℕ) (s : Step) (h : Held) → EachFits ss hs → slice_get ss k ≡ Some s → FitsStep s h → EachFits ss (slice_set hs k h)
 fits_set [] hs k s h fits a new = cc
 fits_set (x ∷ ss) [] k s h fits a new = absurd fits

@@ -122,8 +122,8 @@ impl Board {
         ensures ok { OnOk result (IsFree self.old position × (slice_get self.old.steps position ≡ Some guess.step) × (self.new ≡ with_held self.old position (Held.Holds guess))) }
         ensures err { IfErr result (λ e. (self.new ≡ self.old) × (e.1 ≡ guess)) }
         ensures position { IfErr result (λ e. e.0 ≡ Refused.Position ↔ length self.old.steps ≤ position) }
-        ensures taken { IfErr result (λ e. e.0 ≡ Refused.Taken → ¬ IsFree self.old position) }
-        ensures step { IfErr result (λ e. e.0 ≡ Refused.Step → IsFree self.old position × (¬ (slice_get self.old.steps position ≡ Some guess.step))) }
+        ensures taken { IfErr result (λ e. e.0 ≡ Refused.Taken ↔ (position < length self.old.steps) × (¬ IsFree self.old position)) }
+        ensures step { IfErr result (λ e. e.0 ≡ Refused.Step ↔ IsFree self.old position × (¬ (slice_get self.old.steps position ≡ Some guess.step))) }
     {
         if position >= self.steps.len() {
             return Err((Refused::Position, guess));
@@ -144,7 +144,7 @@ impl Board {
         ensures ok { OnOk result (IsFree self.old position × (self.new ≡ with_held self.old position Held.Loss)) }
         ensures err { OnErr result (self.new ≡ self.old) }
         ensures position { IsErrOf result Refused.Position ↔ length self.old.steps ≤ position }
-        ensures taken { IsErrOf result Refused.Taken → (position < length self.old.steps) × (¬ IsFree self.old position) }
+        ensures taken { IsErrOf result Refused.Taken ↔ (position < length self.old.steps) × (¬ IsFree self.old position) }
         ensures step { ¬ IsErrOf result Refused.Step }
         ensures after { ¬ IsFree self.new position }
     {

@@ -12,4 +12,5 @@ mod here;
 pub mod list;
 mod rounds;
 pub mod shared;
+pub mod stack;
 mod steps;

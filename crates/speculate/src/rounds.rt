@@ -9,6 +9,7 @@ use crate::gate::Gate;
 use crate::here::guess_at;
 use crate::list::Report;
 use crate::shared::{Run, SharedBoard};
+use crate::stack::STACK_SIZE;
 use std::alloc::Global;
 use std::sync::Wait;
 use std::thread;
@@ -19,9 +20,6 @@ use world::worlds::Snapshot;
 
 /// The most positions of a round.
 pub const LONGEST_ROUND: usize = 64;
-
-// The stack of a worker's thread, in bytes: what the deepest values need.
-const WORKER_STACK: usize = 64 * 1024 * 1024;
 
 /// Where the round that begins at `first` ends, in a list of so many steps.
 pub(crate) fn end_of_round(first: usize, count: usize) -> usize
@@ -118,7 +116,7 @@ fn round<J: Run, G: Gate, R: Threads + Wait + Sync>(
                     requires { AllInRange steps.now × (0 < workers) × (end ≤ length steps.now) }
                 { work(rt, alloc, gate, shared, snapshot, steps, from, end, workers) };
                 let started = Builder::new()
-                    .stack_size(WORKER_STACK)
+                    .stack_size(STACK_SIZE)
                     .spawn_scoped(scope, job);
                 if started.is_err() {
                     work(rt, alloc, gate, shared, snapshot, steps, from, end, workers);

@@ -1,9 +1,8 @@
 use Rattle.std.proofs.Common.{◌≡◌, Some, slice_get, sym, subst, arith}
-use Rattle.std.proofs.lemmas.Option.{slice_get_within}
 use Rattle.speculate.specs.declared.held.Held.TheVariants.{Empty}
 use Rattle.speculate.specs.BoardState.{BoardState}
 use Rattle.speculate.proofs.Honest.{lose_keeps}
-use Rattle.speculate.proofs.Places.{fits_length, set_not_empty}
+use Rattle.speculate.proofs.Places.{fits_length, past_end_not_free, set_not_empty}
 use Rattle.speculate.proofs.Seen.{seen}
 use Rattle.speculate.proofs.board.Board.lose.Goals as goal
 
@@ -11,9 +10,7 @@ pub returns-then-position-len-clause-after : goal.returns-then-position-len-clau
 returns-then-position-len-clause-after c = λ free.
     let P : BoardState → Type 0 = λ v. slice_get v.held c.args.position ≡ Some Empty in
     let h : slice_get c.self.inside.held.items c.args.position ≡ Some Empty = subst P (sym c.self.view_is) free.1 in
-    let e = fits_length c.self.inside.steps.items c.self.inside.held.items c.self.invariant.held in
-    let w = slice_get_within c.self.inside.held.items c.args.position Empty h in
-    absurd (omega arith)
+    past_end_not_free c.self.inside.steps.items c.self.inside.held.items c.args.position c.self.invariant.held (omega arith) h
 
 pub index_mut-requires : goal.index_mut-requires
 index_mut-requires c =

@@ -17,6 +17,7 @@ use Rattle.moo_compiler.specs.Names.{slot_of}
 use Rattle.moo_compiler.specs.Code.{expr_code, statement_code, program_code}
 use Rattle.machine.specs.Machine.{Step, on, returns, fails, lacks_rule, runs_out, lacks_operand, charged, raised, answered, loaded, act}
 use Rattle.machine.specs.Stands.{Waiting, plus_left, plus_right, read_object, read_name, write_object, write_name, write_value, Acting, evaluating, giving, piece, pieces_on, code_on, operands_on, acting_piece, acting_code, Standing, at_start, at_expr, at_value, at_statement, code_left, IsRest, RestFits, operands_of, Verb, pending, joined, HasVariables}
+use Rattle.machine.proofs.Appended.{two_parts, three_parts}
 
 abbrev pub head_of : List Instruction → Option Instruction
 head_of [] = None
@@ -25,12 +26,6 @@ head_of (i ∷ is) = Some i
 abbrev pub tail_of : List Instruction → List Instruction
 tail_of [] = []
 tail_of (i ∷ is) = is
-
-two_parts : (a b : List Instruction) (i : Instruction) (r : List Instruction) → (a ++ (b ++ i ∷ [])) ++ r ≡ a ++ (b ++ (i ∷ r))
-two_parts a b i r = append_assoc a (b ++ i ∷ []) r ∙ ap (λ x. a ++ x) (append_assoc b (i ∷ []) r)
-
-three_parts : (a b c : List Instruction) (i : Instruction) (r : List Instruction) → (a ++ (b ++ (c ++ i ∷ []))) ++ r ≡ a ++ (b ++ (c ++ (i ∷ r)))
-three_parts a b c i r = append_assoc a (b ++ (c ++ i ∷ [])) r ∙ ap (λ x. a ++ x) (two_parts b c i r)
 
 module _ (f : Verb) (names : List Text) (slots : List (Option Datum)) (has : HasVariables names slots f.variables) where
   -- what an instruction of the code that is left did, some turns from u do

@@ -1,3 +1,4 @@
+pub mod Appended
 pub mod Beginning
 pub mod Follow
 pub mod InPlaces

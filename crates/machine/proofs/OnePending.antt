@@ -22,15 +22,10 @@ use Rattle.moo_compiler.specs.Performing.{operand_count, Performs}
 use Rattle.moo_compiler.proofs.StandsForOne.{stands_for_one}
 use Rattle.machine.specs.Stands.{Waiting, plus_left, plus_right, read_object, read_name, write_object, write_name, write_value, Acting, evaluating, giving, piece, pieces_on, code_on, operands_on, acting_piece, acting_code, Standing, at_start, at_expr, at_value, at_statement, code_left, IsRest, RestFits, operands_of, Verb, pending}
 use Rattle.machine.specs.OnePending.{verb_with, before, LeadsSilently, RunsStandForOne, RunsStayInProgram}
+use Rattle.machine.proofs.Appended.{two_parts, three_parts}
 use Rattle.machine.proofs.InPlaces.{expr_length, Within, statement_within, in_parts, in_first, in_second, in_only, own_place}
 
 -- ---- codes and constructs
-
-two_parts : (a b : List Instruction) (i : Instruction) (r : List Instruction) → (a ++ (b ++ i ∷ [])) ++ r ≡ a ++ (b ++ (i ∷ r))
-two_parts a b i r = append_assoc a (b ++ i ∷ []) r ∙ ap (λ x. a ++ x) (append_assoc b (i ∷ []) r)
-
-three_parts : (a b c : List Instruction) (i : Instruction) (r : List Instruction) → (a ++ (b ++ (c ++ i ∷ []))) ++ r ≡ a ++ (b ++ (c ++ (i ∷ r)))
-three_parts a b c i r = append_assoc a (b ++ (c ++ i ∷ [])) r ∙ ap (λ x. a ++ x) (two_parts b c i r)
 
 expr_or : Expr → Option Construct → Expr
 expr_or e (Some (of_expr d)) = d

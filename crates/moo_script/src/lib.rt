@@ -3,5 +3,6 @@
 
 pub mod fault;
 pub mod fields;
+pub mod laws;
 pub mod number;
 pub mod script;

@@ -1,8 +1,10 @@
 //! Reading a script.
-ghost use Rattle.std.specs.Prelude.{IfSome, ◌<◌, length};
+ghost use Rattle.std.specs.Prelude.{◌≡◌, ◌++◌, ◌<◌, length, codes, IfSome, IfOk, IfErr, IsTrue, IsFalse, MatchOption};
+ghost use Rattle.moo_spec.specs.Datum.{is_text};
+ghost use Rattle.moo_script.specs.Lines.{Says, IsRefused};
 
 use crate::fault::{LineFault, ScriptFault};
-use crate::fields::{only_field, split_field};
+use crate::fields::{is_field, split_field};
 use crate::number::{read_key, read_number};
 use moo_value::text::Text;
 use std::alloc::{AllocError, Global};
@@ -85,11 +87,7 @@ fn read_first(script: &[u8]) -> Result<([u8; 32], &[u8]), ScriptFault> {
 }
 
 fn read_key_line(line: &[u8]) -> Option<[u8; 32]> {
-    let (word, rest) = split_field(line)?;
-    if word != b"key".as_slice() {
-        return None;
-    }
-    read_key(only_field(rest)?)
+    read_key(line.strip_prefix(b"key ".as_slice())?)
 }
 
 // The first line without its line end, and what follows it.
@@ -100,34 +98,41 @@ fn split_line(script: &[u8]) -> Option<(&[u8], &[u8])>
     Some((&script[..at], &script[at + 1..]))
 }
 
-fn read_line(alloc: Global, line: &[u8]) -> Result<Command, Refusal> {
-    let Some((word, rest)) = split_field(line) else {
-        return Err(Refusal::Fault(LineFault::Word));
-    };
-    if word == b"moment".as_slice() {
-        return read_moment(rest);
+// What a line after the first one says, or the first kind of fault that it has.
+#[tactic(auto, using(crate::proofs::Forms::begins, crate::proofs::Forms::other_word, crate::proofs::Forms::says_so, crate::proofs::Forms::refused_so))]
+fn read_line(alloc: Global, line: &[u8]) -> Result<Command, Refusal>
+    ensures says { IfOk result (λ c. Says line.now c) }
+    ensures refused { IfErr result (λ r. IsRefused line.now r) }
+{
+    if let Some(field) = line.strip_prefix(b"moment ".as_slice()) {
+        return read_moment(field);
     }
-    if word == b"line".as_slice() {
+    if let Some(rest) = line.strip_prefix(b"line ".as_slice()) {
         return read_input(alloc, rest);
     }
     Err(Refusal::Fault(LineFault::Word))
 }
 
-fn read_moment(rest: Option<&[u8]>) -> Result<Command, Refusal> {
-    let Some(field) = only_field(rest) else {
+#[tactic(auto, using(crate::proofs::Forms::moment_says, crate::proofs::Forms::moment_number, crate::proofs::Forms::moment_word))]
+fn read_moment(field: &[u8]) -> Result<Command, Refusal>
+    ensures says { IfOk result (λ c. Says (codes "moment " ++ field.now) c) }
+    ensures refused { IfErr result (λ r. IsRefused (codes "moment " ++ field.now) r) }
+{
+    if !is_field(field) {
         return Err(Refusal::Fault(LineFault::Word));
-    };
+    }
     let Some(moment) = read_number(field) else {
         return Err(Refusal::Fault(LineFault::Number));
     };
     Ok(Command::Moment(moment))
 }
 
-fn read_input(alloc: Global, rest: Option<&[u8]>) -> Result<Command, Refusal> {
-    let Some(rest) = rest else {
-        return Err(Refusal::Fault(LineFault::Word));
-    };
-    let Some((field, Some(text))) = split_field(rest) else {
+#[tactic(auto, using(crate::proofs::Forms::input_says, crate::proofs::Forms::input_number, crate::proofs::Forms::input_long, crate::proofs::Forms::input_text, crate::proofs::Forms::input_word))]
+fn read_input(alloc: Global, rest: &[u8]) -> Result<Command, Refusal>
+    ensures says { IfOk result (λ c. Says (codes "line " ++ rest.now) c) }
+    ensures refused { IfErr result (λ r. IsRefused (codes "line " ++ rest.now) r) }
+{
+    let Some((field, text)) = split_field(rest) else {
         return Err(Refusal::Fault(LineFault::Word));
     };
     let Some(connection) = read_number(field) else {
@@ -143,9 +148,15 @@ fn read_input(alloc: Global, rest: Option<&[u8]>) -> Result<Command, Refusal> {
     }
 }
 
-fn read_text(alloc: Global, bytes: &[u8]) -> Result<Option<Text>, AllocError> {
-    match std::str::from_utf8(bytes) {
-        Ok(text) => Text::new(String::from_str(alloc, text)?),
-        Err(_) => Ok(None),
+fn read_text(alloc: Global, bytes: &[u8]) -> Result<Option<Text>, AllocError>
+    ensures { IfOk result (λ o. MatchOption o (IsFalse (is_text bytes.now)) (λ t. IsTrue (is_text bytes.now) × (t ≡ bytes.now))) }
+{
+    let Ok(text) = std::str::from_utf8(bytes) else {
+        return Ok(None);
+    };
+    let text = Text::new(String::from_str(alloc, text)?)?;
+    if let Some(text) = &text {
+        text.know();
     }
+    Ok(text)
 }

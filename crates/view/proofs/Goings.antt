@@ -1,7 +1,6 @@
 -- What a question to a tracked view does to it.
-use Rattle.std.proofs.Common.{◌≡◌, List, [], ◌∷◌, ◌++◌, refl, sym, ◌∙◌, ap, subst}
-use Rattle.moo_spec.specs.World.{World}
-use Rattle.moo_spec.specs.Questions.{Question, Answer, ask, Read, Agrees, Change, apply, apply_all}
+use Rattle.std.proofs.Common.{◌≡◌, [], ◌∷◌, ◌++◌, refl, sym, subst}
+use Rattle.moo_spec.specs.Questions.{Question, Answer, ask, apply_all}
 use Rattle.view.specs.Law.{Goes}
 use Rattle.view.specs.Trace.{Trace, IsStart, world_now}
 use Rattle.view.proofs.History.{agrees_before, answered_now}

@@ -1,3 +1,4 @@
 pub mod Local
 pub mod History
 pub mod Goings
+pub mod StaysSound

@@ -1,7 +1,6 @@
 -- What an answer becomes by changes follows from the answer before them.
-use Rattle.std.proofs.Common.{◌≡◌, ℕ, ℤ, Bool, true, false, cond, ◌&&◌, List, [], ◌∷◌, Option, Some, None, option_map, refl, sym, ◌∙◌, ap, subst, unwrap_or}
-use Rattle.std.specs.Ordering.{nat_cmp, int_cmp, eq_by_cmp, is_eq}
-use Rattle.std.specs.declared.cmp.Ordering.TheVariants.{Equal}
+use Rattle.std.proofs.Common.{◌≡◌, ℤ, Bool, true, false, cond, ◌&&◌, List, [], ◌∷◌, Option, Some, None, option_map, refl, sym, ◌∙◌, ap}
+use Rattle.std.specs.Ordering.{nat_cmp, int_cmp, eq_by_cmp}
 use Rattle.std.specs.Cmp.{int_cmp_total, Equal-is}
 use Rattle.std.specs.Cmp.Lexicographic.{slice_cmp, nat_list_cmp_total}
 use Rattle.std.specs.FinMap.{int_cmp-IsAntisymmetric, slice_cmp-IsAntisymmetric, nat_cmp-IsAntisymmetric}
@@ -10,7 +9,7 @@ use Rattle.moo_spec.specs.Datum.{Datum, Text, fold_case}
 use Rattle.moo_spec.specs.Table.{named, with_name}
 use Rattle.moo_spec.specs.World.{World, Object, Slot, object_at, with_object}
 use Rattle.moo_spec.specs.Inherit.{slot_of, slot_at, put_slot, with_slot}
-use Rattle.moo_spec.specs.Questions.{header, Question, about_header, about_slot, about_verbs, about_link, about_ending, Answer, the_header, the_slot, the_verbs, the_link, the_ending, ask, Change, new_value, put_value, apply, apply_all}
+use Rattle.moo_spec.specs.Questions.{header, Question, about_header, about_slot, about_verbs, about_link, about_ending, Answer, the_header, the_slot, the_verbs, ask, Change, new_value, put_value, apply, apply_all}
 
 abbrev same_number : ℤ → ℤ → Bool
 same_number = eq_by_cmp int_cmp

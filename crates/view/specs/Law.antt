@@ -14,3 +14,7 @@ Keeps holds old new = (w : World) → holds old w → holds new w
 -- the world now is sound, whichever start it was
 abbrev pub AreSound : {V : Type 0} → (V → World → Type 0) → (V → World → World) → V → Type 0
 AreSound holds now view = (w : World) → holds view w → IsSound (now view w)
+
+-- if the world now, for the home, was sound before, it still is
+abbrev pub StaysSound : {V : Type 0} → (V → World) → (V → World → World) → V → V → Type 0
+StaysSound home now old new = IsSound (now old (home old)) → IsSound (now new (home new))

@@ -3,6 +3,7 @@ ghost use Rattle.std.specs.Prelude.{◌≡◌, ◌+◌, ℕ, IfOk, OnOk, OnErr};
 ghost use Rattle.moo_spec.specs.World.{World as Plain};
 ghost use Rattle.moo_spec.specs.Questions.{ask, apply};
 ghost use Rattle.footprint.specs.Meanings.{question_of, answer_of, change_of};
+ghost use Rattle.world.specs.Sound.{IsSound};
 ghost use Rattle.view.specs.Law.{Goes, Keeps};
 ghost use Rattle.view.specs.Live.{start_of, changed_in, borrow_of, IsKeepable};
 
@@ -31,12 +32,14 @@ impl<T: Drop> Drop for Forked<'_, T> {
 }
 
 impl<'w> Forked<'w, Draft> {
-    /// A view of a world. The world counts it.
+    /// A view of a world. The world counts it. It can be kept, as a world is sound by its type.
     pub fn open(world: &'w mut World) -> Forked<'w, Draft>
         ensures same_reference { borrow_of result ≡ world.entry.ghost_name }
         ensures start { start_of result ≡ record { plain = world.old.plain; opened = world.old.opened + 1 } }
         ensures unchanged { changed_in result ≡ world.old.plain }
+        ensures sound { IsSound (changed_in result) }
     {
+        world.know();
         world.open();
         Forked { world, fork: None }
     }

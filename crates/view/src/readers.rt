@@ -4,7 +4,7 @@ ghost use Rattle.moo_spec.specs.Table.{at};
 ghost use Rattle.moo_spec.specs.Inherit.{slot_at};
 ghost use Rattle.moo_spec.specs.Questions.{header_at, verbs_at, apply, new_value};
 ghost use Rattle.footprint.specs.Meanings.{change_of};
-ghost use Rattle.view.specs.Law.{Goes, Keeps};
+ghost use Rattle.view.specs.Law.{Goes, Keeps, StaysSound};
 
 use crate::law::View;
 use footprint::change::Change;
@@ -24,6 +24,7 @@ pub fn read_header<V: View>(view: &mut V, object: i32) -> Result<Option<Header>,
     ensures stays { OnOk result (V.holds view.new (V.home view.new)) }
     ensures left { IfOk result (λ h. Goes V.holds V.now view.old view.new
         (λ before after. (after ≡ before) × (header_at before object ≡ h))) }
+    ensures sound { OnOk result (StaysSound V.home V.now view.old view.new) }
 {
     match view.get(&Question::Header(object))? {
         Answer::Header(header) => Ok(header),
@@ -42,6 +43,7 @@ pub fn read_slot<V: View>(
     ensures stays { OnOk result (V.holds view.new (V.home view.new)) }
     ensures left { IfOk result (λ s. Goes V.holds V.now view.old view.new
         (λ before after. (after ≡ before) × (slot_at before object name.now ≡ s))) }
+    ensures sound { OnOk result (StaysSound V.home V.now view.old view.new) }
 {
     match view.get(&Question::Slot(object, name.clone()?))? {
         Answer::Slot(slot) => Ok(slot),
@@ -56,6 +58,7 @@ pub fn read_verbs<V: View>(view: &mut V, object: i32) -> Result<Option<Verbs>, A
     ensures stays { OnOk result (V.holds view.new (V.home view.new)) }
     ensures left { IfOk result (λ vs. Goes V.holds V.now view.old view.new
         (λ before after. (after ≡ before) × (verbs_at before object ≡ vs))) }
+    ensures sound { OnOk result (StaysSound V.home V.now view.old view.new) }
 {
     match view.get(&Question::Verbs(object))? {
         Answer::Verbs(verbs) => Ok(verbs),
@@ -70,6 +73,7 @@ pub fn read_link<V: View>(view: &mut V, number: i32) -> Result<Option<Link>, All
     ensures stays { OnOk result (V.holds view.new (V.home view.new)) }
     ensures left { IfOk result (λ k. Goes V.holds V.now view.old view.new
         (λ before after. (after ≡ before) × (at before.links number ≡ k))) }
+    ensures sound { OnOk result (StaysSound V.home V.now view.old view.new) }
 {
     match view.get(&Question::Link(number))? {
         Answer::Link(link) => Ok(link),
@@ -84,6 +88,7 @@ pub fn read_ending<V: View>(view: &mut V) -> Result<bool, AllocError>
     ensures stays { OnOk result (V.holds view.new (V.home view.new)) }
     ensures left { IfOk result (λ b. Goes V.holds V.now view.old view.new
         (λ before after. (after ≡ before) × (before.ending ≡ b))) }
+    ensures sound { OnOk result (StaysSound V.home V.now view.old view.new) }
 {
     match view.get(&Question::Ending)? {
         Answer::Ending(ending) => Ok(ending),
@@ -103,6 +108,7 @@ pub fn write_value<V: View>(
     ensures stays { OnOk result (V.holds view.new (V.home view.new)) }
     ensures left { OnOk result (Goes V.holds V.now view.old view.new (λ before after. after ≡ apply (new_value object name.now value) before)) }
     ensures kept { OnOk result (Keeps V.holds view.old view.new) }
+    ensures sound { OnOk result (StaysSound V.home V.now view.old view.new) }
 {
     let change = new_value_of(object, name, value)?;
     view.put(change)

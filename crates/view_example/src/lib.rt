@@ -9,7 +9,7 @@ ghost use Rattle.moo_spec.specs.World.{World as Plain};
 ghost use Rattle.moo_spec.specs.Inherit.{slot_at};
 ghost use Rattle.moo_spec.specs.Questions.{Agrees, apply, apply_all, new_value};
 ghost use Rattle.world.specs.Sound.{IsSound};
-ghost use Rattle.view.specs.Law.{Goes};
+ghost use Rattle.view.specs.Law.{Goes, StaysSound};
 
 use footprint::reads::{Changes, Reads};
 use moo_value::text::Text;
@@ -19,7 +19,6 @@ use view::law::View;
 use view::live::Live;
 use view::readers::{read_slot, write_value};
 use view::tracked::Tracked;
-use world::keeping;
 use world::worlds::{Snapshot, World};
 
 #[cfg(test)]
@@ -37,6 +36,7 @@ pub fn set<V: View>(
     ensures stays { OnOk result (V.holds view.new (V.home view.new)) }
     ensures left { IfOk result (λ found. Goes V.holds V.now view.old view.new
         (λ before after. (after ≡ apply (new_value object name.now value) before) × (is_some (slot_at before object name.now) ≡ found))) }
+    ensures sound { OnOk result (StaysSound V.home V.now view.old view.new) }
 {
     let found = read_slot(view, object, name)?.is_some();
     write_value(view, object, name, value)?;
@@ -50,18 +50,6 @@ pub fn run_or_undo(
     name: &Text,
     value: Value,
 ) -> Result<bool, AllocError>
-    ensures ok { OnOk result (world.new.plain ≡ apply (new_value object name.now value) world.old.plain) }
-    ensures found { IfOk result (λ found. is_some (slot_at world.old.plain object name.now) ≡ found) }
-    ensures err { OnErr result (world.new.plain ≡ world.old.plain) }
-{
-    keeping::changes();
-    world.know();
-    run(world, object, name, value)
-}
-
-// A world that is kept has to be sound: here the caller sees to it.
-fn run(world: &mut World, object: i32, name: &Text, value: Value) -> Result<bool, AllocError>
-    requires { (after : Plain) → after ≡ apply (new_value object name.now value) world.old.plain → IsSound after }
     ensures ok { OnOk result (world.new.plain ≡ apply (new_value object name.now value) world.old.plain) }
     ensures found { IfOk result (λ found. is_some (slot_at world.old.plain object name.now) ≡ found) }
     ensures err { OnErr result (world.new.plain ≡ world.old.plain) }

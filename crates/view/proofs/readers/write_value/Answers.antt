@@ -1,0 +1,8 @@
+use Rattle.footprint.specs.Meanings.{change_of}
+use Rattle.view.proofs.StaysSound.{sound_changed}
+use Rattle.view.proofs.readers.write_value.Goals as goal
+
+pub returns-clause-sound : goal.returns-clause-sound
+returns-clause-sound g c =
+    sound_changed g.V.View.holds g.V.View.now g.V.View.home c.args.view.now c.put.new.self (change_of c.in_ok-change.change) c.put.result c.put.ensures.home c.put.ensures.stays
+    c.put.ensures.left

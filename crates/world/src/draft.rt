@@ -7,7 +7,7 @@ ghost use Rattle.moo_spec.specs.Questions.{header_at, verbs_at, ask, Agrees, app
 ghost use Rattle.footprint.specs.Meanings.{question_of, answer_of, change_of};
 ghost use Rattle.world.specs.Numbered.{numbered};
 
-use crate::records::{record_at, same_records, with_record};
+use crate::records::{put_record, record_at, same_records};
 use footprint::change::Change;
 use footprint::header::Header;
 use footprint::link::Link;
@@ -75,9 +75,7 @@ impl Draft {
         ensures ok { OnOk result (self.new ≡ with_object self.old (pos number) object) }
         ensures err { OnErr result (self.new ≡ self.old) }
     {
-        let objects = self.objects.with(u64::from(number), object)?;
-        self.objects = objects;
-        Ok(())
+        self.objects.put(u64::from(number), object)
     }
 
     /// A link more, or another link of that number.
@@ -87,9 +85,7 @@ impl Draft {
         ensures ok { OnOk result (self.new ≡ record (self.old) { links = with self.old.links (pos number) link }) }
         ensures err { OnErr result (self.new ≡ self.old) }
     {
-        let links = self.links.with(u64::from(number), link)?;
-        self.links = links;
-        Ok(())
+        self.links.put(u64::from(number), link)
     }
 
     /// Another greatest number of objects.
@@ -229,9 +225,7 @@ impl Draft {
         let Some(changed) = self.with_value(number, name, value)? else {
             return Ok(());
         };
-        let objects = with_record(&self.objects, number, changed)?;
-        self.objects = objects;
-        Ok(())
+        put_record(&mut self.objects, number, changed)
     }
 
     // The object with another value in a slot, if there is one.

@@ -1,5 +1,5 @@
 //! Tables of records, by the numbers of objects and links.
-ghost use Rattle.std.specs.Prelude.{◌≡◌, ◌↔◌, ◌<◌, ◌^◌, ℕ, ℤ, pos, negsuc, IfOk, IsTrue, is_some, None, option_map, MatchOption};
+ghost use Rattle.std.specs.Prelude.{◌≡◌, ◌↔◌, ◌<◌, ◌^◌, ℕ, ℤ, pos, negsuc, OnOk, OnErr, IsTrue, is_some, None, option_map, MatchOption};
 ghost use Rattle.moo_spec.specs.Table.{at, with};
 ghost use Rattle.world.specs.Numbered.{numbered};
 
@@ -22,19 +22,20 @@ pub(crate) fn record_at<R: Drop>(records: &Table<R, 4>, number: i32) -> Option<&
     }
 }
 
-/// The table with another record for a number that has one.
+/// Another record for a number that has one. After an `Err` the table is as it was.
 #[tactic(auto, using(crate::proofs::Maps::at_positive, crate::proofs::Maps::at_negative, crate::proofs::Maps::with_positive))]
-pub(crate) fn with_record<R: Drop>(
-    records: &Table<R, 4>,
+pub(crate) fn put_record<R: Drop>(
+    records: &mut Table<R, 4>,
     number: i32,
     value: R,
-) -> Result<Table<R, 4>, AllocError>
-    requires { IsTrue (is_some (at (numbered records.now.entries) number)) }
-    ensures { IfOk result (λ t. numbered t.entries ≡ with (numbered records.now.entries) number value) }
+) -> Result<(), AllocError>
+    requires { IsTrue (is_some (at (numbered records.old.entries) number)) }
+    ensures ok { OnOk result (numbered records.new.entries ≡ with (numbered records.old.entries) number value) }
+    ensures err { OnErr result (records.new ≡ records.old) }
 {
     let _known = records.len();
     match key_of(number) {
-        Some(key) => records.with(key, value),
+        Some(key) => records.put(key, value),
         None => unreachable!(),
     }
 }

@@ -7,3 +7,5 @@ pub mod FixtureIsSimple
 pub mod SoundKeeps
 pub mod Walks
 pub mod RoomsAreSound
+pub mod Adding
+pub mod ObjectsAreSound

@@ -3,3 +3,4 @@ pub mod Counts
 pub mod Numbered
 pub mod Sound
 pub mod Rooms
+pub mod Objects

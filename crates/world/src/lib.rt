@@ -9,6 +9,7 @@ pub mod draft;
 pub mod fixture;
 mod fixture_verbs;
 pub mod keeping;
+pub mod objects;
 mod records;
 pub mod rooms;
 pub mod worlds;

@@ -6,6 +6,7 @@ use moo_syntax::parse::parse;
 use std::alloc::Global;
 use std::io;
 use std::rt::Clock;
+use world::rooms::fixture_with_rooms;
 
 /// How many statements a program has.
 const STATEMENTS: usize = 10_000;
@@ -60,7 +61,8 @@ pub fn run<R: Print + Clock + AllocGlobal>(rt: &R, mode: Mode) -> io::Result<()>
         let program = program(rt.alloc(), row.statement, statements)?;
         let subject = Subject::many(row.name, statements);
         let job = Job::Program(program);
-        done_in_turns(rt, mode, subject, mode.count(RUNS), row.place, job)?;
+        let world = fixture_with_rooms(rt.alloc())?;
+        done_in_turns(rt, mode, subject, mode.count(RUNS), world, row.place, job)?;
     }
     Ok(())
 }

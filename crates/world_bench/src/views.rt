@@ -1,73 +1,99 @@
-//! Views: what a read and a change cost, and a snapshot. The world is the fixture with 64 more rooms.
+//! Views: what a read and a change cost, and a snapshot. The world has 10,000 records.
 use crate::jobs::{Job, Place, done_in_turns};
 use bench_report::report::{Mode, Subject, Work, measure};
 use moo_value::text::Text;
 use std::alloc::AllocError;
 use std::io;
 use std::rt::Clock;
-use world::rooms::fixture_with_rooms;
+use world::objects::fixture_with_objects;
 use world::worlds::World;
+
+/// How many objects the world has besides the eight of the fixture.
+const OBJECTS: u32 = 9_992;
 
 /// How many reads or changes a line has.
 const STEPS: usize = 640_000;
+
+/// What is done with a view.
+#[derive(Clone, Copy)]
+enum Action {
+    // the property of one object is read
+    Read,
+    // it is read of many objects, most of which have none
+    Walk,
+    // it is changed
+    Change,
+}
 
 /// What a line measures.
 struct Row {
     name: &'static str,
     place: Place,
-    // how many rooms are gone through with one view
-    rooms: u8,
-    changes: bool,
+    action: Action,
+    // how often with one view
+    times: u8,
 }
 
-const ROWS: [Row; 8] = [
+const ROWS: [Row; 10] = [
     Row {
-        name: "view: open Live, 1 get, undo",
+        name: "view of 10,000 records: open Live, 1 get of #3.n, undo",
         place: Place::Live,
-        rooms: 1,
-        changes: false,
+        action: Action::Read,
+        times: 1,
     },
     Row {
-        name: "view: get on Live, 64 a view",
+        name: "view of 10,000 records: get of #3.n on Live, 64 a view",
         place: Place::Live,
-        rooms: 64,
-        changes: false,
+        action: Action::Read,
+        times: 64,
     },
     Row {
-        name: "view: open Live, 1 put, undo",
+        name: "view of 10,000 records: get of `n` on Live, 64 objects a view",
         place: Place::Live,
-        rooms: 1,
-        changes: true,
+        action: Action::Walk,
+        times: 64,
     },
     Row {
-        name: "view: put on Live, 64 a view",
+        name: "view of 10,000 records: open Live, 1 put of #3.n, undo",
         place: Place::Live,
-        rooms: 64,
-        changes: true,
+        action: Action::Change,
+        times: 1,
     },
     Row {
-        name: "view: open Tracked, 1 get, drop",
-        place: Place::Tracked,
-        rooms: 1,
-        changes: false,
+        name: "view of 10,000 records: put of #3.n on Live, 64 a view",
+        place: Place::Live,
+        action: Action::Change,
+        times: 64,
     },
     Row {
-        name: "view: get on Tracked, 64 a view",
+        name: "view of 10,000 records: open Tracked, 1 get of #3.n, drop",
         place: Place::Tracked,
-        rooms: 64,
-        changes: false,
+        action: Action::Read,
+        times: 1,
     },
     Row {
-        name: "view: open Tracked, 1 put, drop",
+        name: "view of 10,000 records: get of #3.n on Tracked, 64 a view",
         place: Place::Tracked,
-        rooms: 1,
-        changes: true,
+        action: Action::Read,
+        times: 64,
     },
     Row {
-        name: "view: put on Tracked, 64 a view",
+        name: "view of 10,000 records: get of `n` on Tracked, 64 objects a view",
         place: Place::Tracked,
-        rooms: 64,
-        changes: true,
+        action: Action::Walk,
+        times: 64,
+    },
+    Row {
+        name: "view of 10,000 records: open Tracked, 1 put of #3.n, drop",
+        place: Place::Tracked,
+        action: Action::Change,
+        times: 1,
+    },
+    Row {
+        name: "view of 10,000 records: put of #3.n on Tracked, 64 a view",
+        place: Place::Tracked,
+        action: Action::Change,
+        times: 64,
     },
 ];
 
@@ -80,27 +106,29 @@ pub fn run<R: Print + Clock + AllocGlobal>(rt: &R, mode: Mode) -> io::Result<()>
 }
 
 fn line<R: Print + Clock + AllocGlobal>(rt: &R, mode: Mode, row: &Row) -> io::Result<()> {
-    let counter = Text::from_str(rt.alloc(), "n")?;
-    let job = if row.changes {
-        Job::Changes(counter, row.rooms)
-    } else {
-        Job::Reads(counter, row.rooms)
+    let name = Text::from_str(rt.alloc(), "n")?;
+    let job = match row.action {
+        Action::Read => Job::Reads(name, row.times),
+        Action::Walk => Job::Walks(name, row.times),
+        Action::Change => Job::Changes(name, row.times),
     };
-    let each = usize::from(row.rooms);
+    let each = usize::from(row.times);
     let turns = mode.count(STEPS / each.max(1));
+    let world = fixture_with_objects(rt.alloc(), OBJECTS)?;
     done_in_turns(
         rt,
         mode,
         Subject::many(row.name, each),
         turns,
+        world,
         row.place,
         job,
     )
 }
 
 fn of_snapshots<R: Print + Clock + AllocGlobal>(rt: &R, mode: Mode) -> io::Result<()> {
-    let world = fixture_with_rooms(rt.alloc())?;
-    let subject = Subject::product("view: snapshot of a world, and its drop");
+    let world = fixture_with_objects(rt.alloc(), OBJECTS)?;
+    let subject = Subject::product("view of 10,000 records: snapshot of the world, and its drop");
     measure(
         rt,
         mode,

@@ -6,7 +6,7 @@ use Rattle.moo_spec.specs.WellFormed.{IsWellFormed}
 use Rattle.moo_spec.specs.Fixture.{fixture}
 use Rattle.moo_spec.proofs.Entries.{each_entry}
 use Rattle.world.specs.Sound.{IsSound, IsSimple, reads, aims, is_covered}
-use Rattle.world.specs.Rooms.{with_rooms}
+use Rattle.world.specs.Rooms.{ones, with_rooms}
 
 roomy : World
 roomy = with_rooms 64 fixture
@@ -41,7 +41,7 @@ rooms_fit =
     }
 
 rooms_are_simple : IsSimple roomy
-unfolding reads aims is_covered with_rooms roomy
+unfolding reads aims is_covered ones with_rooms roomy
 rooms_are_simple = record { verbs = each_entry _ roomy.objects refl; slots = each_entry _ roomy.objects refl }
 
 pub rooms_are_sound : IsSound (with_rooms 64 fixture)

@@ -1,13 +1,24 @@
 -- The fixture with more rooms, in each of which a player with a link is alone.
 use Rattle.std.specs.Prelude.{ℕ, zero, suc, ◌+◌, ◌*◌, ℤ, pos, [], ◌∷◌, true, None, codes}
 use Rattle.moo_spec.specs.Table.{with}
-use Rattle.moo_spec.specs.World.{World, Object, Link, with_object}
+use Rattle.moo_spec.specs.World.{World, Object, Verb, with_object}
 use Rattle.moo_spec.specs.Commands.{nowhere}
-use Rattle.moo_spec.specs.Fixture.{plain_object, room, count_verb, fixture}
+use Rattle.moo_spec.specs.Datum.{integer}
+use Rattle.moo_spec.specs.Tree.{Expr, literal, binary, plus}
+use Rattle.moo_spec.specs.Fixture.{plain_object, plain_verb, room, returning, count_verb}
 
--- a room that counts as that of the fixture, which has no parent and no other verb, with one player in it
+-- 1, and so many times + 1
+unfoldable pub ones : ℕ → Expr
+ones zero = literal (integer (pos 1))
+ones (suc n) = binary plus (ones n) (literal (integer (pos 1)))
+
+-- a verb that takes 1,000 ticks: return 1 + 1 + ... + 1;
+abbrev pub total_verb : Verb
+total_verb = plain_verb (codes "total") (returning (ones 999))
+
+-- a room that counts as that of the fixture, which has no parent and one verb more, with one player in it
 abbrev pub lone_room : ℤ → Object
-lone_room player = record (room (pos 0)) { parent = nowhere; contents = player ∷ []; verbs = count_verb ∷ [] }
+lone_room player = record (room (pos 0)) { parent = nowhere; contents = player ∷ []; verbs = count_verb ∷ total_verb ∷ [] }
 
 abbrev pub guest : ℤ → Object
 guest place = record (plain_object (codes "Guest")) { parent = nowhere; is_player = true; location = place }

@@ -24,13 +24,6 @@ pub(crate) fn room_verbs(alloc: Global) -> Result<Verbs, AllocError>
     Verbs::new(alloc, verbs)
 }
 
-// The verbs of a room that counts and does nothing else.
-pub(crate) fn count_alone(alloc: Global) -> Result<Verbs, AllocError>
-    ensures { IfOk result (λ vs. vs ≡ meant.count_verb ∷ []) }
-{
-    single(alloc, count(alloc)?)
-}
-
 // The verbs of the box.
 pub(crate) fn box_verbs(alloc: Global) -> Result<Verbs, AllocError>
     ensures { IfOk result (λ vs. vs ≡ meant.box_look ∷ []) }
@@ -55,7 +48,7 @@ fn accept(alloc: Global) -> Result<Verb, AllocError>
     Ok(verb)
 }
 
-fn count(alloc: Global) -> Result<Verb, AllocError>
+pub(crate) fn count(alloc: Global) -> Result<Verb, AllocError>
     ensures { IfOk result (λ v. v ≡ meant.count_verb) }
 {
     plain_verb(alloc, "count", count_tree(alloc)?)
@@ -79,7 +72,7 @@ fn box_look(alloc: Global) -> Result<Verb, AllocError>
 }
 
 // A verb for a command of one word, owned by the wizard.
-fn plain_verb(alloc: Global, names: &str, tree: Tree) -> Result<Verb, AllocError>
+pub(crate) fn plain_verb(alloc: Global, names: &str, tree: Tree) -> Result<Verb, AllocError>
     requires { IsTrue (is_text names.now) }
     ensures { IfOk result (λ v. v ≡ meant.plain_verb names.now tree) }
 {
@@ -98,7 +91,7 @@ fn plain_verb(alloc: Global, names: &str, tree: Tree) -> Result<Verb, AllocError
 }
 
 // return value;
-fn returning(alloc: Global, value: Expression) -> Result<Tree, AllocError>
+pub(crate) fn returning(alloc: Global, value: Expression) -> Result<Tree, AllocError>
     ensures { IfOk result (λ t. t ≡ meant.returning value) }
 {
     let mut statements = Vec::with_capacity(alloc, 1)?;
@@ -161,7 +154,7 @@ fn named(alloc: Global, name: &str) -> Result<Expression, AllocError>
     })
 }
 
-fn one() -> Expression
+pub(crate) fn one() -> Expression
     ensures { result ≡ literal (integer (pos 1)) }
 {
     Expression {

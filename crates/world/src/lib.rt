@@ -11,5 +11,6 @@ mod fixture_verbs;
 pub mod keeping;
 pub mod objects;
 mod records;
+mod room_verbs;
 pub mod rooms;
 pub mod worlds;

@@ -5,13 +5,14 @@ ghost use Rattle.world.specs.Rooms as meant;
 
 use crate::draft::Draft;
 use crate::fixture::{NOWHERE, header, plain, records, room_of};
-use crate::fixture_verbs::count_alone;
+use crate::room_verbs::counting_verbs;
 use crate::worlds::World;
 use footprint::link::Link;
 use footprint::object::Object;
 use std::alloc::{AllocError, Global};
 
-/// The fixture with 64 more rooms, which count as its own room does. In each a player with a link is alone.
+/// The fixture with 64 more rooms. In each a player with a link is alone, and may count as in the fixture's own room or run the verb `total`, which
+/// takes 1,000 ticks and changes nothing.
 pub fn fixture_with_rooms(alloc: Global) -> Result<World, AllocError>
     ensures plain { IfOk result (λ w. w.plain ≡ meant.with_rooms 64 fixture) }
     ensures opened { IfOk result (λ w. w.opened ≡ 0) }
@@ -51,7 +52,7 @@ fn lone_room(alloc: Global, player: u32) -> Result<Object, AllocError>
 {
     let mut header = header(alloc, "Room")?;
     header.parent = NOWHERE;
-    room_of(alloc, header, &[player as i32], count_alone(alloc)?)
+    room_of(alloc, header, &[player as i32], counting_verbs(alloc)?)
 }
 
 fn guest(alloc: Global, place: u32) -> Result<Object, AllocError>

@@ -1,4 +1,4 @@
-//! Lists of steps: each is the line `count` of a player, on one counter or on 64.
+//! Lists of steps. Each is a line of a player: `count`, on one counter or on 64, or `total`, which takes 1,000 ticks.
 use bench_report::report::{Mode, Subject, since, tell};
 use moo_value::text::Text;
 use speculate::gate::Free;
@@ -14,24 +14,40 @@ use task_step::outcome::Outcome;
 use task_step::step::{Event, Step};
 use world::rooms::fixture_with_rooms;
 
-/// How many steps a list has.
-const STEPS: usize = 100_000;
+/// How many steps a list of `count` has.
+const COUNTS: usize = 100_000;
 
-/// Where the steps come from: so many connections in turn, from the first one on.
-struct Room {
+/// How many a list of `total` has: 50 in each of the 64 rooms.
+const TOTALS: usize = 3_200;
+
+/// A list of steps: one word over and over, from so many connections in turn, from the first one on.
+struct List {
     name: &'static str,
+    word: &'static str,
+    steps: usize,
     first: u32,
     connections: u32,
 }
 
-const ROOMS: [Room; 2] = [
-    Room {
+const LISTS: [List; 3] = [
+    List {
         name: "steps: `count` on one counter",
+        word: "count",
+        steps: COUNTS,
         first: 1,
         connections: 1,
     },
-    Room {
+    List {
         name: "steps: `count` in 64 rooms in turn",
+        word: "count",
+        steps: COUNTS,
+        first: 3,
+        connections: 64,
+    },
+    List {
+        name: "steps: `total` of 1,000 ticks in 64 rooms in turn",
+        word: "total",
+        steps: TOTALS,
         first: 3,
         connections: 64,
     },
@@ -68,10 +84,10 @@ pub fn run<R: Print + Clock + AllocGlobal + Threads + Wait + Sync>(
     rt: &R,
     mode: Mode,
 ) -> io::Result<()> {
-    for room in &ROOMS {
-        let steps = counts(rt.alloc(), mode.count(STEPS), room)?;
+    for list in &LISTS {
+        let steps = steps_of(rt.alloc(), mode.count(list.steps), list)?;
         for player in &PLAYERS {
-            line(rt, mode, room.name, &steps, player)?;
+            line(rt, mode, list.name, &steps, player)?;
         }
     }
     Ok(())
@@ -132,19 +148,19 @@ fn ticks(outcomes: &[Outcome]) -> u64 {
     sum
 }
 
-fn counts(alloc: Global, count: usize, room: &Room) -> Result<Vec<Step>, AllocError> {
+fn steps_of(alloc: Global, count: usize, list: &List) -> Result<Vec<Step>, AllocError> {
     let mut steps = Vec::with_capacity(alloc, count)?;
     let mut number = 0u32;
     for _step in 0..count {
-        let turn = number.checked_rem(room.connections).unwrap_or(0);
+        let turn = number.checked_rem(list.connections).unwrap_or(0);
         number = number.saturating_add(1);
         steps.push(Step {
             number,
             moment: 0,
             key: [0; 32],
             event: Event::Line(
-                room.first.wrapping_add(turn),
-                Text::from_str(alloc, "count")?,
+                list.first.wrapping_add(turn),
+                Text::from_str(alloc, list.word)?,
             ),
         })?;
     }

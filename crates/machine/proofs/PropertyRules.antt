@@ -39,3 +39,17 @@ allowed_read_left holds now a b c who o p s x are f g is w h =
     let q = g w h in
     let r = f w q.0 in
     (r.0, (q.1.0 ∙ r.1.0, allowed_read (now a w) who o p s (are w r.0) r.1.1 (subst (λ u. may_read u who s ≡ true) r.1.0 q.1.1) ∙ is))
+
+refused_read : (w : World) (who o : ℤ) (p : Text) (s : Slot) → slot_at w o p ≡ Some s → may_read w who s ≡ false → read_at w who o p ≡ raises permission_denied
+refused_read w who o p s is may =
+    present_read w who o p s is ∙ ap (λ b. cond b (found (property_value w o p)) (raises permission_denied)) may
+
+-- of each world that is left, a read that is not allowed is refused
+pub refused_read_left : {V : Type 0} (holds : V → World → Type 0) (now : V → World → World) (a b c : V) (who o : ℤ) (p : Text) (s : Slot)
+    → Goes holds now a b (λ before after. (after ≡ before) × (slot_at before o p ≡ Some s))
+    → Goes holds now b c (λ before after. (after ≡ before) × (may_read before who s ≡ false))
+    → Goes holds now a c (λ before after. (after ≡ before) × (read_at before who o p ≡ raises permission_denied))
+refused_read_left holds now a b c who o p s f g w h =
+    let q = g w h in
+    let r = f w q.0 in
+    (r.0, (q.1.0 ∙ r.1.0, refused_read (now a w) who o p s r.1.1 (subst (λ u. may_read u who s ≡ false) r.1.0 q.1.1)))

@@ -29,3 +29,8 @@ pub sound_after_step : {V E : Type 0} (holds : V → World → Type 0) (now : V 
 sound_after_step holds now old new s (Err e) sound stepped = stepped
 sound_after_step holds now old new s (Ok o) sound stepped = λ w h.
     let k = stepped w h in subst IsSound (sym k.1.0) (sound_performed (now old w) s (sound w k.0))
+
+-- what only reads leaves the worlds sound
+pub sound_after_read : {V : Type 0} (holds : V → World → Type 0) (now : V → World → World) (old new : V)
+    → AreSound holds now old → ((w : World) → holds new w → holds old w × (now new w ≡ now old w)) → AreSound holds now new
+sound_after_read holds now old new sound same = λ w h. let q = same w h in subst IsSound (sym q.1) (sound w q.0)

@@ -1,6 +1,7 @@
 use Rattle.std.proofs.Common.{◌≡◌, pos, ap, ◌∙◌, rules, w32, to_z, of_z}
 use Rattle.moo_spec.specs.Questions.{Header}
 use Rattle.task_run.proofs.LineRules.{person_goes_on}
+use Rattle.task_run.proofs.SoundSteps.{sound_after_read}
 use Rattle.task_run.proofs.step.run_person.Goals as goal
 
 pub returns-in_ok-word-in-Some-clause-played : goal.returns-in_ok-word-in-Some-clause-played
@@ -12,3 +13,8 @@ returns-in_ok-word-in-Some-clause-played g c =
     let rest = rw person at c.run_word.ensures.played in
     person_goes_on view.holds view.now c.args.view.now c.read_header.new.view c.run_word.new.view (pos c.args.connection) c.args.person _ c.args.text.now c.in_ok-word-in-Some.word c.in-Some.header c.run_word.result
     left rest (location ∙ ap (λ (h : Header). h.location) c.header.view_is) c.in_ok-word-in-Some.ensures
+
+pub run_word-requires-clause-sound : goal.run_word-requires-clause-sound
+run_word-requires-clause-sound g c =
+    sound_after_read g.V.View.holds g.V.View.now c.args.view.now c.read_header.new.view c.requires.sound
+    (λ w h. let q = c.in_ok-header.ensures.left w h in (q.0, q.1.0))

@@ -1,17 +1,13 @@
-//! Rows that cross crates: what `moo-play` prints and answers, from the bytes of a script to the written lines.
+//! Rows that cross crates: programs on both views, boards, lists by several workers, and what `moo-play` prints and answers.
 #![tactic(auto)]
 
 #[cfg(test)]
-mod faults;
+mod boards;
 #[cfg(test)]
-mod lists;
+mod integers;
 #[cfg(test)]
-mod played;
+mod programs;
 #[cfg(test)]
-mod row;
+mod scripts;
 #[cfg(test)]
-mod words;
-#[cfg(test)]
-mod worlds;
-#[cfg(test)]
-mod writers;
+mod views;

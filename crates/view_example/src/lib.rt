@@ -21,9 +21,6 @@ use view::readers::{read_slot, write_value};
 use view::tracked::Tracked;
 use world::worlds::{Snapshot, World};
 
-#[cfg(test)]
-mod tests;
-
 /// The step, over any view.
 pub fn set<V: View>(
     view: &mut V,

@@ -1,6 +1,12 @@
 //! Scripts and numbers of workers that are refused before anything runs.
-use crate::row::{KEY, Row, check_row};
+use crate::scripts::row::{KEY, Row, others};
+use std::alloc::AllocError;
+use std::sync::Wait;
 use std::test::Fail;
+use std::thread::Threads;
+
+/// The first line of a script, the lines after it, and the line of its fault.
+type Script = (&'static str, &'static [u8], &'static str);
 
 fn refused(key: &'static str, lines: &'static [u8], errors: &'static str) -> Row {
     Row {
@@ -25,7 +31,7 @@ const TEXT_FAULT: &str = "moo-play: script: line 2: Text\n";
 const NUMBERS: &str = "moo-play: numbers\n";
 
 // No good first line, with another fault after it.
-const KEYLESS: [(&str, &[u8], &str); 12] = [
+const KEYLESS: [Script; 12] = [
     ("", b"", KEY_FAULT),
     ("", b"\n", KEY_FAULT),
     ("", b"line 1 count\nlin\n", KEY_FAULT),
@@ -71,7 +77,7 @@ const KEYLESS: [(&str, &[u8], &str); 12] = [
 ];
 
 // Faulty lines, each with another fault in a later line or in the same one.
-const FAULTY: [(&str, &[u8], &str); 31] = [
+const FAULTY: [Script; 31] = [
     // Words.
     (KEY, b"lin 1 count\nline 01 count\n", WORD_FAULT),
     (KEY, b"LINE 1 count\nmoment 01\n", WORD_FAULT),
@@ -128,7 +134,7 @@ const FAULTY: [(&str, &[u8], &str); 31] = [
 ];
 
 // Scripts that can be read, with a number out of its range.
-const OUT_OF_RANGE: [(&str, &[u8], &str); 6] = [
+const OUT_OF_RANGE: [Script; 6] = [
     (KEY, b"line 0 count\n", NUMBERS),
     (KEY, b"line 1000000 count\n", NUMBERS),
     (KEY, b"line 1 count\nline 4294967296 count\n", NUMBERS),
@@ -160,41 +166,60 @@ const WORKERS: [&str; 12] = [
     "18446744073709551617",
 ];
 
+// What some scripts print or answer otherwise.
+fn others_of<R: Threads + Wait + Sync + AllocGlobal>(
+    rt: &R,
+    scripts: &[Script],
+) -> Result<String, AllocError> {
+    let mut text = String::new(rt.alloc());
+    for (key, lines, errors) in scripts {
+        text.push_str(others(rt, &refused(key, lines, errors))?.as_str())?;
+    }
+    Ok(text)
+}
+
+// What a script prints or answers otherwise with each of these words for the number of workers.
+fn others_by_workers<R: Threads + Wait + Sync + AllocGlobal>(
+    rt: &R,
+    words: &[&'static str],
+    lines: &'static [u8],
+) -> Result<String, AllocError> {
+    let mut text = String::new(rt.alloc());
+    for workers in words {
+        let row = Row {
+            workers,
+            ..refused(KEY, lines, "moo-play: workers\n")
+        };
+        text.push_str(others(rt, &row)?.as_str())?;
+    }
+    Ok(text)
+}
+
 #[test]
 fn scripts_without_a_key(rt: HostRuntime) -> Result<(), Fail> {
-    for (key, lines, errors) in KEYLESS {
-        check_row(&rt, &refused(key, lines, errors))?;
-    }
+    assert_eq!(rt; others_of(&rt, &KEYLESS)?.as_str(), "");
     Ok(())
 }
 
 #[test]
 fn faulty_lines(rt: HostRuntime) -> Result<(), Fail> {
-    for (key, lines, errors) in FAULTY {
-        check_row(&rt, &refused(key, lines, errors))?;
-    }
+    assert_eq!(rt; others_of(&rt, &FAULTY)?.as_str(), "");
     Ok(())
 }
 
 #[test]
 fn numbers_out_of_range(rt: HostRuntime) -> Result<(), Fail> {
-    for (key, lines, errors) in OUT_OF_RANGE {
-        check_row(&rt, &refused(key, lines, errors))?;
-    }
+    assert_eq!(rt; others_of(&rt, &OUT_OF_RANGE)?.as_str(), "");
     Ok(())
 }
 
 // The number of workers is refused before the script is looked at.
 #[test]
 fn numbers_of_workers(rt: HostRuntime) -> Result<(), Fail> {
-    for workers in WORKERS {
-        for lines in [b"line 1 count\n".as_slice(), b"lin\n"] {
-            let row = Row {
-                workers,
-                ..refused(KEY, lines, "moo-play: workers\n")
-            };
-            check_row(&rt, &row)?;
-        }
-    }
+    assert_eq!(rt;
+        others_by_workers(&rt, &WORKERS, b"line 1 count\n")?.as_str(),
+        ""
+    );
+    assert_eq!(rt; others_by_workers(&rt, &WORKERS, b"lin\n")?.as_str(), "");
     Ok(())
 }

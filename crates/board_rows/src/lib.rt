@@ -1,9 +1,0 @@
-//! Rows of guesses, boards and lists by several workers.
-#![tactic(auto)]
-
-#[cfg(test)]
-mod boards;
-#[cfg(test)]
-mod lists;
-#[cfg(test)]
-mod row;

@@ -1,0 +1,4 @@
+//! Boards, and lists by several workers: what is refused, and how each step is committed.
+mod lists;
+mod refusals;
+mod row;

@@ -1,0 +1,8 @@
+//! Scripts: what `moo-play` prints and answers, from the bytes of a script to the written lines.
+mod faults;
+mod long;
+mod played;
+mod row;
+mod words;
+mod worlds;
+mod writers;

@@ -6,6 +6,8 @@ mod boards;
 #[cfg(test)]
 mod integers;
 #[cfg(test)]
+mod meeting;
+#[cfg(test)]
 mod programs;
 #[cfg(test)]
 mod scripts;

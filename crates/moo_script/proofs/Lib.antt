@@ -1,4 +1,5 @@
 pub mod Digits
 pub mod Forms
 pub mod OneAnswer
+pub mod Scripts
 pub mod Spaces

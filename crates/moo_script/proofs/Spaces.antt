@@ -4,6 +4,7 @@ use Rattle.std.specs.List.{list_all, prefix_len}
 use Rattle.std.proofs.lemmas.Bool.Decides.{nat_tests}
 use Rattle.std.proofs.lemmas.Bool.{eqb-true}
 use Rattle.std.proofs.lemmas.List.{take_all}
+use Rattle.std.proofs.lemmas.List.Sums.{prefix_len_passes}
 use Rattle.std.proofs.lemmas.List.Quantifiers.{position-Some}
 use Rattle.moo_script.specs.Lines.{is_field}
 
@@ -47,24 +48,40 @@ space_first bs f t e h k =
     let n : 0 ≡ length f = ap (λ o. unwrap_or o 0) x in
     let q = p.0 in grind (arith, nat_tests)
 
-all_taken : (bs : List ℕ) (n : ℕ) → n ≤ length bs → ((k : ℕ) → k < n → space (get_or bs k 0) ≡ false) → list_all plain (take n bs) ≡ true
-all_taken bs zero l h = refl
-all_taken [] (suc n) l h = refl
-all_taken (b ∷ bs) (suc n) l h =
-    let first : space b ≡ false = h 0 (omega arith) in
-    let rest = all_taken bs n (omega arith) (λ k s. h (suc k) (omega arith)) in
-    ap (λ x. not x && list_all plain (take n bs)) first ∙ rest
+not_true : (b : Bool) → not b ≡ true → b ≡ false
+not_true true h = cc
+not_true false h = refl
 
--- what stands before the first space, and behind it
+all_taken : (e : ℕ) (bs : List ℕ) (n : ℕ) → n ≤ length bs → ((k : ℕ) → k < n → (get_or bs k 0 == e) ≡ false) → list_all (λ b. not (b == e)) (take n bs) ≡ true
+all_taken e bs zero l h = refl
+all_taken e [] (suc n) l h = refl
+all_taken e (b ∷ bs) (suc n) l h =
+    let first : (b == e) ≡ false = h 0 (omega arith) in
+    let rest = all_taken e bs n (omega arith) (λ k s. h (suc k) (omega arith)) in
+    ap (λ x. not x && list_all (λ b. not (b == e)) (take n bs)) first ∙ rest
+
+-- where a byte does not stand
+pub nowhere : (e : ℕ) (bs : List ℕ) → None ≡ position (λ b. b == e) bs → list_all (λ b. not (b == e)) bs ≡ true
+nowhere e bs h =
+    let n = prefix_len (λ b. not (b == e)) bs in
+    let le : length bs ≤ prefix_len (λ b. not (b == e)) bs = elim (nat_lt (prefix_len (λ b. not (b == e)) bs) (length bs)) as (λ x. nat_lt (prefix_len (λ b. not (b == e)) bs) (length bs) ≡ x → None ≡ cond x (Some (prefix_len (λ b. not (b == e)) bs)) None → length bs ≤ prefix_len (λ b. not (b == e)) bs) [ true ↦ λ t k. cc | false ↦ λ t k. grind (arith, nat_tests) ] refl h in
+    ap (list_all (λ b. not (b == e))) (sym (take_all (length bs) bs (omega arith))) ∙ all_taken e bs (length bs) (omega arith) (λ k s. not_true (get_or bs k 0 == e) (prefix_len_passes (λ b. not (b == e)) bs k 0 (omega (arith, s, le))))
+
+-- what stands before a byte's first place, and behind it
+pub parts : (e : ℕ) (bs : List ℕ) (n : ℕ) → Some n ≡ position (λ b. b == e) bs → (list_all (λ b. not (b == e)) (take n bs) ≡ true) × (bs ≡ take n bs ++ e ∷ take (length bs - (n + 1)) (drop (n + 1) bs))
+parts e bs n f =
+    let p = position-Some (λ b. b == e) bs n 0 (sym f) in
+    let byte : get_or bs n 0 ≡ e = eqb-true (get_or bs n 0) e p.1 in
+    let whole : take (length bs - (n + 1)) (drop (n + 1) bs) ≡ drop (n + 1) bs = take_all _ _ (omega (arith, length-drop (n + 1) bs)) in (
+      all_taken e bs n (omega (arith, p.0)) p.2,
+      sym (take-append-drop n bs) ∙ ap (λ r. take n bs ++ r) (drop-cons bs n 0 p.0 ∙ ap (λ b. b ∷ drop (suc n) bs) byte ∙ ap (λ m. e ∷ drop m bs) (let s : suc n ≡ n + 1 = omega arith in s) ∙ ap (λ r. e ∷ r) (sym whole)),
+    )
+
+-- the field before the first space
 pub field_parts : (bs : List ℕ) (n : ℕ) → Some n ≡ position space bs → (n ≡ 0 → ⊥) → IsTrue (is_field (take n bs)) × (bs ≡ take n bs ++ 32 ∷ take (length bs - (n + 1)) (drop (n + 1) bs))
 field_parts bs n e h =
-    let l : 0 < n = omega (arith, h) in
-    let p = position-Some space bs n 0 (sym e) in
-    let all = all_taken bs n (omega (arith, p.0)) p.2 in
-    let byte : get_or bs n 0 ≡ 32 = eqb-true (get_or bs n 0) 32 p.1 in
-    let long : length (take n bs) ≡ n = omega (arith, p.0, length-take n bs) in
-    let some : nat_lt 0 (length (take n bs)) ≡ true = grind (arith, nat_tests) in
-    let whole : take (length bs - (n + 1)) (drop (n + 1) bs) ≡ drop (n + 1) bs = take_all _ _ (omega (arith, length-drop (n + 1) bs)) in (
-      ap (λ b. b && list_all plain (take n bs)) some ∙ all,
-      sym (take-append-drop n bs) ∙ ap (λ r. take n bs ++ r) (drop-cons bs n 0 p.0 ∙ ap (λ b. b ∷ drop (suc n) bs) byte ∙ ap (λ m. 32 ∷ drop m bs) (let s : suc n ≡ n + 1 = omega arith in s) ∙ ap (λ r. 32 ∷ r) (sym whole)),
-    )
+    let p = parts 32 bs n e in
+    let l : n < length bs = (position-Some space bs n 0 (sym e)).0 in
+    let long : length (take n bs) ≡ n = omega (arith, l, length-take n bs) in
+    let some : nat_lt 0 (length (take n bs)) ≡ true = (let q : 0 < length (take n bs) = omega (arith, long, h) in grind (arith, nat_tests)) in
+    (ap (λ b. b && list_all plain (take n bs)) some ∙ p.0, p.1)

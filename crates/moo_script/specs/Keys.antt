@@ -14,4 +14,4 @@ is_key ds = (length ds == 64) && list_all is_hexadecimal ds
 
 -- the digits spell these bytes
 abbrev pub Spells : List ℕ → List ℕ → Type 0
-Spells ds key = (i : ℕ) → i < 32 → slice_index key i ≡ hexadecimal_value (slice_index ds (2 * i)) * 16 + hexadecimal_value (slice_index ds (2 * i + 1))
+Spells ds key = (length key ≡ 32) × ((i : ℕ) → i < 32 → slice_index key i ≡ hexadecimal_value (slice_index ds (2 * i)) * 16 + hexadecimal_value (slice_index ds (2 * i + 1)))

@@ -1,7 +1,8 @@
 //! Reading a script.
-ghost use Rattle.std.specs.Prelude.{◌≡◌, ◌++◌, ◌<◌, length, codes, IfSome, IfOk, IfErr, IsTrue, IsFalse, MatchOption};
+ghost use Rattle.std.specs.Prelude.{◌≡◌, ◌++◌, ◌∷◌, ◌==◌, ℕ, List, length, codes, position, IfSome, IfOk, IfErr, IsTrue, IsFalse, MatchOption};
 ghost use Rattle.moo_spec.specs.Datum.{is_text};
 ghost use Rattle.moo_script.specs.Lines.{Says, IsRefused};
+ghost use Rattle.moo_script.specs.Scripts.{is_one_line, GivesKey, GiveSteps, IsScript, IsBodyFault, Fault, IsFault};
 
 use crate::fault::{LineFault, ScriptFault};
 use crate::fields::{is_field, split_field};
@@ -30,9 +31,30 @@ pub fn read_script(
     alloc: Global,
     script: &[u8],
     first_number: u32,
-) -> Result<Vec<Step>, ScriptFault> {
+) -> Result<Vec<Step>, ScriptFault>
+    ensures says { IfOk result (λ steps. IsScript script.now first_number steps.items) }
+    ensures fault { IfErr result (λ f. IsFault script.now f) }
+{
+    let (key, body) = match read_first(script) {
+        Ok(first) => first,
+        Err(kind) => return Err(ScriptFault::Line { line: 1, kind }),
+    };
+    read_body(alloc, body, key, first_number)
+}
+
+// The steps of the lines behind the first one.
+#[tactic(auto, using(crate::proofs::Scripts::begun, crate::proofs::Scripts::steps_given))]
+fn read_body(
+    alloc: Global,
+    body: &[u8],
+    key: [u8; 32],
+    first_number: u32,
+) -> Result<Vec<Step>, ScriptFault>
+    ensures says { IfOk result (λ steps. GiveSteps body.now key first_number steps.items) }
+    ensures fault { IfErr result (λ f. IsBodyFault body.now f) }
+{
     let mut steps = Vec::new(alloc);
-    let (key, mut rest) = read_first(script)?;
+    let mut rest = body;
     let mut moment = 0u32;
     let mut number = first_number;
     let mut line = 1usize;
@@ -44,19 +66,23 @@ pub fn read_script(
                 kind: LineFault::Word,
             });
         };
-        rest = after;
         match read_line(alloc, text) {
-            Ok(Command::Moment(seconds)) => moment = seconds,
+            Ok(Command::Moment(seconds)) => {
+                moment = seconds;
+                rest = after;
+            }
             Ok(Command::Event(event)) => {
-                steps
-                    .push(Step {
-                        number,
-                        moment,
-                        key,
-                        event,
-                    })
-                    .map_err(AllocError::from)?;
+                let step = Step {
+                    number,
+                    moment,
+                    key,
+                    event,
+                };
+                if let Err(error) = steps.push(step) {
+                    return Err(ScriptFault::Memory(AllocError::from(error)));
+                }
                 number = number.saturating_add(1);
+                rest = after;
             }
             Err(Refusal::Fault(kind)) => return Err(ScriptFault::Line { line, kind }),
             Err(Refusal::Memory(error)) => return Err(ScriptFault::Memory(error)),
@@ -65,37 +91,48 @@ pub fn read_script(
     Ok(steps)
 }
 
-// The key of the first line, and the lines after it.
-fn read_first(script: &[u8]) -> Result<([u8; 32], &[u8]), ScriptFault> {
-    let (text, after) = match split_line(script) {
-        Some((text, after)) => (text, Some(after)),
-        None => (script, None),
+// The key of the first line, and the lines after it; or what is wrong with the first line.
+#[tactic(auto, using(crate::proofs::Scripts::first_says, crate::proofs::Scripts::first_key, crate::proofs::Scripts::first_alone))]
+fn read_first(script: &[u8]) -> Result<([u8; 32], &[u8]), LineFault>
+    ensures says { IfOk result (λ p. (line : List ℕ) × (script.now ≡ line ++ 10 ∷ p.1.now) × GivesKey line p.0) }
+    ensures fault { IfErr result (λ kind. Fault script.now 1 kind) }
+{
+    let Some((line, body)) = split_line(script) else {
+        return match read_key_line(script) {
+            Some(_) => Err(LineFault::Word),
+            None => Err(LineFault::Key),
+        };
     };
-    let Some(key) = read_key_line(text) else {
-        return Err(ScriptFault::Line {
-            line: 1,
-            kind: LineFault::Key,
-        });
-    };
-    match after {
-        Some(after) => Ok((key, after)),
-        None => Err(ScriptFault::Line {
-            line: 1,
-            kind: LineFault::Word,
-        }),
+    match read_key_line(line) {
+        Some(key) => Ok((key, body)),
+        None => Err(LineFault::Key),
     }
 }
 
-fn read_key_line(line: &[u8]) -> Option<[u8; 32]> {
-    read_key(line.strip_prefix(b"key ".as_slice())?)
+#[tactic(auto, using(crate::proofs::Scripts::gives_key, crate::proofs::Scripts::no_key_word, crate::proofs::Scripts::no_key_digits))]
+fn read_key_line(line: &[u8]) -> Option<[u8; 32]>
+    ensures { MatchOption result ((key : List ℕ) → GivesKey line.now key → ⊥) (λ key. GivesKey line.now key) }
+{
+    let Some(digits) = line.strip_prefix(b"key ".as_slice()) else {
+        return None;
+    };
+    read_key(digits)
 }
 
 // The first line without its line end, and what follows it.
-fn split_line(script: &[u8]) -> Option<(&[u8], &[u8])>
-    ensures { IfSome result (λ p. length (p.1).now < length script.now) }
+fn split_line(bytes: &[u8]) -> Option<(&[u8], &[u8])>
+    ensures { MatchOption result (IsTrue (is_one_line bytes.now)) (λ p. IsTrue (is_one_line p.0.now) × (bytes.now ≡ p.0.now ++ 10 ∷ p.1.now)) }
 {
-    let at = script.iter().position(|byte| *byte == b'\n')?;
-    Some((&script[..at], &script[at + 1..]))
+    let Some(at) = find_end(bytes) else {
+        return None;
+    };
+    Some((&bytes[..at], &bytes[at + 1..]))
+}
+
+fn find_end(bytes: &[u8]) -> Option<usize>
+    ensures { result ≡ position (λ b. b == 10) bytes.now }
+{
+    bytes.iter().position(|byte| *byte == b'\n')
 }
 
 // What a line after the first one says, or the first kind of fault that it has.

@@ -1,4 +1,7 @@
 //! One run of `moo-play`.
+ghost use Rattle.std.specs.Prelude.{◌≡◌, ◌⊎◌, IfSome, IfOk, IsOk, IsTrue, is_some, MatchOption};
+ghost use Rattle.moo_server.specs.Runs.{Ran, RanInPart};
+
 use crate::printing::print_outcome;
 use moo_script::fault::{LineFault, ScriptFault};
 use moo_script::number::read_number;
@@ -35,7 +38,12 @@ pub fn play_script<G: Gate, R: Threads + Wait + Sync, W: Write, E: Write>(
     script: Result<Vec<u8>, String>,
     out: &mut W,
     errors: &mut E,
-) -> (Option<World>, u8) {
+) -> (Option<World>, u8)
+    ensures done { result.1 ≡ 0 → IsOk world × IsOk script × IsTrue (is_some result.0) }
+    ensures whole { IfOk world (λ w. IfOk script (λ s. IfSome result.0 (λ after. result.1 ≡ 0 → Ran w.plain s.items after.plain))) }
+    ensures part { IfOk world (λ w. IfOk script (λ s. IfSome result.0 (λ after. result.1 ≡ 3 → RanInPart w.plain s.items after.plain))) }
+    ensures status { MatchOption result.0 ((result.1 ≡ 2) ⊎ (result.1 ≡ 3)) (λ after. (result.1 ≡ 0) ⊎ (result.1 ≡ 3)) }
+{
     let Some(workers) = read_workers(workers) else {
         return (None, refuse(errors, "workers"));
     };
@@ -69,23 +77,32 @@ pub fn read_workers(word: &str) -> Option<usize> {
 }
 
 /// Says that memory ran out after so many steps.
-pub fn stopped<E: Write>(errors: &mut E, count: usize) -> u8 {
+pub fn stopped<E: Write>(errors: &mut E, count: usize) -> u8
+    ensures { result ≡ 3 }
+{
     let _ = writeln!(errors, "stopped after {count}");
     STOPPED
 }
 
 /// Says what is wrong, in a line that begins with the program's name.
-pub fn refuse<E: Write>(errors: &mut E, fault: &str) -> u8 {
+pub fn refuse<E: Write>(errors: &mut E, fault: &str) -> u8
+    ensures { result ≡ 2 }
+{
     let _ = writeln!(errors, "moo-play: {fault}");
     FAULT
 }
 
-// The number of the first step. A world whose numbers are used up has none; its list is then refused.
-fn first_number(world: &World) -> u32 {
-    u32::try_from(world.next()).unwrap_or(u32::MAX)
+// The number of the first step. A world whose numbers are used up has one that is out of range; its list is then refused.
+fn first_number(world: &World) -> u32
+    ensures { result ≡ world.now.plain.next }
+{
+    world.know();
+    world.next() as u32
 }
 
-fn refuse_script<E: Write>(errors: &mut E, fault: &ScriptFault) -> u8 {
+fn refuse_script<E: Write>(errors: &mut E, fault: &ScriptFault) -> u8
+    ensures { (result ≡ 2) ⊎ (result ≡ 3) }
+{
     match fault {
         ScriptFault::Line { line, kind } => {
             let name = fault_name(*kind);
@@ -111,7 +128,9 @@ fn refuse_list<W: Write, E: Write>(
     errors: &mut E,
     steps: &[Step],
     partial: Partial,
-) -> (Option<World>, u8) {
+) -> (Option<World>, u8)
+    ensures { MatchOption result.0 (result.1 ≡ 2) (λ w. (w ≡ partial.world) × (result.1 ≡ 3)) }
+{
     match partial.refusal {
         Refusal::Workers => (None, refuse(errors, "workers")),
         Refusal::Numbers => (None, refuse(errors, "numbers")),
@@ -133,7 +152,9 @@ fn conclude<W: Write>(
     steps: &[Step],
     outcomes: &[Outcome],
     status: u8,
-) -> (Option<World>, u8) {
+) -> (Option<World>, u8)
+    ensures { MatchOption result.0 (result.1 ≡ 2) (λ w. (w ≡ world) × (result.1 ≡ status)) }
+{
     match print_all(alloc, out, steps, outcomes) {
         Ok(()) => (Some(world), status),
         Err(_) => (None, FAULT),

@@ -50,10 +50,37 @@ wants "workers before files" 2 '' 'moo-play: workers\n'
 
 run fixture
 [ "$status" -eq 2 ] || fail "no script: status $status"
-[ -s "$work/errors" ] || fail "no script: nothing on standard error"
+grep -q '^Usage: moo-play ' "$work/errors" || fail "no script: no usage of moo-play"
 
+# The help names the program, and says that FILE is not written yet.
 run --help
 [ "$status" -eq 0 ] || fail "help: status $status"
+grep -q '^Usage: moo-play ' "$work/out" || fail "help: no usage of moo-play"
+grep -q 'nothing is written' "$work/out" || fail "help: nothing said of --out"
+[ -s "$work/errors" ] && fail "help: $(head -c 200 "$work/errors")"
+
+# FILE is read and unused.
+run fixture "$work/key" --out "$work/file"
+wants "a file for the checkpoint" 0 '' ''
+[ -e "$work/file" ] && fail "a file for the checkpoint was written"
+
+# A word that is not UTF-8 names no file.
+run fixture "$(printf 'caf\351')" --workers 2
+wants "a word that is not UTF-8" 2 '' 'moo-play: cannot read caf\0351\n'
+run "$(printf '\377')" "$work/none" --workers 0
+wants "a world that is not UTF-8" 2 '' 'moo-play: cannot read \0377\n'
+
+# The example of the page on scripts, which is also a file.
+example() {
+    awk -v wanted="$1" '/^```text$/ { n++; inside = n == wanted; next } /^```$/ { inside = 0 } inside' "$root/docs/SCRIPTS.md"
+}
+example 1 >"$work/example"
+cmp -s "$work/example" "$root/examples/fixture.script" || fail "the example of docs/SCRIPTS.md is not examples/fixture.script"
+for workers in 1 2; do
+    run fixture "$work/example" --workers "$workers"
+    [ "$status" -eq 0 ] || fail "the example: status $status"
+    example 2 | cmp -s - "$work/out" || fail "the example prints something else than docs/SCRIPTS.md says"
+done
 
 # A faulty line, with a second fault after it: the earliest line decides, in it the first kind of fault.
 faulty() {
@@ -109,6 +136,20 @@ refused 'line 0 count\n'
 refused 'line 1000000 count\n'
 refused 'line 1 count\nline 99999999999999999999 count\n'
 refused 'moment 2147483648\nline 1 count\n'
+refused 'line 1 count\nmoment 99999999999\nline 1 count\nmoment 0\n'
+
+# A moment out of range that no step happens at is not refused, and moments may fall.
+{ printf '%s\n' "$key"; printf 'moment 9\nline 1 count\nmoment 99999999999\nmoment 3\nline 2 count\nmoment 2147483648\n'; } >"$work/moments"
+run fixture "$work/moments" --workers 2
+wants "moments" 0 'step 1 value 1 ticks 5\nstep 2 value 2 ticks 5\n' ''
+
+# Numbers are refused before the first line is printed, however late the step stands.
+{ printf '%s\n' "$key"; yes 'line 1 count' | head -n 10000; printf 'line 0 count\n'; } >"$work/late"
+run fixture "$work/late"
+wants "a late step out of range" 2 '' 'moo-play: numbers\n'
+{ printf '%s\n' "$key"; yes 'line 1 count' | head -n 10000; printf 'lin\n'; } >"$work/late"
+run fixture "$work/late"
+wants "a late fault" 2 '' 'moo-play: script: line 10002: Word\n'
 
 for workers in 0 x 064 01 '1 ' ''; do
     run fixture "$work/key" --workers "$workers"
@@ -129,6 +170,9 @@ if [ -e /dev/full ]; then
     status=$?
     : >"$work/out"
     wants "a full device" 2 '' ''
+    "$play" --help >/dev/full 2>"$work/errors"
+    status=$?
+    wants "help to a full device" 2 '' ''
 fi
 
 # 100,000 lines.
@@ -140,6 +184,30 @@ run fixture "$work/long" --workers 4
 [ "$status" -eq 0 ] || fail "100,000 lines: status $status"
 [ "$(wc -l <"$work/out")" -eq 100000 ] || fail "100,000 lines: $(wc -l <"$work/out") lines of output"
 [ "$(tail -n 1 "$work/out")" = "step 100000 value 100000 ticks 5" ] || fail "100,000 lines: $(tail -n 1 "$work/out")"
+
+# The lines of steps are there before the run has ended: a reader that takes the first line alone ends the run early.
+first=$("$play" fixture "$work/long" --workers 2 2>/dev/null | head -n 1)
+[ "$first" = "step 1 value 1 ticks 5" ] || fail "the first line of many: $first"
+
+# 1,000,000 lines in less than 300 MB, where the system tells what was resident.
+if command -v python3 >/dev/null 2>&1; then
+    {
+        printf '%s\n' "$key"
+        yes 'line 1 count' | head -n 1000000
+    } >"$work/million"
+    for workers in 1 2; do
+        python3 - "$play" "$work/million" "$workers" >"$work/resident" <<'END'
+import resource, subprocess, sys
+play, script, workers = sys.argv[1:]
+with subprocess.Popen([play, "fixture", script, "--workers", workers], stdout=subprocess.PIPE) as run:
+    last = None
+    for last in run.stdout:
+        pass
+print(run.returncode, last.decode().strip(), resource.getrusage(resource.RUSAGE_CHILDREN).ru_maxrss < 300_000)
+END
+        [ "$(cat "$work/resident")" = "0 step 1000000 value 1000000 ticks 5 True" ] || fail "1,000,000 lines, $workers workers: $(cat "$work/resident")"
+    done
+fi
 
 # 100 MB without a line end.
 head -c 100000000 /dev/zero | tr '\0' 'a' >"$work/wide"

@@ -2,11 +2,11 @@
 use Rattle.std.proofs.Common.{◌≡◌, ℕ, ◌+◌, ◌<◌, List, [], ◌∷◌, ◌++◌, length, get_or, drop, refl, ap, sym, ◌∙◌, arith, add-one, ℤ, pos, negsuc, drop-cons, Option, Some, None, min, ◌*◌, ◌^◌, ◌-◌, option_map, Bool, true, false, if◌then◌else◌}
 use lib.Signed.{◌<ℤ◌, ◌≤ℤ◌}
 use Rattle.std.proofs.lemmas.Int.{ints}
-use Rattle.moo_spec.specs.Tree.{negation}
-use Rattle.moo_spec.specs.Datum.{Datum, integer}
-use Rattle.moo_spec.specs.Literal.{to_text}
-use Rattle.moo_spec.specs.Operators.{unary_value}
-use Rattle.moo_spec.specs.PureBuiltins.{joined_texts, absolute, digits_value, is_digit, all_spaces}
+use Rattle.spec_value.specs.Operators.{negation}
+use Rattle.spec_value.specs.Datum.{Datum, integer}
+use Rattle.spec_value.specs.Literal.{to_text}
+use Rattle.spec_value.specs.Operators.{unary_value}
+use Rattle.spec_value.specs.PureBuiltins.{joined_texts, absolute, digits_value, is_digit, all_spaces}
 
 pub joined_on : (xs : List Datum) (i : ℕ) (d : Datum) → i < length xs → joined_texts (drop i xs) ≡ to_text (get_or xs i d) ++ joined_texts (drop (i + 1) xs)
 joined_on xs i d h = ap joined_texts (drop-cons xs i d h) ∙ ap (λ k. to_text (get_or xs i d) ++ joined_texts (drop k xs)) (sym (add-one i))

@@ -1,7 +1,7 @@
 -- The functions of the definitions, by their names here and in programs.
 use Rattle.std.specs.Prelude.{if◌then◌else◌, codes, List, [], ◌∷◌, Option, Some, None}
-use Rattle.moo_spec.specs.Datum.{Text, same_text}
-use Rattle.moo_spec.specs.PureBuiltins.{PureFunction as PureFunctionOf, typeof_row, tostr_row, toliteral_row, toint_row, toobj_row, equal_row, length_row, is_member_row, listappend_row, listinsert_row, listdelete_row, listset_row, setadd_row, setremove_row, index_row, rindex_row, strcmp_row, strsub_row, abs_row, min_row, max_row}
+use Rattle.spec_value.specs.Datum.{Text, same_text}
+use Rattle.spec_value.specs.PureBuiltins.{PureFunction as PureFunctionOf, typeof_row, tostr_row, toliteral_row, toint_row, toobj_row, equal_row, length_row, is_member_row, listappend_row, listinsert_row, listdelete_row, listset_row, setadd_row, setremove_row, index_row, rindex_row, strcmp_row, strsub_row, abs_row, min_row, max_row}
 use Rattle.builtins_value.specs.declared.function.PureFunction.{PureFunction}
 use Rattle.builtins_value.specs.declared.function.PureFunction.TheVariants.{Typeof, Tostr, Toliteral, Toint, Toobj, Equal, Length, IsMember, Listappend, Listinsert, Listdelete, Listset, Setadd, Setremove, Index, Rindex, Strcmp, Strsub, Abs, Min, Max}
 

@@ -1,7 +1,7 @@
 //! The functions by their names.
 ghost use Rattle.std.specs.Prelude.{◌≡◌, length, IfOk, IsTrue};
-ghost use Rattle.moo_spec.specs.Answer.{limited_answer as limited_answer_of};
-ghost use Rattle.moo_spec.specs.PureBuiltins.{takes as takes_of, row as row_of, call_value};
+ghost use Rattle.spec_value.specs.Answer.{limited_answer as limited_answer_of};
+ghost use Rattle.spec_value.specs.PureBuiltins.{takes as takes_of, row as row_of, call_value};
 ghost use Rattle.builtins_value.specs.Functions.{function_of};
 ghost use Rattle.moo_value.specs.Answers.{answer_of};
 

@@ -1,10 +1,10 @@
 //! Lists: membership, and lists with an item more, less or changed. A list that has no other owner is changed in place.
 ghost use Rattle.std.specs.Prelude.{◌≡◌, ◌≢◌, ◌<◌, ◌≤◌, ◌∷◌, [], length, min, option_to_list, IfOk, IfSome, IfNone, IsTrue};
-ghost use Rattle.moo_spec.specs.Datum.{same, of_list};
-ghost use Rattle.moo_spec.specs.Operators.{alike, first_place};
-ghost use Rattle.moo_spec.specs.PureBuiltins.{row, takes, is_member_row, listappend_row as listappend_of_row, listinsert_row as listinsert_of_row, listdelete_row as listdelete_of_row, setadd_row as setadd_of_row, setremove_row as setremove_of_row, listset_row as listset_of_row, listappend as listappend_of, listinsert as listinsert_of, listdelete as listdelete_of, listset as listset_of, setadd as setadd_of, setremove as setremove_of};
-ghost use Rattle.moo_spec.specs.Answer.{gives};
-ghost use Rattle.moo_spec.specs.Places.{item_count, length_of_list, list_inserted};
+ghost use Rattle.spec_value.specs.Datum.{same, of_list};
+ghost use Rattle.spec_value.specs.Operators.{alike, first_place};
+ghost use Rattle.spec_value.specs.PureBuiltins.{row, takes, is_member_row, listappend_row as listappend_of_row, listinsert_row as listinsert_of_row, listdelete_row as listdelete_of_row, setadd_row as setadd_of_row, setremove_row as setremove_of_row, listset_row as listset_of_row, listappend as listappend_of, listinsert as listinsert_of, listdelete as listdelete_of, listset as listset_of, setadd as setadd_of, setremove as setremove_of};
+ghost use Rattle.spec_value.specs.Answer.{gives};
+ghost use Rattle.spec_value.specs.Places.{item_count, length_of_list, list_inserted};
 ghost use Rattle.moo_value.specs.Answers.{answer_of};
 
 use crate::values::is_equal;

@@ -1,6 +1,6 @@
 //! Numbers: of values and texts, and choices among them. None takes memory.
 ghost use Rattle.std.specs.Prelude.{◌≡◌, ◌≤◌, ◌^◌, ◌*◌, ◌+◌, ◌-◌, ℕ, length, min as least, IfSome, option_map, option_copied};
-ghost use Rattle.moo_spec.specs.PureBuiltins.{row, toint_row, toobj_row, abs_row, min_row, max_row, number_in as number_in_of, object_in as object_in_of, signed_number as signed_number_of, without_spaces as without_spaces_of, after_mark as after_mark_of, all_spaces as all_spaces_of, numeral as numeral_of, starts_with_digit as starts_with_digit_of, is_digit as is_digit_of, positive as positive_of, negative as negative_of};
+ghost use Rattle.spec_value.specs.PureBuiltins.{row, toint_row, toobj_row, abs_row, min_row, max_row, number_in as number_in_of, object_in as object_in_of, signed_number as signed_number_of, without_spaces as without_spaces_of, after_mark as after_mark_of, all_spaces as all_spaces_of, numeral as numeral_of, starts_with_digit as starts_with_digit_of, is_digit as is_digit_of, positive as positive_of, negative as negative_of};
 ghost use Rattle.moo_value.specs.Answers.{answer_of};
 
 use moo_arith::arithmetic::negate;

@@ -1,8 +1,8 @@
 //! Search, comparison and replacement in texts.
 ghost use Rattle.std.specs.Prelude.{◌≡◌, IfOk};
-ghost use Rattle.moo_spec.specs.PureBuiltins.{row, index_row, rindex_row, strcmp_row, strsub_row, case_counts as case_counts_of};
-ghost use Rattle.moo_spec.specs.Operators.{counted as counted_of};
-ghost use Rattle.moo_spec.specs.Answer.{limited_answer};
+ghost use Rattle.spec_value.specs.PureBuiltins.{row, index_row, rindex_row, strcmp_row, strsub_row, case_counts as case_counts_of};
+ghost use Rattle.spec_value.specs.Operators.{counted as counted_of};
+ghost use Rattle.spec_value.specs.Answer.{limited_answer};
 ghost use Rattle.moo_value.specs.Answers.{answer_of};
 
 use moo_text::replace::substitute_text;

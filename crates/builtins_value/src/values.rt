@@ -1,8 +1,8 @@
 //! Kinds of values, texts of them, and comparisons.
 ghost use Rattle.std.specs.Prelude.{◌≡◌, ◌++◌, IfOk, OnOk, string_bytes};
-ghost use Rattle.moo_spec.specs.PureBuiltins.{row, typeof_row, tostr_row, toliteral_row, equal_row, length_row, joined_texts};
-ghost use Rattle.moo_spec.specs.Datum.{same, of_list};
-ghost use Rattle.moo_spec.specs.Places.{item_count as item_count_of};
+ghost use Rattle.spec_value.specs.PureBuiltins.{row, typeof_row, tostr_row, toliteral_row, equal_row, length_row, joined_texts};
+ghost use Rattle.spec_value.specs.Datum.{same, of_list};
+ghost use Rattle.spec_value.specs.Places.{item_count as item_count_of};
 ghost use Rattle.moo_value.specs.Answers.{answer_of};
 
 use moo_value::answer::Answer;

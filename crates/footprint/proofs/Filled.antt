@@ -1,9 +1,9 @@
 -- Slots with another value in one.
 use Rattle.std.proofs.Common.{◌≡◌, ℕ, ◌<◌, List, length, Option, Some, None, IsTrue, sym, ◌∙◌, ap, subst, get_or, option_map}
 use Rattle.std.proofs.Math.ListN.{set}
-use Rattle.moo_spec.specs.Datum.{Datum, Text}
-use Rattle.moo_spec.specs.World.{Slot}
-use Rattle.moo_spec.specs.Table.{named, with_name, is_named}
+use Rattle.spec_value.specs.Datum.{Datum, Text}
+use Rattle.spec_world.specs.World.{Slot}
+use Rattle.spec_value.specs.Table.{named, with_name, is_named}
 use Rattle.footprint.proofs.Named.{set_there, set_keeps_order, one_item}
 
 abbrev pub with_content : Slot → Datum → Slot

@@ -10,8 +10,8 @@ use Rattle.std.specs.Cmp.Lexicographic.{slice_cmp, nat_list_cmp_total}
 use Rattle.std.specs.FinMap.Entries.{below_all, by_order, is_sorted-put}
 use Rattle.std.proofs.lemmas.Bool.{and_parts}
 use Rattle.std.specs.FinMap.{find, put, is_sorted, slice_cmp-IsAntisymmetric, nat_cmp-IsAntisymmetric}
-use Rattle.moo_spec.specs.Datum.{Text, fold_case}
-use Rattle.moo_spec.specs.Table.{Named, named, with_name, is_named}
+use Rattle.spec_value.specs.Datum.{Text, fold_case}
+use Rattle.spec_value.specs.Table.{Named, named, with_name, is_named}
 
 to_T : {b : Bool} → IsTrue b → T b
 to_T {b = b} e = subst T (sym e) tt

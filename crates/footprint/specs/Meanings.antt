@@ -1,14 +1,14 @@
 -- What the records and the questions of this crate mean.
 use Rattle.std.specs.Prelude.{List, map}
-use Rattle.moo_spec.specs.World.{ObjectPart, no_object, any_object, this_object, PrepositionPart, no_preposition, any_preposition, preposition_set}
-use Rattle.moo_spec.specs.Questions as meant
-use Rattle.moo_spec.specs.Questions.{about_header, about_slot, about_verbs, about_link, about_ending, the_header, the_slot, the_verbs, the_link, the_ending, new_value}
+use Rattle.spec_world.specs.World.{ObjectPart, no_object, any_object, this_object, PrepositionPart, no_preposition, any_preposition, preposition_set}
+use Rattle.spec_world.specs.Questions as meant
+use Rattle.spec_world.specs.Questions.{about_header, about_slot, about_verbs, about_link, about_ending, the_header, the_slot, the_verbs, the_link, the_ending, new_value, new_next}
 use Rattle.footprint.specs.declared.question.Question.{Question}
 use Rattle.footprint.specs.declared.question.Question.TheVariants.{Header as HeaderOf, Slot as SlotOf, Verbs as VerbsOf, Link as LinkOf, Ending as EndingOf}
 use Rattle.footprint.specs.declared.question.Answer.{Answer}
 use Rattle.footprint.specs.declared.question.Answer.TheVariants.{Header, Slot, Verbs, Link, Ending}
 use Rattle.footprint.specs.declared.change.Change.{Change}
-use Rattle.footprint.specs.declared.change.Change.TheVariants.{Value}
+use Rattle.footprint.specs.declared.change.Change.TheVariants.{Value, Next}
 
 abbrev pub question_of : Question → meant.Question
 question_of (HeaderOf o) = about_header o
@@ -26,3 +26,4 @@ answer_of (Ending b) = the_ending b
 
 abbrev pub change_of : Change → meant.Change
 change_of (Value o p v) = new_value o p v
+change_of (Next n) = new_next n

@@ -1,6 +1,6 @@
 -- The parts of a verb's argument specifier, by the names of the definitions.
-use Rattle.moo_spec.specs.World as meant
-use Rattle.moo_spec.specs.World.{no_object, any_object, this_object, no_preposition, any_preposition, preposition_set}
+use Rattle.spec_world.specs.World as meant
+use Rattle.spec_world.specs.World.{no_object, any_object, this_object, no_preposition, any_preposition, preposition_set}
 use Rattle.footprint.specs.declared.verb.ObjectPart.{ObjectPart}
 use Rattle.footprint.specs.declared.verb.ObjectPart.TheVariants.{Absent, Any, This}
 use Rattle.footprint.specs.declared.verb.PrepositionPart.{PrepositionPart}

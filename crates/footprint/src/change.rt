@@ -10,6 +10,8 @@ use std::alloc::AllocError;
 pub enum Change {
     /// A property's slot on an object has another value. Where there is no such slot nothing changes.
     Value(i32, Text, Value),
+    /// The next step has at least this number.
+    Next(u64),
 }
 
 impl Clone for Change {
@@ -20,6 +22,7 @@ impl Clone for Change {
             Change::Value(object, name, value) => {
                 Ok(Change::Value(*object, name.clone()?, value.clone()?))
             }
+            Change::Next(next) => Ok(Change::Next(*next)),
         }
     }
 }

@@ -21,8 +21,8 @@ pub struct Header {
 }
 
 impl Model for Header {
-    ghost use Rattle.moo_spec.specs.Questions.{Header as Meant};
-    ghost use Rattle.footprint.specs.QuestionCode.{header_code};
+    ghost use Rattle.spec_world.specs.World.{Header as Meant};
+    ghost use Rattle.spec_world.specs.WorldCode.{header_code};
 
     ghost Value = { Meant };
 

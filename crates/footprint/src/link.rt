@@ -12,8 +12,8 @@ pub struct Link {
 
 impl Model for Link {
     ghost use Rattle.std.specs.Prelude.{None};
-    ghost use Rattle.moo_spec.specs.World.{Link as Meant};
-    ghost use Rattle.moo_spec.specs.WorldCode.{link_code};
+    ghost use Rattle.spec_world.specs.World.{Link as Meant};
+    ghost use Rattle.spec_world.specs.WorldCode.{link_code};
 
     ghost Value = { Meant };
 

@@ -1,7 +1,7 @@
 //! Objects.
 ghost use Rattle.std.specs.Prelude.{◌≡◌, IfOk};
-ghost use Rattle.moo_spec.specs.Datum.{fold_case};
-ghost use Rattle.moo_spec.specs.Table.{named, with_name};
+ghost use Rattle.spec_value.specs.Datum.{fold_case};
+ghost use Rattle.spec_value.specs.Table.{named, with_name};
 
 use crate::header::Header;
 use crate::slot::Slot;
@@ -32,26 +32,17 @@ pub struct Lists {
 
 impl Model for Object {
     ghost use Rattle.std.specs.Arc.{arc_value};
-    ghost use Rattle.moo_spec.specs.World.{Object as Meant};
-    ghost use Rattle.moo_spec.specs.WorldCode.{object_code};
+    ghost use Rattle.spec_world.specs.World.{Object as Meant};
+    ghost use Rattle.spec_world.specs.WorldCode.{object_code};
 
     ghost Value = { Meant };
 
     ghost coded = { object_code };
 
     ghost view = { λ a. record {
-      name = a.header.name;
-      owner = a.header.owner;
-      parent = a.header.parent;
+      header = a.header;
       children = (arc_value a.lists).children.items;
-      location = a.header.location;
       contents = (arc_value a.lists).contents.items;
-      is_player = a.header.is_player;
-      is_programmer = a.header.is_programmer;
-      is_wizard = a.header.is_wizard;
-      readable = a.header.readable;
-      writable = a.header.writable;
-      fertile = a.header.fertile;
       defines = (arc_value a.lists).defines.items;
       slots = a.slots;
       verbs = a.verbs;
@@ -60,8 +51,6 @@ impl Model for Object {
 
 impl Object {
     ghost use Rattle.std.specs.Prelude.{option_map, Some};
-    ghost use Rattle.moo_spec.specs.Questions.{header as header_of};
-    ghost use Rattle.footprint.specs.ObjectParts.{object_of};
 
     /// An object of these parts.
     pub fn new(
@@ -71,7 +60,14 @@ impl Object {
         slots: Slots,
         verbs: Verbs,
     ) -> Result<Object, AllocError>
-        ensures { IfOk result (λ x. x ≡ object_of header lists.children.items lists.contents.items lists.defines.items slots verbs) }
+        ensures { IfOk result (λ x. x ≡ record {
+          header = header;
+          children = lists.children.items;
+          contents = lists.contents.items;
+          defines = lists.defines.items;
+          slots = slots;
+          verbs = verbs;
+        }) }
     {
         let lists = Arc::new(alloc, lists)?;
         Ok(Object {
@@ -84,7 +80,7 @@ impl Object {
 
     /// The header.
     pub fn header(&self) -> &Header
-        ensures { result.now ≡ header_of self.now }
+        ensures { result.now ≡ self.now.header }
     {
         &self.header
     }

@@ -1,6 +1,6 @@
 //! Comparisons of records and answers. None takes memory.
 ghost use Rattle.std.specs.Prelude.{◌≡◌, ◌↔◌, IsTrue, option_map};
-ghost use Rattle.moo_spec.specs.Questions.{the_header, the_slot, the_verbs, the_link, the_ending};
+ghost use Rattle.spec_world.specs.Questions.{the_header, the_slot, the_verbs, the_link, the_ending};
 ghost use Rattle.footprint.specs.Meanings.{answer_of};
 
 use crate::header::Header;

@@ -16,8 +16,8 @@ pub struct Slot {
 }
 
 impl Model for Slot {
-    ghost use Rattle.moo_spec.specs.World.{Slot as Meant};
-    ghost use Rattle.moo_spec.specs.WorldCode.{slot_code};
+    ghost use Rattle.spec_world.specs.World.{Slot as Meant};
+    ghost use Rattle.spec_world.specs.WorldCode.{slot_code};
 
     ghost Value = { Meant };
 

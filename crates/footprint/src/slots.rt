@@ -1,8 +1,8 @@
 //! The slots of an object.
 ghost use Rattle.std.specs.Prelude.{◌≡◌, ◌<◌, ◌↔◌, IfOk, IsTrue, Some, None, [], ◌∷◌, option_map, MatchOption, ℕ, slice_index_or, slice_set, length, vec_len};
-ghost use Rattle.moo_spec.specs.Datum.{Text as Characters, fold_case};
-ghost use Rattle.moo_spec.specs.World.{Slot as SlotOf};
-ghost use Rattle.moo_spec.specs.Table.{named, with_name};
+ghost use Rattle.spec_value.specs.Datum.{Text as Characters, fold_case};
+ghost use Rattle.spec_world.specs.World.{Slot as SlotOf};
+ghost use Rattle.spec_value.specs.Table.{named, with_name};
 
 use crate::slot::Slot;
 use moo_value::text::Text;
@@ -18,9 +18,9 @@ pub struct Slots {
 
 impl Model for Slots {
     ghost use Rattle.std.specs.Prelude.{IsTrue};
-    ghost use Rattle.moo_spec.specs.Table.{Named, is_named};
-    ghost use Rattle.moo_spec.specs.World.{Slot as Meant};
-    ghost use Rattle.moo_spec.specs.WorldCode.{named_code, slot_code};
+    ghost use Rattle.spec_value.specs.Table.{Named, is_named};
+    ghost use Rattle.spec_world.specs.World.{Slot as Meant};
+    ghost use Rattle.spec_world.specs.WorldCode.{named_code, slot_code};
 
     ghost Value = { Named Meant };
 

@@ -45,8 +45,8 @@ pub struct Verb {
 }
 
 impl Model for Verb {
-    ghost use Rattle.moo_spec.specs.World.{Verb as Meant};
-    ghost use Rattle.moo_spec.specs.WorldCode.{verb_code};
+    ghost use Rattle.spec_world.specs.World.{Verb as Meant};
+    ghost use Rattle.spec_world.specs.WorldCode.{verb_code};
 
     ghost Value = { Meant };
 
@@ -97,8 +97,8 @@ impl Model for Verbs {
     ghost use Rattle.std.specs.Prelude.{List};
     ghost use Rattle.std.specs.Coded.{coded_list};
     ghost use Rattle.std.specs.Arc.{arc_value};
-    ghost use Rattle.moo_spec.specs.World.{Verb as Meant};
-    ghost use Rattle.moo_spec.specs.WorldCode.{verb_code};
+    ghost use Rattle.spec_world.specs.World.{Verb as Meant};
+    ghost use Rattle.spec_world.specs.WorldCode.{verb_code};
 
     ghost Value = { List Meant };
 

@@ -4,10 +4,10 @@ use Rattle.std.specs.Prelude.{slice_get, replicate}
 use Rattle.std.proofs.lemmas.Bool.{false≢true}
 use Rattle.std.proofs.lemmas.Slice.Eq.{bytes_eq-Decides}
 use Rattle.std.proofs.lemmas.Map.Text.{is_eq-slice_cmp}
-use Rattle.moo_spec.specs.Datum.{Datum, Data, Text, same_text}
-use Rattle.moo_spec.specs.Table.{Named, named}
-use Rattle.moo_spec.specs.World.{Call, Start}
-use Rattle.moo_spec.specs.Commands.{starting}
+use Rattle.spec_value.specs.Datum.{Datum, Data, Text, same_text}
+use Rattle.spec_value.specs.Table.{Named, named}
+use Rattle.spec_world.specs.World.{Call, Start}
+use Rattle.spec_task.specs.Commands.{starting}
 use Rattle.moo_compiler.specs.Names.{place_in, starting_names}
 use Rattle.machine.specs.Stands.{joined, HasVariables, starting_values}
 

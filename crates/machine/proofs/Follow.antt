@@ -1,22 +1,24 @@
 -- One instruction does what some turns do.
 use Rattle.std.proofs.Common.{◌≡◌, ℕ, zero, suc, ◌+◌, Bool, true, false, cond, List, [], ◌∷◌, ◌++◌, Option, Some, None, refl, sym, ap, ◌∙◌, subst, append_assoc, zero-add, add-zero, arith}
 use Rattle.std.specs.Prelude.{pos, slice_get}
-use Rattle.moo_spec.specs.Datum.{Datum, Text, integer, error, ErrorCode, no_error, variable_not_found}
-use Rattle.moo_spec.specs.Answer.{Answer, gives as an_answer, raises as an_error}
-use Rattle.moo_spec.specs.Tree.{Expr, literal, variable, binary, plus, property, assignment, to_property, Statement, evaluate, give, give_zero, Program, the_end, seq}
-use Rattle.moo_spec.specs.Table.{named}
-use Rattle.moo_spec.specs.World.{World, of_expr, of_statement, of_program, Piece}
-use Rattle.moo_spec.specs.Place.{program_parts, nth}
-use Rattle.moo_spec.specs.Turn.{Focus, begin, hand, operate, next, leave, Leaving, returned, failed, failure, traced, Pending, goes_on, turn, begun, operated, received, part_ended, left, proceed, proceeding, failing, looked_up, answered as turned, sum, read, write}
-use Rattle.moo_spec.specs.Segment.{done, raised as a_raise, out_of_ticks, stopped, stop_of, Course, runs, stops, led, paying, after, Leads}
-use Rattle.moo_spec.proofs.Courses.{leads_on}
+use Rattle.spec_value.specs.Datum.{Datum, Text, integer, error, ErrorCode, no_error, variable_not_found}
+use Rattle.spec_value.specs.Answer.{Answer, gives as an_answer, raises as an_error}
+use Rattle.spec_program.specs.Tree.{Expr, literal, variable, binary, property, assignment, to_property, Statement, evaluate, give, give_zero, Program, the_end, seq}
+use Rattle.spec_value.specs.Operators.{binary_value}
+use Rattle.spec_value.specs.Table.{named}
+use Rattle.spec_world.specs.World.{World}
+use Rattle.spec_program.specs.Construct.{of_expr, of_statement, of_program, Piece}
+use Rattle.spec_program.specs.Place.{program_parts, nth}
+use Rattle.spec_task.specs.Turn.{Focus, begin, hand, operate, next, leave, Leaving, returned, failed, failure, traced, Pending, goes_on, turn, begun, operated, received, part_ended, left, proceed, proceeding, failing, looked_up, answered as turned, read, write}
+use Rattle.spec_task.specs.Segment.{done, raised as a_raise, out_of_ticks, stopped, stop_of, Course, runs, stops, led, paying, after, Leads}
+use Rattle.spec_task.proofs.Courses.{leads_on}
 use Rattle.moo_compiler.specs.declared.code.Instruction.{Instruction}
 use Rattle.moo_compiler.specs.declared.code.Instruction.TheVariants.{Load, Binary, ReadProperty, WriteProperty, Pop, Return}
-use Rattle.moo_value.specs.declared.operator.BinaryOperator.TheVariants.{Plus}
+use Rattle.moo_compiler.specs.Operators.{operator_named, operator_back}
 use Rattle.moo_compiler.specs.Names.{slot_of}
 use Rattle.moo_compiler.specs.Code.{expr_code, statement_code, program_code}
 use Rattle.machine.specs.Machine.{Step, on, returns, fails, lacks_rule, runs_out, lacks_operand, charged, raised, answered, loaded, act}
-use Rattle.machine.specs.Stands.{Waiting, plus_left, plus_right, read_object, read_name, write_object, write_name, write_value, Acting, evaluating, giving, piece, pieces_on, code_on, operands_on, acting_piece, acting_code, Standing, at_start, at_expr, at_value, at_statement, code_left, IsRest, RestFits, operands_of, Verb, pending, joined, HasVariables}
+use Rattle.machine.specs.Stands.{Waiting, binary_left, binary_right, read_object, read_name, write_object, write_name, write_value, Acting, evaluating, giving, piece, pieces_on, code_on, operands_on, acting_piece, acting_code, Standing, at_start, at_expr, at_value, at_statement, code_left, IsRest, RestFits, operands_of, Verb, pending, joined, HasVariables}
 use Rattle.machine.proofs.Appended.{two_parts, three_parts}
 
 abbrev pub head_of : List Instruction → Option Instruction
@@ -117,11 +119,11 @@ module _ (f : Verb) (names : List Text) (slots : List (Option Datum)) (has : Has
         (subst
         (λ o. Follows (Load (slot_of names x) ∷ code_on names ks rest) (led t (looked_up w (at (begin (of_expr (variable x))) (pieces_on ks outer)) (pieces_on ks outer) o)) (loaded w f.call pc (operands_on ks) slots (slice_get slots (slot_of names x)) t))
         (sym (has x)) (loads (begin (of_expr (variable x))) ks (Load (slot_of names x)) w pc t (slice_get slots (slot_of names x))))
-    evals (binary plus a b) ks w pc t =
+    evals (binary op a b) ks w pc t =
         subst
-        (λ code. Follows code (runs t w (pending f (at_expr (binary plus a b) ks d n r))) (act w f.call (head_of code) pc (operands_on ks) slots t))
-        (sym (two_parts (expr_code names a) (expr_code names b) (Binary Plus) (code_on names ks rest)))
-        (later _ _ (runs t w (pending f (at_expr a (plus_left a b ∷ ks) d n r))) _ (1, refl) (evals a (plus_left a b ∷ ks) w pc t))
+        (λ code. Follows code (runs t w (pending f (at_expr (binary op a b) ks d n r))) (act w f.call (head_of code) pc (operands_on ks) slots t))
+        (sym (two_parts (expr_code names a) (expr_code names b) (Binary (operator_named op)) (code_on names ks rest)))
+        (later _ _ (runs t w (pending f (at_expr a (binary_left op a b ∷ ks) d n r))) _ (1, refl) (evals a (binary_left op a b ∷ ks) w pc t))
     evals (property o p) ks w pc t =
         subst
         (λ code. Follows code (runs t w (pending f (at_expr (property o p) ks d n r))) (act w f.call (head_of code) pc (operands_on ks) slots t))
@@ -137,11 +139,16 @@ module _ (f : Verb) (names : List Text) (slots : List (Option Datum)) (has : Has
     gives : (ks : List Waiting) (v : Datum) (w : World) (pc t : ℕ)
         → Follows (code_on names ks rest) (runs t w (pending f (at_value v ks d n r))) (act w f.call (head_of (code_on names ks rest)) pc (v ∷ operands_on ks) slots t)
     unfolding after turn received operated
-    gives (plus_left a b ∷ ks) v w pc t =
-        later _ _ (runs t w (pending f (at_expr b (plus_right a b v ∷ ks) d n r))) _ (1, refl) (evals b (plus_right a b v ∷ ks) w pc t)
-    gives (plus_right a b x ∷ ks) v w pc t =
-        later _ _ (paying 1 t w (at (operate (of_expr (binary plus a b)) (x ∷ v ∷ [])) (pieces_on ks outer))) _ (2, refl)
-        (paid _ (operate (of_expr (binary plus a b)) (x ∷ v ∷ [])) (pieces_on ks outer) w t _ (λ m. answers (operate (of_expr (binary plus a b)) (x ∷ v ∷ [])) ks (Binary Plus) w pc m (sum x v)))
+    gives (binary_left op a b ∷ ks) v w pc t =
+        later _ _ (runs t w (pending f (at_expr b (binary_right op a b v ∷ ks) d n r))) _ (1, refl) (evals b (binary_right op a b v ∷ ks) w pc t)
+    gives (binary_right op a b x ∷ ks) v w pc t =
+        later _ _ (paying 1 t w (at (operate (of_expr (binary op a b)) (x ∷ v ∷ [])) (pieces_on ks outer))) _ (2, refl)
+        (subst
+        (λ o. Follows (Binary (operator_named op) ∷ code_on names ks rest) (paying 1 t w (at (operate (of_expr (binary op a b)) (x ∷ v ∷ [])) (pieces_on ks outer)))
+        (charged w t (answered w f.call pc (operands_on ks) slots (binary_value o x v))))
+        (sym (operator_back op))
+        (paid _ (operate (of_expr (binary op a b)) (x ∷ v ∷ [])) (pieces_on ks outer) w t _
+        (λ m. answers (operate (of_expr (binary op a b)) (x ∷ v ∷ [])) ks (Binary (operator_named op)) w pc m (binary_value op x v))))
     gives (read_object o p ∷ ks) v w pc t =
         later _ _ (runs t w (pending f (at_expr p (read_name o p v ∷ ks) d n r))) _ (1, refl) (evals p (read_name o p v ∷ ks) w pc t)
     gives (read_name o p x ∷ ks) v w pc t =

@@ -2,11 +2,11 @@
 use Rattle.std.proofs.Common.{◌≡◌, ℕ, zero, suc, ◌+◌, List, [], ◌∷◌, ◌++◌, length, map, drop, Option, Some, refl, sym, ap, ◌∙◌, subst, append_assoc, arith}
 use Rattle.std.specs.Prelude.{slice_get}
 use Rattle.std.proofs.lemmas.List.{append-nil, map-append, length-append, length-map}
-use Rattle.moo_spec.specs.Datum.{Text}
-use Rattle.moo_spec.specs.Tree.{Expr, binary, plus, property, assignment, to_property, Statement, evaluate, give, Program, the_end, seq}
-use Rattle.moo_spec.specs.World.{Construct, of_statement, of_program}
-use Rattle.moo_spec.specs.Place.{part_at, program_parts, nth, tree_of}
-use Rattle.moo_value.specs.declared.operator.BinaryOperator.TheVariants.{Plus}
+use Rattle.spec_value.specs.Datum.{Text}
+use Rattle.spec_program.specs.Tree.{Expr, binary, property, assignment, to_property, Statement, evaluate, give, Program, the_end, seq}
+use Rattle.spec_program.specs.Construct.{Construct, of_statement, of_program}
+use Rattle.spec_program.specs.Place.{part_at, program_parts, nth, tree_of}
+use Rattle.moo_compiler.specs.Operators.{operator_named}
 use Rattle.moo_compiler.specs.declared.code.Instruction.{Instruction}
 use Rattle.moo_compiler.specs.declared.code.Instruction.TheVariants.{Binary, ReadProperty, WriteProperty, Pop, Return}
 use Rattle.moo_compiler.specs.Names.{names_of}
@@ -25,15 +25,15 @@ one_length n a = omega (arith, length-append (map (λ x. n ∷ x) a) [], length-
 
 module _ (names : List Text) where
   pub expr_length : (e : Expr) → length (expr_places e) ≡ length (expr_code names e)
-  expr_length (binary plus a b) =
+  expr_length (binary op a b) =
       omega (
         arith,
         expr_length a,
         expr_length b,
         two_lengths 1 2 (expr_places a) (expr_places b),
         length-append (numbered 1 (expr_places a ∷ expr_places b ∷ [])) ([] ∷ []),
-        length-append (expr_code names a) (expr_code names b ++ Binary Plus ∷ []),
-        length-append (expr_code names b) (Binary Plus ∷ []),
+        length-append (expr_code names a) (expr_code names b ++ Binary (operator_named op) ∷ []),
+        length-append (expr_code names b) (Binary (operator_named op) ∷ []),
       )
   expr_length (property a b) =
       omega (

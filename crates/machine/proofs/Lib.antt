@@ -4,7 +4,6 @@ pub mod Follow
 pub mod InPlaces
 pub mod Messages
 pub mod OnePending
-pub mod PlusOperator
 pub mod PropertyRules
 pub mod Running
 pub mod RunsEnd

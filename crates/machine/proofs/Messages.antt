@@ -1,7 +1,7 @@
 -- The texts of errors are texts of the language.
 use Rattle.std.proofs.Common.{IsTrue, refl}
-use Rattle.moo_spec.specs.Datum.{is_text, ErrorCode, no_error, type_mismatch, zero_division, permission_denied, property_not_found, verb_not_found, variable_not_found, invalid_indirection, recursive_move, too_many_calls, range_error, wrong_argument_count, move_refused, invalid_argument, limit_exceeded, float_error}
-use Rattle.moo_spec.specs.Literal.{error_message}
+use Rattle.spec_value.specs.Datum.{is_text, ErrorCode, no_error, type_mismatch, zero_division, permission_denied, property_not_found, verb_not_found, variable_not_found, invalid_indirection, recursive_move, too_many_calls, range_error, wrong_argument_count, move_refused, invalid_argument, limit_exceeded, float_error}
+use Rattle.spec_value.specs.Literal.{error_message}
 
 pub message_is_text : (e : ErrorCode) → IsTrue (is_text (error_message e))
 message_is_text no_error = refl

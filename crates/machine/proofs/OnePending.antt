@@ -2,17 +2,18 @@
 use Rattle.std.proofs.Common.{◌≡◌, ℕ, zero, suc, ◌+◌, true, ◌&&◌, List, [], ◌∷◌, ◌++◌, length, drop, reverse, Option, Some, IsTrue, refl, sym, ap, ◌∙◌, subst, append_assoc, add-zero, zero-add, arith}
 use Rattle.std.specs.Prelude.{◌≢◌}
 use Rattle.std.proofs.lemmas.List.{append-nil, length-append, reverse-append}
-use Rattle.moo_spec.specs.Datum.{Datum, Text}
-use Rattle.moo_spec.specs.Tree.{Expr, literal, variable, binary, plus, property, assignment, to_property, Statement, evaluate, give, give_zero, Program, the_end, seq}
-use Rattle.moo_spec.specs.World.{World, Construct, of_expr, of_statement, of_program, Piece}
-use Rattle.moo_spec.specs.Place.{part, part_at, program_parts, nth, tree_of, Linked}
-use Rattle.moo_spec.specs.WellFormed.{part_fits, pieces_fit}
-use Rattle.moo_spec.specs.Turn.{Focus, begin, hand, next, Pending, Turned, goes_on, finishes, cost, turn, begun, received, part_ended, proceed, proceeding}
-use Rattle.moo_spec.specs.Segment.{Course, runs, stops, led, paying, after, Leads}
-use Rattle.moo_spec.specs.Standing.{Stands, StandsStill}
-use Rattle.moo_spec.proofs.Courses.{leads_on}
-use Rattle.moo_spec.proofs.TurnsStay.{turns_stay}
-use Rattle.moo_value.specs.declared.operator.BinaryOperator.TheVariants.{Plus}
+use Rattle.spec_value.specs.Datum.{Datum, Text}
+use Rattle.spec_program.specs.Tree.{Expr, literal, variable, binary, property, assignment, to_property, Statement, evaluate, give, give_zero, Program, the_end, seq}
+use Rattle.spec_world.specs.World.{World}
+use Rattle.spec_program.specs.Construct.{Construct, of_expr, of_statement, of_program, Piece}
+use Rattle.spec_program.specs.Place.{part, part_at, program_parts, nth, tree_of, Linked}
+use Rattle.spec_world.specs.WellFormed.{part_fits, pieces_fit}
+use Rattle.spec_task.specs.Turn.{Focus, begin, hand, next, Pending, Turned, goes_on, finishes, cost, turn, begun, received, part_ended, proceed, proceeding}
+use Rattle.spec_task.specs.Segment.{Course, runs, stops, led, paying, after, Leads}
+use Rattle.spec_task.specs.Standing.{Stands, StandsStill}
+use Rattle.spec_task.proofs.Courses.{leads_on}
+use Rattle.spec_task.proofs.TurnsStay.{turns_stay}
+use Rattle.moo_compiler.specs.Operators.{operator_named}
 use Rattle.moo_compiler.specs.declared.code.Instruction.{Instruction}
 use Rattle.moo_compiler.specs.declared.code.Instruction.TheVariants.{Push, Load, Binary, ReadProperty, WriteProperty, Pop, Return, ReturnZero, Missing}
 use Rattle.moo_compiler.specs.Names.{slot_of, names_of}
@@ -20,7 +21,7 @@ use Rattle.moo_compiler.specs.Code.{expr_code, statement_code, program_code, cod
 use Rattle.moo_compiler.specs.Places.{numbered, expr_places, statement_places, path_of, held_of}
 use Rattle.moo_compiler.specs.Performing.{operand_count, Performs}
 use Rattle.moo_compiler.proofs.StandsForOne.{stands_for_one}
-use Rattle.machine.specs.Stands.{Waiting, plus_left, plus_right, read_object, read_name, write_object, write_name, write_value, Acting, evaluating, giving, piece, pieces_on, code_on, operands_on, acting_piece, acting_code, Standing, at_start, at_expr, at_value, at_statement, code_left, IsRest, RestFits, operands_of, Verb, pending}
+use Rattle.machine.specs.Stands.{Waiting, binary_left, binary_right, read_object, read_name, write_object, write_name, write_value, Acting, evaluating, giving, piece, pieces_on, code_on, operands_on, acting_piece, acting_code, Standing, at_start, at_expr, at_value, at_statement, code_left, IsRest, RestFits, operands_of, Verb, pending}
 use Rattle.machine.specs.OnePending.{verb_with, before, LeadsSilently, RunsStandForOne, RunsStayInProgram}
 use Rattle.machine.proofs.Appended.{two_parts, three_parts}
 use Rattle.machine.proofs.InPlaces.{expr_length, Within, statement_within, in_parts, in_first, in_second, in_only, own_place}
@@ -86,8 +87,8 @@ module _ (f : Verb) where
         go : (x : Acting) → reverse (held_of (acting_piece x ∷ piece (of_program f.whole) n [] ∷ [])) ≡ []
         go (evaluating e) = refl
         go (giving e) = refl
-    held_back (plus_left a b ∷ ks) = ap reverse (append-nil (held_of (on ks))) ∙ held_back ks
-    held_back (plus_right a b x ∷ ks) = reverse-append (held_of (on ks)) (x ∷ []) ∙ ap (λ l. x ∷ l) (held_back ks)
+    held_back (binary_left op a b ∷ ks) = ap reverse (append-nil (held_of (on ks))) ∙ held_back ks
+    held_back (binary_right op a b x ∷ ks) = reverse-append (held_of (on ks)) (x ∷ []) ∙ ap (λ l. x ∷ l) (held_back ks)
     held_back (read_object o p ∷ ks) = ap reverse (append-nil (held_of (on ks))) ∙ held_back ks
     held_back (read_name o p x ∷ ks) = reverse-append (held_of (on ks)) (x ∷ []) ∙ ap (λ l. x ∷ l) (held_back ks)
     held_back (write_object o p e ∷ ks) = ap reverse (append-nil (held_of (on ks) ++ []) ∙ append-nil (held_of (on ks))) ∙ held_back ks
@@ -101,8 +102,8 @@ module _ (f : Verb) where
         go : (x : Acting) → Linked c (acting_piece x ∷ piece (of_program f.whole) n [] ∷ []) root → IsTrue (pieces_fit (acting_piece x ∷ piece (of_program f.whole) n [] ∷ []))
         go (evaluating e) h = program_piece_fits f.whole n (of_statement (evaluate e)) h.1.0
         go (giving e) h = program_piece_fits f.whole n (of_statement (give e)) h.1.0
-    fits (plus_left a b ∷ ks) c h = fits ks (of_expr (binary plus a b)) h.1
-    fits (plus_right a b x ∷ ks) c h = fits ks (of_expr (binary plus a b)) h.1
+    fits (binary_left op a b ∷ ks) c h = fits ks (of_expr (binary op a b)) h.1
+    fits (binary_right op a b x ∷ ks) c h = fits ks (of_expr (binary op a b)) h.1
     fits (read_object o p ∷ ks) c h = fits ks (of_expr (property o p)) h.1
     fits (read_name o p x ∷ ks) c h = fits ks (of_expr (property o p)) h.1
     fits (write_object o p e ∷ ks) c h = fits ks (of_expr (assignment (to_property o p) e)) h.1.1
@@ -121,13 +122,13 @@ module _ (f : Verb) where
         go (giving b) h =
             subst (λ c. Within f.whole (n ∷ 1 ∷ []) (expr_places c) (suc (length (program_code names r)))) (same_expr b e h.0)
             (in_only f.whole (n ∷ []) (expr_places b) (suc (length (program_code names r))) (in_parts f.whole (n ∷ []) (numbered 1 (expr_places b ∷ [])) (length (program_code names r)) (statement_within f.whole n (give b) r h.1.0 rest_is)))
-    there (plus_left a b ∷ ks) e h =
-        let whole = in_parts f.whole (path_of (on ks)) (numbered 1 (expr_places a ∷ expr_places b ∷ [])) (length (left ks)) (there ks (binary plus a b) h.1) in
-        let so_many : length (expr_places b) + suc (length (left ks)) ≡ length (expr_code names b ++ (Binary Plus ∷ left ks)) = omega (arith, expr_length names b, length-append (expr_code names b) (Binary Plus ∷ left ks)) in
-        subst (λ c. Within f.whole (path_of (on ks) ++ 1 ∷ []) (expr_places c) (length (expr_code names b ++ (Binary Plus ∷ left ks)))) (same_expr a e h.0)
+    there (binary_left op a b ∷ ks) e h =
+        let whole = in_parts f.whole (path_of (on ks)) (numbered 1 (expr_places a ∷ expr_places b ∷ [])) (length (left ks)) (there ks (binary op a b) h.1) in
+        let so_many : length (expr_places b) + suc (length (left ks)) ≡ length (expr_code names b ++ (Binary (operator_named op) ∷ left ks)) = omega (arith, expr_length names b, length-append (expr_code names b) (Binary (operator_named op) ∷ left ks)) in
+        subst (λ c. Within f.whole (path_of (on ks) ++ 1 ∷ []) (expr_places c) (length (expr_code names b ++ (Binary (operator_named op) ∷ left ks)))) (same_expr a e h.0)
         (subst (Within f.whole (path_of (on ks) ++ 1 ∷ []) (expr_places a)) so_many (in_first f.whole (path_of (on ks)) (expr_places a) (expr_places b) (suc (length (left ks))) whole))
-    there (plus_right a b x ∷ ks) e h =
-        let whole = in_parts f.whole (path_of (on ks)) (numbered 1 (expr_places a ∷ expr_places b ∷ [])) (length (left ks)) (there ks (binary plus a b) h.1) in
+    there (binary_right op a b x ∷ ks) e h =
+        let whole = in_parts f.whole (path_of (on ks)) (numbered 1 (expr_places a ∷ expr_places b ∷ [])) (length (left ks)) (there ks (binary op a b) h.1) in
         subst (λ c. Within f.whole (path_of (on ks) ++ 2 ∷ []) (expr_places c) (suc (length (left ks)))) (same_expr b e h.0)
         (in_second f.whole (path_of (on ks)) (expr_places a) (expr_places b) (suc (length (left ks))) whole)
     there (read_object a b ∷ ks) e h =
@@ -188,9 +189,9 @@ module _ (f : Verb) where
     unfolding after turn begun
     begins (literal v) ks h k operands code stack = leaf (literal v) ks (Push v) refl refl h k operands code stack
     begins (variable x) ks h k operands code stack = leaf (variable x) ks (Load (slot_of names x)) refl refl h k operands code stack
-    begins (binary plus a b) ks h k operands code stack =
-        later (at (begin (of_expr (binary plus a b))) (on ks)) (at (begin (of_expr a)) (on (plus_left a b ∷ ks))) k operands (λ t w. (1, refl))
-        (begins a (plus_left a b ∷ ks) (refl, h) k operands (code ∙ two_parts (expr_code names a) (expr_code names b) (Binary Plus) (left ks)) stack)
+    begins (binary op a b) ks h k operands code stack =
+        later (at (begin (of_expr (binary op a b))) (on ks)) (at (begin (of_expr a)) (on (binary_left op a b ∷ ks))) k operands (λ t w. (1, refl))
+        (begins a (binary_left op a b ∷ ks) (refl, h) k operands (code ∙ two_parts (expr_code names a) (expr_code names b) (Binary (operator_named op)) (left ks)) stack)
     begins (property a b) ks h k operands code stack =
         later (at (begin (of_expr (property a b))) (on ks)) (at (begin (of_expr a)) (on (read_object a b ∷ ks))) k operands (λ t w. (1, refl))
         (begins a (read_object a b ∷ ks) (refl, h) k operands (code ∙ two_parts (expr_code names a) (expr_code names b) ReadProperty (left ks)) stack)
@@ -221,11 +222,11 @@ module _ (f : Verb) where
     gives : (ks : List Waiting) (v : Datum) (c : Construct) → Linked c (on ks) root
         → (k : ℕ) (operands : List Datum) → drop k (code_of f.whole) ≡ left ks → operands ≡ v ∷ operands_on ks → Ready (at (hand v) (on ks)) k operands
     unfolding after turn received
-    gives (plus_left a b ∷ ks) v c h k operands code stack =
-        later (at (hand v) (on (plus_left a b ∷ ks))) (at (begin (of_expr b)) (on (plus_right a b v ∷ ks))) k operands (λ t w. (1, refl))
-        (begins b (plus_right a b v ∷ ks) (refl, h.1) k operands code stack)
-    gives (plus_right a b x ∷ ks) v c h k operands code stack =
-        operates (binary plus a b) (numbered 1 (expr_places a ∷ expr_places b ∷ [])) v (x ∷ []) (at (hand v) (on (plus_right a b x ∷ ks))) ks (Binary Plus) refl refl (λ t w. (1, refl)) h.1 k operands code stack
+    gives (binary_left op a b ∷ ks) v c h k operands code stack =
+        later (at (hand v) (on (binary_left op a b ∷ ks))) (at (begin (of_expr b)) (on (binary_right op a b v ∷ ks))) k operands (λ t w. (1, refl))
+        (begins b (binary_right op a b v ∷ ks) (refl, h.1) k operands code stack)
+    gives (binary_right op a b x ∷ ks) v c h k operands code stack =
+        operates (binary op a b) (numbered 1 (expr_places a ∷ expr_places b ∷ [])) v (x ∷ []) (at (hand v) (on (binary_right op a b x ∷ ks))) ks (Binary (operator_named op)) refl refl (λ t w. (1, refl)) h.1 k operands code stack
     gives (read_object a b ∷ ks) v c h k operands code stack =
         later (at (hand v) (on (read_object a b ∷ ks))) (at (begin (of_expr b)) (on (read_name a b v ∷ ks))) k operands (λ t w. (1, refl))
         (begins b (read_name a b v ∷ ks) (refl, h.1) k operands code stack)

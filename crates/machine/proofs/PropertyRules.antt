@@ -1,12 +1,12 @@
 -- What a read of a property answers, from the slot and the permission.
 use Rattle.std.proofs.Common.{◌≡◌, ℤ, true, false, cond, Option, Some, None, IsTrue, is_some, refl, ap, ◌∙◌, subst}
 use Rattle.std.proofs.lemmas.Bool.{false≢true}
-use Rattle.moo_spec.specs.Datum.{Datum, Text, permission_denied}
-use Rattle.moo_spec.specs.Answer.{Answer, raises}
-use Rattle.moo_spec.specs.World.{World, Object, Slot, object_at}
-use Rattle.moo_spec.specs.Inherit.{slot_of, slot_at, property_value}
-use Rattle.moo_spec.specs.Turn.{may_read, found, read_slot, read_valid}
-use Rattle.moo_spec.proofs.Lines.{own_value}
+use Rattle.spec_value.specs.Datum.{Datum, Text, permission_denied}
+use Rattle.spec_value.specs.Answer.{Answer, raises}
+use Rattle.spec_world.specs.World.{World, Object, Slot, object_at}
+use Rattle.spec_world.specs.Inherit.{slot_of, slot_at, property_value}
+use Rattle.spec_task.specs.Turn.{may_read, found, read_slot, read_valid}
+use Rattle.spec_world.proofs.Lines.{own_value}
 use Rattle.view.specs.Law.{Goes}
 use Rattle.machine.specs.Answers.{read_at, IsReadable, AreReadable}
 

@@ -1,11 +1,11 @@
 -- A run comes to the stop of its segment.
 use Rattle.std.proofs.Common.{◌≡◌, ◌≢◌, ℕ, zero, suc, ◌-◌, ◌≤◌, ℤ, List, [], ◌∷◌, drop, refl, sym, ap, ◌∙◌, subst, arith}
 use Rattle.std.specs.Prelude.{slice_get}
-use Rattle.moo_spec.specs.World.{World, Call}
-use Rattle.moo_spec.specs.Turn.{failure, traced}
+use Rattle.spec_world.specs.World.{World, Call}
+use Rattle.spec_task.specs.Turn.{failure, traced}
 use Rattle.moo_value.specs.Errors.{code_of as code_of_error}
-use Rattle.moo_spec.specs.Segment.{Stop, raised, out_of_ticks, after, Ended, stopped, segment, Course, runs, stops, Leads}
-use Rattle.moo_spec.proofs.Courses.{leads_on, stops_as_segment, ticks_fall}
+use Rattle.spec_task.specs.Segment.{Stop, raised, out_of_ticks, after, Ended, stopped, segment, Course, runs, stops, Leads}
+use Rattle.spec_task.proofs.Courses.{leads_on, stops_as_segment, ticks_fall}
 use Rattle.moo_compiler.specs.declared.code.Instruction.{Instruction}
 use Rattle.moo_compiler.specs.Names.{names_of}
 use Rattle.moo_compiler.specs.Code.{code_of}

@@ -1,19 +1,20 @@
 -- All that a run without instructions left stands for leads to the end of the program.
 use Rattle.std.proofs.Common.{◌≡◌, ℕ, ◌+◌, ◌≤◌, List, [], ◌∷◌, ◌++◌, length, None, refl, sym, ap, ◌∙◌, subst, add-zero, arith}
 use Rattle.std.proofs.lemmas.List.{length-append}
-use Rattle.moo_spec.specs.Datum.{Text}
-use Rattle.moo_spec.specs.Tree.{Statement, evaluate, give, Program, the_end, seq}
-use Rattle.moo_spec.specs.World.{World, of_program, Piece}
-use Rattle.moo_spec.specs.Place.{program_parts, nth}
-use Rattle.moo_spec.specs.Turn.{Focus, begin, next, turn, begun, part_ended, proceed, proceeding}
-use Rattle.moo_spec.specs.Segment.{runs, led, after, Leads}
-use Rattle.moo_spec.proofs.Courses.{leads_on}
-use Rattle.moo_value.specs.declared.operator.BinaryOperator.TheVariants.{Plus}
+use Rattle.spec_value.specs.Datum.{Text}
+use Rattle.spec_program.specs.Tree.{Statement, evaluate, give, Program, the_end, seq}
+use Rattle.spec_world.specs.World.{World}
+use Rattle.spec_program.specs.Construct.{of_program, Piece}
+use Rattle.spec_program.specs.Place.{program_parts, nth}
+use Rattle.spec_task.specs.Turn.{Focus, begin, next, turn, begun, part_ended, proceed, proceeding}
+use Rattle.spec_task.specs.Segment.{runs, led, after, Leads}
+use Rattle.spec_task.proofs.Courses.{leads_on}
 use Rattle.moo_compiler.specs.declared.code.Instruction.{Instruction}
+use Rattle.moo_compiler.specs.Operators.{operator_named}
 use Rattle.moo_compiler.specs.declared.code.Instruction.TheVariants.{Binary, ReadProperty, WriteProperty, Pop, Return}
 use Rattle.moo_compiler.specs.Names.{names_of}
 use Rattle.moo_compiler.specs.Code.{expr_code, statement_code, program_code}
-use Rattle.machine.specs.Stands.{Waiting, plus_left, plus_right, read_object, read_name, write_object, write_name, write_value, Acting, evaluating, giving, piece, code_on, acting_code, Standing, at_start, at_expr, at_value, at_statement, code_left, RestFits, Verb, pending}
+use Rattle.machine.specs.Stands.{Waiting, binary_left, binary_right, read_object, read_name, write_object, write_name, write_value, Acting, evaluating, giving, piece, code_on, acting_code, Standing, at_start, at_expr, at_value, at_statement, code_left, RestFits, Verb, pending}
 use Rattle.machine.specs.OnePending.{verb_with, ended, LeadsSilently, RunsEndInOne}
 
 -- ---- only the end of the program has no instruction
@@ -25,8 +26,8 @@ acting_some (giving e) rest = omega arith
 module _ (names : List Text) where
   waiting_some : (ks : List Waiting) (rest : List Instruction) → 1 ≤ length rest → 1 ≤ length (code_on names ks rest)
   waiting_some [] rest h = h
-  waiting_some (plus_left a b ∷ ks) rest h = omega (arith, length-append (expr_code names b) (Binary Plus ∷ code_on names ks rest))
-  waiting_some (plus_right a b x ∷ ks) rest h = omega arith
+  waiting_some (binary_left op a b ∷ ks) rest h = omega (arith, length-append (expr_code names b) (Binary (operator_named op) ∷ code_on names ks rest))
+  waiting_some (binary_right op a b x ∷ ks) rest h = omega arith
   waiting_some (read_object a b ∷ ks) rest h = omega (arith, length-append (expr_code names b) (ReadProperty ∷ code_on names ks rest))
   waiting_some (read_name a b x ∷ ks) rest h = omega arith
   waiting_some (write_object a b e ∷ ks) rest h =

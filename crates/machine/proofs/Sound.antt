@@ -5,12 +5,12 @@ use Rattle.std.specs.Cmp.Lexicographic.{slice_cmp}
 use Rattle.std.proofs.lemmas.Bool.{false≢true}
 use Rattle.std.proofs.lemmas.Slice.Eq.{bytes_eq-Decides}
 use Rattle.std.proofs.lemmas.Map.Text.{is_eq-slice_cmp}
-use Rattle.moo_spec.specs.Datum.{Text, same_text, fold_case}
-use Rattle.moo_spec.specs.Table.{Named, named}
-use Rattle.moo_spec.specs.World.{World, object_at}
-use Rattle.moo_spec.specs.Inherit.{slot_of, slot_at, content_of}
-use Rattle.moo_spec.specs.WellFormed.{has_name}
-use Rattle.moo_spec.proofs.Entries.{first_holds, second_holds}
+use Rattle.spec_value.specs.Datum.{Text, same_text, fold_case}
+use Rattle.spec_value.specs.Table.{Named, named}
+use Rattle.spec_world.specs.World.{World, object_at}
+use Rattle.spec_world.specs.Inherit.{slot_of, slot_at, content_of}
+use Rattle.spec_world.specs.WellFormed.{has_name}
+use Rattle.spec_value.proofs.Entries.{first_holds, second_holds}
 use Rattle.world.specs.Sound.{IsSound}
 use Rattle.machine.specs.Answers.{IsReadable}
 use Rattle.machine.proofs.StepRules.{object_of_slot, by_name}

@@ -6,17 +6,18 @@ use Rattle.std.proofs.lemmas.Bool.Decides.{Decides-int_eq}
 use Rattle.std.proofs.lemmas.Bool.{false≢true, ltb-true, ltb-false}
 use Rattle.std.proofs.lemmas.Option.{slice_get_past}
 use Rattle.std.proofs.lemmas.Slice.Eq.{bytes_eq-Decides}
-use Rattle.moo_spec.specs.Datum.{Datum, object, text, error, Text, fold_case, same_text, ErrorCode, permission_denied}
-use Rattle.moo_spec.specs.Answer.{Answer, gives, raises}
-use Rattle.moo_spec.specs.Table.{named}
-use Rattle.moo_spec.specs.World.{World, Object, Slot, Call, object_at}
-use Rattle.moo_spec.specs.Inherit.{slot_of, slot_at, with_slot}
-use Rattle.moo_spec.specs.Turn.{sum, read, write, write_valid, write_slot, may_write}
-use Rattle.moo_spec.proofs.SlotChanges.{slot_is_set, other_objects_stay, other_names_stay}
-use Rattle.moo_spec.proofs.SlotKeeps.{slot_keeps}
-use Rattle.moo_value.specs.declared.operator.BinaryOperator.TheVariants.{Plus}
+use Rattle.spec_value.specs.Datum.{Datum, object, text, error, Text, fold_case, same_text, ErrorCode, permission_denied}
+use Rattle.spec_value.specs.Answer.{Answer, gives, raises}
+use Rattle.spec_value.specs.Operators.{binary_value}
+use Rattle.spec_value.specs.Table.{named}
+use Rattle.spec_world.specs.World.{World, Object, Slot, Call, object_at}
+use Rattle.spec_world.specs.Inherit.{slot_of, slot_at, with_slot}
+use Rattle.spec_task.specs.Turn.{read, write, write_valid, write_slot, may_write}
+use Rattle.spec_world.proofs.SlotChanges.{slot_is_set, other_objects_stay, other_names_stay}
+use Rattle.spec_world.proofs.SlotKeeps.{slot_keeps}
 use Rattle.moo_compiler.specs.declared.code.Instruction.{Instruction}
 use Rattle.moo_compiler.specs.declared.code.Instruction.TheVariants.{Push, Load, Binary, ReadProperty, WriteProperty, Pop, Return, ReturnZero}
+use Rattle.moo_value.specs.Operators.{binary_of}
 use Rattle.machine.specs.Answers.{IsReadable}
 use Rattle.machine.specs.Shown.{shown, step_of}
 use Rattle.machine.specs.declared.state.State.{State}
@@ -107,7 +108,7 @@ on_loaded w c pc st slots None t h = on_raised w c pc st slots _ t h
 on_act : (w : World) (c : Call) (i : Option Instruction) (pc : ℕ) (st : List Datum) (slots : List (Option Datum)) (t : ℕ) → IsReadable w → GoesOn pc (act w c i pc st slots t)
 on_act w c (Some (Push v)) pc st slots t h = (refl, h)
 on_act w c (Some (Load s)) pc st slots t h = on_loaded w c pc st slots (slice_get slots s) t h
-on_act w c (Some (Binary Plus)) pc (y ∷ x ∷ st) slots t h = on_charge pc w t _ (λ n. on_answered w c pc st slots (sum x y) n h)
+on_act w c (Some (Binary op)) pc (y ∷ x ∷ st) slots t h = on_charge pc w t _ (λ n. on_answered w c pc st slots (binary_value (binary_of op) x y) n h)
 on_act w c (Some ReadProperty) pc (y ∷ x ∷ st) slots t h = on_charge pc w t _ (λ n. on_answered w c pc st slots (read w c.programmer x y) n h)
 on_act w c (Some WriteProperty) pc (v ∷ y ∷ x ∷ st) slots t h =
     on_charge pc w t _ (λ n. on_answered (write w c.programmer x y v).0 c pc st slots (write w c.programmer x y v).1 n (readable_written w c.programmer x y v h))

@@ -1,11 +1,11 @@
 -- What an operation's result means.
 use Rattle.std.specs.Prelude.{◌≡◌, ℤ, Option, Some, None, IsTrue, is_some}
-use Rattle.moo_spec.specs.Datum.{Datum, Text, ErrorCode, invalid_indirection, property_not_found}
-use Rattle.moo_spec.specs.Answer.{Answer}
-use Rattle.moo_spec.specs.World.{World, Object, Slot, object_at}
-use Rattle.moo_spec.specs.Inherit.{slot_at}
-use Rattle.moo_spec.specs.Turn.{read_valid, write_valid}
-use Rattle.moo_spec.specs.WellFormed.{IsWellFormed}
+use Rattle.spec_value.specs.Datum.{Datum, Text, ErrorCode, invalid_indirection, property_not_found}
+use Rattle.spec_value.specs.Answer.{Answer}
+use Rattle.spec_world.specs.World.{World, Object, Slot, object_at}
+use Rattle.spec_world.specs.Inherit.{slot_at}
+use Rattle.spec_task.specs.Turn.{read_valid, write_valid}
+use Rattle.spec_world.specs.WellFormed.{IsWellFormed}
 
 -- why an object has no slot of a name
 abbrev pub missing_error : Option Object → ErrorCode

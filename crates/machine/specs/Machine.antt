@@ -1,10 +1,11 @@
 -- What one instruction does.
 use Rattle.std.specs.Prelude.{ℕ, zero, suc, ◌+◌, pos, List, ◌∷◌, Option, Some, None, slice_get, if◌then◌else◌}
-use Rattle.moo_spec.specs.Datum.{Datum, integer, error, ErrorCode, variable_not_found}
-use Rattle.moo_spec.specs.Answer.{Answer, gives, raises}
-use Rattle.moo_spec.specs.World.{World, Call}
-use Rattle.moo_spec.specs.Turn.{sum, read, write}
-use Rattle.moo_value.specs.declared.operator.BinaryOperator.TheVariants.{Plus}
+use Rattle.spec_value.specs.Datum.{Datum, integer, error, ErrorCode, variable_not_found}
+use Rattle.spec_value.specs.Answer.{Answer, gives, raises}
+use Rattle.spec_value.specs.Operators.{binary_value}
+use Rattle.spec_world.specs.World.{World, Call}
+use Rattle.spec_task.specs.Turn.{read, write}
+use Rattle.moo_value.specs.Operators.{binary_of}
 use Rattle.moo_compiler.specs.declared.code.Instruction.{Instruction}
 use Rattle.moo_compiler.specs.declared.code.Instruction.TheVariants.{Push, Load, Binary, ReadProperty, WriteProperty, Pop, Return, ReturnZero, Missing}
 
@@ -43,7 +44,7 @@ abbrev pub act : World → Call → Option Instruction → ℕ → List Datum �
 act w c None pc st slots t = returns w (integer (pos 0)) t
 act w c (Some (Push v)) pc st slots t = on w (pc + 1) (v ∷ st) slots t
 act w c (Some (Load s)) pc st slots t = loaded w c pc st slots (slice_get slots s) t
-act w c (Some (Binary Plus)) pc (y ∷ x ∷ st) slots t = charged w t (answered w c pc st slots (sum x y))
+act w c (Some (Binary op)) pc (y ∷ x ∷ st) slots t = charged w t (answered w c pc st slots (binary_value (binary_of op) x y))
 act w c (Some ReadProperty) pc (y ∷ x ∷ st) slots t = charged w t (answered w c pc st slots (read w c.programmer x y))
 act w c (Some WriteProperty) pc (v ∷ y ∷ x ∷ st) slots t = charged w t (written c pc st slots (write w c.programmer x y v))
 act w c (Some Pop) pc (v ∷ st) slots t = on w (pc + 1) st slots t

@@ -1,10 +1,11 @@
 -- For which one pending list a machine stands.
 use Rattle.std.specs.Prelude.{◌≡◌, ◌≢◌, ℕ, List, [], drop}
-use Rattle.moo_spec.specs.Datum.{Datum}
-use Rattle.moo_spec.specs.World.{World, Construct, Piece}
-use Rattle.moo_spec.specs.Turn.{Focus, begin, operate, next, Pending}
-use Rattle.moo_spec.specs.Segment.{runs, Leads}
-use Rattle.moo_spec.specs.Standing.{Stands}
+use Rattle.spec_value.specs.Datum.{Datum}
+use Rattle.spec_world.specs.World.{World}
+use Rattle.spec_program.specs.Construct.{Construct, Piece}
+use Rattle.spec_task.specs.Turn.{Focus, begin, operate, next, Pending}
+use Rattle.spec_task.specs.Segment.{runs, Leads}
+use Rattle.spec_task.specs.Standing.{Stands}
 use Rattle.moo_compiler.specs.Code.{code_of}
 use Rattle.moo_compiler.specs.Performing.{Performs}
 use Rattle.machine.specs.declared.task.Run.{Run}

@@ -1,8 +1,8 @@
 -- What the machine's structs show of a step.
 use Rattle.std.specs.Prelude.{◌+◌, List, ◌∷◌, Some}
-use Rattle.moo_spec.specs.Datum.{Datum}
-use Rattle.moo_spec.specs.Answer.{Answer}
-use Rattle.moo_spec.specs.World.{World, Call}
+use Rattle.spec_value.specs.Datum.{Datum}
+use Rattle.spec_value.specs.Answer.{Answer}
+use Rattle.spec_world.specs.World.{World, Call}
 use Rattle.moo_value.specs.Errors.{code_of}
 use Rattle.moo_compiler.specs.declared.code.Instruction.{Instruction}
 use Rattle.machine.specs.Machine.{Step, on, returns, fails, lacks_rule, runs_out, lacks_operand, answered, act, step}

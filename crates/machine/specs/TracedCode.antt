@@ -1,8 +1,8 @@
 -- How the logic stores the verbs of a traceback.
 use Rattle.std.specs.Prelude.{ℤ, refl}
 use Rattle.std.specs.Coded.{Coded, code_by, coded×, coded_ℤ, coded_list, coded_ℕ}
-use Rattle.moo_spec.specs.Datum.{Text}
-use Rattle.moo_spec.specs.Turn.{Traced}
+use Rattle.spec_value.specs.Datum.{Text}
+use Rattle.spec_task.specs.Turn.{Traced}
 
 abbrev pub traced_code : Coded Traced
 traced_code =

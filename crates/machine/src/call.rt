@@ -20,8 +20,8 @@ pub struct Call {
 }
 
 impl Model for Call {
-    ghost use Rattle.moo_spec.specs.World.{Call as Meant};
-    ghost use Rattle.moo_spec.specs.WorldCode.{call_code};
+    ghost use Rattle.spec_world.specs.World.{Call as Meant};
+    ghost use Rattle.spec_world.specs.WorldCode.{call_code};
 
     ghost Value = { Meant };
 
@@ -49,8 +49,8 @@ pub struct Start {
 }
 
 impl Model for Start {
-    ghost use Rattle.moo_spec.specs.World.{Start as Meant};
-    ghost use Rattle.moo_spec.specs.WorldCode.{start_code};
+    ghost use Rattle.spec_world.specs.World.{Start as Meant};
+    ghost use Rattle.spec_world.specs.WorldCode.{start_code};
 
     ghost Value = { Meant };
 

@@ -11,5 +11,4 @@ mod properties;
 pub mod run;
 mod state;
 pub mod stop;
-mod sum;
 pub mod task;

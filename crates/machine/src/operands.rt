@@ -19,8 +19,8 @@ struct Operand {
 }
 
 impl Model for Operand {
-    ghost use Rattle.moo_spec.specs.Datum.{Datum};
-    ghost use Rattle.moo_spec.specs.DatumCode.{datum_code};
+    ghost use Rattle.spec_value.specs.Datum.{Datum};
+    ghost use Rattle.spec_value.specs.DatumCode.{datum_code};
 
     ghost Value = { Datum };
 
@@ -40,8 +40,8 @@ impl Default for Operand {
 impl Model for Operands {
     ghost use Rattle.std.specs.Prelude.{List, reverse};
     ghost use Rattle.std.specs.Coded.{coded_list};
-    ghost use Rattle.moo_spec.specs.Datum.{Datum};
-    ghost use Rattle.moo_spec.specs.DatumCode.{datum_code};
+    ghost use Rattle.spec_value.specs.Datum.{Datum};
+    ghost use Rattle.spec_value.specs.DatumCode.{datum_code};
 
     ghost Value = { List Datum };
 

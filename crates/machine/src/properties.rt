@@ -1,9 +1,9 @@
 //! Reads and writes of properties.
 ghost use Rattle.std.specs.Prelude.{◌≡◌, IfOk, OnOk, IsTrue};
 ghost use Rattle.moo_value.specs.Answers.{answer_of};
-ghost use Rattle.moo_spec.specs.Datum.{is_text};
-ghost use Rattle.moo_spec.specs.World.{object_at};
-ghost use Rattle.moo_spec.specs.Turn.{read, write, found, is_wizard as is_wizard_of, may_read as may_read_of, may_write as may_write_of};
+ghost use Rattle.spec_value.specs.Datum.{is_text};
+ghost use Rattle.spec_world.specs.World.{object_at};
+ghost use Rattle.spec_task.specs.Turn.{read, write, found, is_wizard as is_wizard_of, may_read as may_read_of, may_write as may_write_of};
 ghost use Rattle.moo_value.specs.Errors.{code_of};
 ghost use Rattle.view.specs.Law.{Goes};
 ghost use Rattle.machine.specs.Answers.{missing_error, read_at, write_at, AreReadable};
@@ -17,7 +17,7 @@ use view::law::View;
 use view::readers::{read_header, read_slot, write_value};
 
 /// The value of a property, by the object and the name.
-#[tactic(auto, unfolding(moo_spec::specs::Turn::read))]
+#[tactic(auto, unfolding(spec_task::specs::Turn::read))]
 pub fn read_property<V: View>(
     alloc: Global,
     view: &mut V,
@@ -43,7 +43,7 @@ pub fn read_property<V: View>(
 }
 
 /// Gives a property another value, by the object and the name.
-#[tactic(auto, unfolding(moo_spec::specs::Turn::write))]
+#[tactic(auto, unfolding(spec_task::specs::Turn::write))]
 pub fn write_property<V: View>(
     alloc: Global,
     view: &mut V,

@@ -1,8 +1,8 @@
 //! Runs of verbs.
 ghost use Rattle.std.specs.Prelude.{◌≡◌, ◌≤◌, ◌-◌, [], ◌∷◌, IfOk, OnOk};
-ghost use Rattle.moo_spec.specs.Literal.{error_message};
-ghost use Rattle.moo_spec.specs.Turn.{traced, failure as failure_of};
-ghost use Rattle.moo_spec.specs.Segment.{segment, stopped};
+ghost use Rattle.spec_value.specs.Literal.{error_message};
+ghost use Rattle.spec_task.specs.Turn.{traced, failure as failure_of};
+ghost use Rattle.spec_task.specs.Segment.{segment, stopped};
 ghost use Rattle.moo_value.specs.Errors.{code_of};
 ghost use Rattle.view.specs.Law.{Goes, AreSound};
 ghost use Rattle.machine.specs.Stands.{Verb, Standing, pending, StandsFor, stop_meant, failure_meant, IsStop};

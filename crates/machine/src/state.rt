@@ -1,18 +1,17 @@
 //! A verb under way, one instruction after another.
 ghost use Rattle.std.specs.Prelude.{◌≡◌, ◌<◌, ◌+◌, ◌++◌, IfOk, OnOk, ◌^◌};
 ghost use Rattle.moo_value.specs.Answers.{answer_of};
-ghost use Rattle.moo_spec.specs.Turn.{sum as sum_of, read, write};
+ghost use Rattle.spec_task.specs.Turn.{read, write};
 ghost use Rattle.view.specs.Law.{Goes};
 ghost use Rattle.machine.specs.Answers.{AreReadable};
-ghost use Rattle.moo_spec.specs.World.{World, Call as CallOf};
+ghost use Rattle.spec_world.specs.World.{World, Call as CallOf};
 ghost use Rattle.moo_compiler.specs.declared.code.Instruction.TheVariants.{Load, Binary, ReadProperty, WriteProperty, Pop, Return, ReturnZero};
-ghost use Rattle.moo_value.specs.declared.operator.BinaryOperator.TheVariants.{Plus};
 ghost use Rattle.machine.specs.Shown.{shown, pushed, answered_at, act_of, step_of};
 
 use crate::call::Call;
 use crate::operands::Operands;
 use crate::properties::{read_property, write_property};
-use crate::sum::sum;
+use moo_arith::binary::binary;
 use moo_compiler::code::Instruction;
 use moo_value::error::MooError;
 use moo_value::operator::BinaryOperator;
@@ -89,8 +88,7 @@ impl State {
                 self.go_on(value)
             }
             Instruction::Load(slot) => self.load(call, *slot),
-            Instruction::Binary(BinaryOperator::Plus) => self.add(alloc, call),
-            Instruction::Binary(_) => Ok(Did::LacksOperand),
+            Instruction::Binary(operator) => self.operate(alloc, call, *operator),
             Instruction::ReadProperty => self.read(alloc, view, call),
             Instruction::WriteProperty => self.write(alloc, view, call),
             Instruction::Pop => Ok(self.drop_top()),
@@ -133,9 +131,14 @@ impl State {
         self.answer(call, answer)
     }
 
-    fn add(&mut self, alloc: Global, call: &Call) -> Result<Did, AllocError>
+    fn operate(
+        &mut self,
+        alloc: Global,
+        call: &Call,
+        operator: BinaryOperator,
+    ) -> Result<Did, AllocError>
         requires { self.old.place + 1 < 2 ^ 64 }
-        ensures { IfOk result (λ d. (w : World) → act_of w call.now (Binary Plus) self.old ≡ shown d w self.new) }
+        ensures { IfOk result (λ d. (w : World) → act_of w call.now (Binary operator) self.old ≡ shown d w self.new) }
     {
         let Some(right) = self.operands.pop() else {
             return Ok(Did::LacksOperand);
@@ -147,7 +150,7 @@ impl State {
             return Ok(Did::RanOut);
         }
         self.ticks -= 1;
-        let answer = sum(alloc, &left, &right)?;
+        let answer = binary(alloc, operator, &left, &right)?;
         self.answer(call, answer)
     }
 

@@ -41,7 +41,7 @@ pub struct Traced {
 }
 
 impl Model for Traced {
-    ghost use Rattle.moo_spec.specs.Turn.{Traced as Meant};
+    ghost use Rattle.spec_task.specs.Turn.{Traced as Meant};
     ghost use Rattle.machine.specs.TracedCode.{traced_code};
 
     ghost Value = { Meant };

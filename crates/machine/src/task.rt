@@ -1,6 +1,6 @@
 //! Verbs under way.
 ghost use Rattle.std.specs.Prelude.{◌≡◌, ◌++◌, None, length, replicate, IfOk};
-ghost use Rattle.moo_spec.specs.Datum.{of_list};
+ghost use Rattle.spec_value.specs.Datum.{of_list};
 ghost use Rattle.machine.specs.Stands.{StandsFor, at_start, beginning, starting_values};
 
 use crate::call::{Call, Start};

@@ -1,8 +1,8 @@
 -- The first place of a list that passes a test.
 use Rattle.std.proofs.Common.{◌≡◌, ℕ, suc, ◌+◌, ◌<◌, Bool, true, false, List, length, get_or, drop, refl, ap, sym, ◌∙◌, arith, add-one, Option, Some, None, option_map, if◌then◌else◌, drop-cons}
 use Rattle.std.proofs.lemmas.List.{drop_all}
-use Rattle.moo_spec.specs.Datum.{Datum, of_list}
-use Rattle.moo_spec.specs.Operators.{first_place}
+use Rattle.spec_value.specs.Datum.{Datum, of_list}
+use Rattle.spec_value.specs.Operators.{first_place}
 
 -- past the first items, none of which passed
 abbrev pub further : (Datum → Bool) → List Datum → ℕ → Option ℕ

@@ -1,11 +1,11 @@
 -- Characters and parts of texts and lists.
 use Rattle.std.proofs.Common.{◌≡◌, ℕ, zero, suc, ◌+◌, ◌-◌, ◌<◌, List, [], ◌∷◌, ◌++◌, length, get_or, take, drop, ℤ, refl, ap, sym, ◌∙◌, arith, add-one, Some, None}
 use Rattle.std.specs.Prelude.{slice_get, slice_set}
-use Rattle.moo_spec.specs.Datum.{Datum, text, list, of_list, joined}
-use Rattle.moo_spec.specs.Datum.{range_error}
-use Rattle.moo_spec.specs.Answer.{gives, raises, limited}
-use Rattle.moo_spec.specs.Indexing.{character, place_in, part_of, cut_of, text_index, list_index, list_part, text_with, list_with_part}
-use Rattle.moo_spec.specs.Places.{item_count, first_items, later_items}
+use Rattle.spec_value.specs.Datum.{Datum, text, list, of_list, joined}
+use Rattle.spec_value.specs.Datum.{range_error}
+use Rattle.spec_value.specs.Answer.{gives, raises, limited}
+use Rattle.spec_value.specs.Indexing.{character, place_in, part_of, cut_of, text_index, list_index, list_part, text_with, list_with_part}
+use Rattle.spec_value.specs.Places.{item_count, first_items, later_items}
 use Rattle.std.proofs.Common.{min}
 use Rattle.std.proofs.lemmas.List.{drop_all, take_all}
 use Rattle.moo_value.proofs.Listing.{take_rest, item_count-of_list, item_at-of_list, first_items-of_list, later_items-of_list, of_list-append}
@@ -49,7 +49,7 @@ index_of_list xs i p d e h = rw (item_count-of_list xs, ← e, item_at-of_list x
 pub no_range_of_list : (xs : List Datum) (a b : ℤ) → None ≡ part_of (length xs) a b → raises range_error ≡ list_part (of_list xs) (part_of (item_count (of_list xs)) a b)
 no_range_of_list xs a b e = rw (item_count-of_list xs, ← e) refl
 
-pub range_of_list : (xs : List Datum) (a b : ℤ) (s n : ℕ) → Some (s, n) ≡ part_of (length xs) a b → limited (list (of_list (take (n - s) (drop s xs)))) ≡ list_part (of_list xs) (part_of (item_count (of_list xs)) a b)
+pub range_of_list : (xs : List Datum) (a b : ℤ) (s n : ℕ) → Some (s, n) ≡ part_of (length xs) a b → gives (list (of_list (take (n - s) (drop s xs)))) ≡ list_part (of_list xs) (part_of (item_count (of_list xs)) a b)
 range_of_list xs a b s n e = rw (item_count-of_list xs, ← e, part_of_list xs (n - s) s) refl
 
 pub no_set_range : (xs ys : List Datum) (a b : ℤ) → None ≡ cut_of (length xs) a b → raises range_error ≡ list_with_part (of_list xs) (cut_of (item_count (of_list xs)) a b) (of_list ys)

@@ -1,7 +1,7 @@
 -- The targets of the definitions, by their names here.
 use Rattle.std.specs.Prelude.{Option, Result, Ok, Err}
-use Rattle.moo_spec.specs.Datum.{Datum}
-use Rattle.moo_spec.specs.Scatter.{TargetKind as TargetKindOf, required_target, optional_target, rest_target, Scattering, gets, refuses}
+use Rattle.spec_value.specs.Datum.{Datum}
+use Rattle.spec_value.specs.Scatter.{TargetKind as TargetKindOf, required_target, optional_target, rest_target, Scattering, gets, refuses}
 use Rattle.moo_value.specs.Errors.{code_of}
 use Rattle.moo_value.specs.declared.error.MooError.{MooError}
 use Rattle.std.specs.declared.vec.Vec.{Vec}

@@ -1,7 +1,7 @@
 //! Arithmetic of integers of 32 bits (Programmer's Manual, "Arithmetic Operators"). None of it takes memory.
 ghost use Rattle.std.specs.Prelude.{◌≡◌, ◌+ℤ◌, ◌-ℤ◌, ◌*ℤ◌};
-ghost use Rattle.moo_spec.specs.Operators.{wrapped, quotient as quotient_of, remainder as remainder_of, power as power_of, inverse_power as inverse_power_of, unary_value};
-ghost use Rattle.moo_spec.specs.Tree.{negation};
+ghost use Rattle.spec_value.specs.Operators.{wrapped, quotient as quotient_of, remainder as remainder_of, power as power_of, inverse_power as inverse_power_of, unary_value};
+ghost use Rattle.spec_value.specs.Operators.{negation};
 ghost use Rattle.moo_value.specs.Answers.{answer_of};
 ghost use Rattle.moo_value.specs.Operators.{unary_of};
 

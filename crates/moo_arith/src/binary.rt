@@ -1,8 +1,8 @@
 //! Operators between two operands.
 ghost use Rattle.std.specs.Prelude.{◌≡◌, ◌<◌, length, IfOk, IfSome};
-ghost use Rattle.moo_spec.specs.Datum.{of_list};
-ghost use Rattle.moo_spec.specs.Operators.{binary_value, sum as sum_of, alike, membership as membership_of, first_place};
-ghost use Rattle.moo_spec.specs.Tree.{minus, times, divided_by, remainder_by, to_the, less as less_op, less_or_equal as less_or_equal_op, greater as greater_op, greater_or_equal as greater_or_equal_op};
+ghost use Rattle.spec_value.specs.Datum.{of_list};
+ghost use Rattle.spec_value.specs.Operators.{binary_value, sum as sum_of, alike, membership as membership_of, first_place};
+ghost use Rattle.spec_value.specs.Operators.{minus, times, divided_by, remainder_by, to_the, less as less_op, less_or_equal as less_or_equal_op, greater as greater_op, greater_or_equal as greater_or_equal_op};
 ghost use Rattle.moo_value.specs.Answers.{answer_of};
 ghost use Rattle.moo_value.specs.Operators.{binary_of};
 

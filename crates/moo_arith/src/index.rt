@@ -1,12 +1,12 @@
 //! Indexes and ranges of texts and lists, read and written (Programmer's Manual, "Indexing into Lists and Strings").
 //!
 //! Places count from 1. A base that is neither text nor list, and an index that is no integer, raise `E_TYPE`; a place out of range
-//! raises `E_RANGE`; a result that weighs too much raises `E_QUOTA`.
+//! raises `E_RANGE`; a value that was written and weighs too much raises `E_QUOTA`, a part that is read is not weighed.
 ghost use Rattle.std.specs.Prelude.{◌≡◌, ◌<◌, ◌≤◌, ◌++◌, length, IfOk, IfSome, OnOk, IsTrue};
-ghost use Rattle.moo_spec.specs.Answer.{limited as limited_of};
-ghost use Rattle.moo_spec.specs.Datum.{is_text, of_list};
-ghost use Rattle.moo_spec.specs.Indexing.{natural as natural_of, place_in as place_in_of, part_of, cut_of, text_index as text_index_of, list_index as list_index_of, text_part, list_part, text_with, text_with_part, list_with_part, index_value, range_value, set_index_value, set_range_value};
-ghost use Rattle.moo_spec.specs.Places.{item_count, length_of_list, list_with};
+ghost use Rattle.spec_value.specs.Answer.{limited as limited_of};
+ghost use Rattle.spec_value.specs.Datum.{is_text, of_list};
+ghost use Rattle.spec_value.specs.Indexing.{natural as natural_of, place_in as place_in_of, part_of, cut_of, text_index as text_index_of, list_index as list_index_of, text_part, list_part, text_with, text_with_part, list_with_part, index_value, range_value, set_index_value, set_range_value};
+ghost use Rattle.spec_value.specs.Places.{item_count, length_of_list, list_with};
 ghost use Rattle.moo_value.specs.Answers.{answer_of};
 
 use moo_value::answer::{Answer, limited};
@@ -71,7 +71,7 @@ fn text_range(alloc: Global, text: &str, first: i32, last: i32) -> Result<Answer
         return Ok(Err(MooError::RangeError));
     };
     let part = front(back(text, start), end - start);
-    Ok(limited(Value::text(Text::from_str(alloc, part)?)))
+    Ok(Ok(Value::text(Text::from_str(alloc, part)?)))
 }
 
 fn list_range(alloc: Global, items: &[Value], first: i32, last: i32) -> Result<Answer, AllocError>
@@ -82,7 +82,7 @@ fn list_range(alloc: Global, items: &[Value], first: i32, last: i32) -> Result<A
     };
     let mut chosen = Vec::new(alloc);
     push_all(&mut chosen, &items[start..end])?;
-    Ok(limited(Value::list(chosen)?))
+    Ok(Ok(Value::list(chosen)?))
 }
 
 /// The base with another character or item at a place. A list that has no other owner is changed in place.
@@ -181,7 +181,10 @@ fn set_list_range(
     let Some((start, end)) = cut(items.len(), first, last) else {
         return Ok(Err(MooError::RangeError));
     };
-    let mut chosen = Vec::new(alloc);
+    let count = start
+        .saturating_add(between.len())
+        .saturating_add(items.len().saturating_sub(end));
+    let mut chosen = Vec::with_capacity(alloc, count)?;
     push_all(&mut chosen, &items[..start])?;
     push_all(&mut chosen, between)?;
     push_all(&mut chosen, &items[end..])?;

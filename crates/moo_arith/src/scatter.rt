@@ -1,8 +1,8 @@
 //! Scattering assignment: which target gets what.
 ghost use Rattle.std.specs.Prelude.{◌≡◌, ◌≤◌, ◌+◌, length, IfOk, map};
-ghost use Rattle.moo_spec.specs.Datum.{of_list, list as list_of};
-ghost use Rattle.moo_spec.specs.Scatter.{required_count as required_count_of, optional_count as optional_count_of, has_rest as has_rest_of, first_of, shares as shares_of, scattered, scattered_items};
-ghost use Rattle.moo_spec.specs.Places.{item_count, first_items, later_items};
+ghost use Rattle.spec_value.specs.Datum.{of_list, list as list_of};
+ghost use Rattle.spec_value.specs.Scatter.{required_count as required_count_of, optional_count as optional_count_of, has_rest as has_rest_of, first_of, shares as shares_of, scattered, scattered_items};
+ghost use Rattle.spec_value.specs.Places.{item_count, first_items, later_items};
 ghost use Rattle.moo_arith.specs.Targets.{kind_of, scattering_of};
 
 use crate::index::push_all;

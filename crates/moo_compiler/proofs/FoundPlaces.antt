@@ -4,7 +4,7 @@ use Rattle.std.specs.Prelude.{slice_get, Result, Ok, Err, OnOk}
 use Rattle.std.proofs.lemmas.List.{length-map, append-nil}
 use Rattle.std.proofs.lemmas.List.{drop_more}
 use Rattle.std.proofs.Math.ListN.{drop_of_length-le}
-use Rattle.moo_spec.specs.Tree.{Statement, Program}
+use Rattle.spec_program.specs.Tree.{Statement, Program}
 use Rattle.moo_tree.specs.StatementView.{program_of}
 use Rattle.moo_compiler.specs.Places.{numbered, statement_places, program_places, places_of, StandsAt}
 use Rattle.moo_compiler.proofs.PlaceLaws.{get_front, get_back, cut_get, get_map, of_map, heads, same_head, same_tail, places_differ}

@@ -3,12 +3,12 @@ use Rattle.std.proofs.Common.{◌≡◌, ℕ, suc, List, [], ◌∷◌, ◌++◌
 use Rattle.std.proofs.lemmas.List.{append-nil}
 use Rattle.std.proofs.Math.Seq.{drop-append_seam, take-append_seam}
 use Rattle.std.specs.Prelude.{pos}
-use Rattle.moo_spec.specs.Datum.{Datum, integer, object, list}
-use Rattle.moo_spec.specs.World.{Construct, Piece}
-use Rattle.moo_spec.specs.Place.{Kind, Holds, holds, walks_list, walks_range, why_left, Part, part_at, tree_of, Linked}
-use Rattle.moo_spec.specs.WellFormed.{kinds_fit, held_fits, part_fits, loops, pieces_fit}
-use Rattle.moo_spec.proofs.Entries.{first_holds, second_holds}
-use Rattle.moo_compiler.specs.Places.{path_of, held_of, held_count, in_tree, in_part, pieces_at, PiecesReadBack}
+use Rattle.spec_value.specs.Datum.{Datum, integer, object, list}
+use Rattle.spec_program.specs.Construct.{Construct, Piece}
+use Rattle.spec_program.specs.Place.{Kind, Holds, holds, walks_list, walks_range, why_left, Part, part_at, tree_of, Linked, held_count, in_tree, in_part, pieces_at}
+use Rattle.spec_world.specs.WellFormed.{kinds_fit, held_fits, part_fits, loops, pieces_fit}
+use Rattle.spec_value.proofs.Entries.{first_holds, second_holds}
+use Rattle.moo_compiler.specs.Places.{path_of, held_of, PiecesReadBack}
 
 kinds_count : (kinds : List Kind) (vs : List Datum) → IsTrue (kinds_fit kinds vs) → length vs ≡ length kinds
 kinds_count [] [] h = refl

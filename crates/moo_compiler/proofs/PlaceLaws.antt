@@ -1,11 +1,11 @@
 -- The list of a program's places.
 use Rattle.std.proofs.Common.{◌≡◌, ◌⊎◌, inl, inr, ℕ, zero, suc, ◌+◌, ◌≤◌, List, [], ◌∷◌, ◌++◌, length, map, Option, Some, None, refl, sym, ap, ◌∙◌, subst, append_assoc, arith}
 use Rattle.std.specs.Prelude.{slice_get}
-use Rattle.moo_spec.specs.Datum.{Text}
-use Rattle.moo_spec.specs.Tree.{Expr, literal, variable, binary, plus, property, assignment, to_property, Statement, evaluate, give, give_zero, Program, the_end, seq}
-use Rattle.moo_spec.specs.World.{Construct, of_expr, of_target, of_statement, of_program}
-use Rattle.moo_spec.specs.Place.{part_at, program_parts, nth, tree_of}
-use Rattle.moo_value.specs.declared.operator.BinaryOperator.TheVariants.{Plus}
+use Rattle.spec_value.specs.Datum.{Text}
+use Rattle.spec_program.specs.Tree.{Expr, literal, variable, binary, property, assignment, to_property, Statement, evaluate, give, give_zero, Program, the_end, seq}
+use Rattle.spec_program.specs.Construct.{Construct, of_expr, of_target, of_statement, of_program}
+use Rattle.spec_program.specs.Place.{part_at, program_parts, nth, tree_of}
+use Rattle.moo_compiler.specs.Operators.{operator_named}
 use Rattle.moo_compiler.specs.declared.code.Instruction.{Instruction}
 use Rattle.moo_compiler.specs.declared.code.Instruction.TheVariants.{Binary, ReadProperty, WriteProperty, Pop, Return}
 use Rattle.moo_compiler.specs.Names.{names_of}
@@ -124,7 +124,7 @@ differ_whole ls h n m x e g = go (cut_get (numbered 1 ls) ([] ∷ []) n x e) (cu
     go (inr f) (inr b) = omega (arith, f.1, b.1, (own f.0 f.2).0, (own b.0 b.2).0)
 
 differ_expr : (e : Expr) → Differ (expr_places e)
-differ_expr (binary plus a b) = differ_whole (expr_places a ∷ expr_places b ∷ []) (differ_expr a, (differ_expr b, tt))
+differ_expr (binary op a b) = differ_whole (expr_places a ∷ expr_places b ∷ []) (differ_expr a, (differ_expr b, tt))
 differ_expr (property a b) = differ_whole (expr_places a ∷ expr_places b ∷ []) (differ_expr a, (differ_expr b, tt))
 differ_expr (assignment (to_property o p) e) =
     differ_whole (numbered 1 (expr_places o ∷ expr_places p ∷ []) ∷ expr_places e ∷ [])
@@ -182,9 +182,9 @@ module _ (names : List Text) where
   beside_expr : (e : Expr) → Beside (of_expr e) (expr_places e) (expr_code names e)
   beside_expr (literal v) = (refl, tt)
   beside_expr (variable x) = (refl, tt)
-  beside_expr (binary plus a b) =
-      subst (Beside (of_expr (binary plus a b)) (expr_places (binary plus a b))) (flat (expr_code names a) (expr_code names b) (Binary Plus))
-      (whole _ (numbered 1 (expr_places a ∷ expr_places b ∷ [])) _ (Binary Plus) refl (two_parts (of_expr (binary plus a b)) (of_expr a) (of_expr b) _ _ _ _ refl refl (beside_expr a) (beside_expr b)))
+  beside_expr (binary op a b) =
+      subst (Beside (of_expr (binary op a b)) (expr_places (binary op a b))) (flat (expr_code names a) (expr_code names b) (Binary (operator_named op)))
+      (whole _ (numbered 1 (expr_places a ∷ expr_places b ∷ [])) _ (Binary (operator_named op)) refl (two_parts (of_expr (binary op a b)) (of_expr a) (of_expr b) _ _ _ _ refl refl (beside_expr a) (beside_expr b)))
   beside_expr (property a b) =
       subst (Beside (of_expr (property a b)) (expr_places (property a b))) (flat (expr_code names a) (expr_code names b) ReadProperty)
       (whole _ (numbered 1 (expr_places a ∷ expr_places b ∷ [])) _ ReadProperty refl (two_parts (of_expr (property a b)) (of_expr a) (of_expr b) _ _ _ _ refl refl (beside_expr a) (beside_expr b)))

@@ -1,10 +1,10 @@
 -- A machine before an instruction stands for one list of pieces.
 use Rattle.std.proofs.Common.{◌≡◌, ℕ, List, [], ◌∷◌, ◌++◌, length, reverse, Option, Some, None, refl, sym, ap, ◌∙◌, append_assoc, arith}
 use Rattle.std.proofs.lemmas.List.{append-nil, reverse-reverse, length-reverse}
-use Rattle.moo_spec.specs.Datum.{Datum}
-use Rattle.moo_spec.specs.World.{Construct, of_program, Piece}
-use Rattle.moo_spec.specs.Place.{Linked}
-use Rattle.moo_compiler.specs.Places.{on_tree, construct_at, path_of, held_of, pieces_at}
+use Rattle.spec_value.specs.Datum.{Datum}
+use Rattle.spec_program.specs.Construct.{Construct, of_program, Piece}
+use Rattle.spec_program.specs.Place.{Linked, pieces_at}
+use Rattle.moo_compiler.specs.Places.{on_tree, construct_at, path_of, held_of}
 use Rattle.moo_compiler.specs.Performing.{operand_count, StandsForOne}
 use Rattle.moo_compiler.proofs.PieceLaws.{pieces_read_back}
 use Rattle.moo_compiler.proofs.PlaceLaws.{same_place}

@@ -1,9 +1,9 @@
 -- The instructions of a source tree.
 use Rattle.std.specs.Prelude.{List, [], ◌∷◌, ◌++◌}
-use Rattle.moo_spec.specs.Datum.{Text}
-use Rattle.moo_spec.specs.Tree.{Expr, literal, variable, binary, plus, property, assignment, Target, to_property, Statement, evaluate, give, give_zero, Program, the_end, seq}
+use Rattle.spec_value.specs.Datum.{Text}
+use Rattle.spec_program.specs.Tree.{Expr, literal, variable, binary, property, assignment, Target, to_property, Statement, evaluate, give, give_zero, Program, the_end, seq}
 use Rattle.moo_compiler.specs.Names.{slot_of, names_of}
-use Rattle.moo_value.specs.declared.operator.BinaryOperator.TheVariants.{Plus}
+use Rattle.moo_compiler.specs.Operators.{operator_named}
 use Rattle.moo_compiler.specs.declared.code.Instruction.{Instruction}
 use Rattle.moo_compiler.specs.declared.code.Instruction.TheVariants.{Push, Load, Binary, ReadProperty, WriteProperty, Pop, Return, ReturnZero, Missing}
 
@@ -12,7 +12,7 @@ abbrev mutual
   pub expr_code : List Text → Expr → List Instruction
   expr_code names (literal v) = Push v ∷ []
   expr_code names (variable x) = Load (slot_of names x) ∷ []
-  expr_code names (binary plus a b) = expr_code names a ++ (expr_code names b ++ Binary Plus ∷ [])
+  expr_code names (binary op a b) = expr_code names a ++ (expr_code names b ++ Binary (operator_named op) ∷ [])
   expr_code names (property o p) = expr_code names o ++ (expr_code names p ++ ReadProperty ∷ [])
   expr_code names (assignment t e) = assignment_code names t (expr_code names e)
   expr_code names _ = Missing ∷ []

@@ -1,7 +1,11 @@
 -- The variables of a program and their slots.
-use Rattle.std.specs.Prelude.{ℕ, suc, List, [], ◌∷◌, ◌++◌, length, cond, nat_lt, codes}
-use Rattle.moo_spec.specs.Datum.{Text, same_text}
-use Rattle.moo_spec.specs.Tree.{Expr, variable, binary, property, assignment, Target, to_property, Statement, evaluate, give, Program, the_end, seq}
+use Rattle.std.specs.Prelude.{◌≡◌, ℕ, suc, Option, Some, None, if◌then◌else◌, List, [], ◌∷◌, ◌++◌, length, cond, nat_lt, codes}
+use Rattle.std.specs.Borrow.{Bor}
+use Rattle.std.specs.BTreeMap.{BTreeMap, get_by}
+use Rattle.std.specs.Cmp.Lexicographic.{slice_cmp}
+use Rattle.std.specs.Ordering.{nat_cmp}
+use Rattle.spec_value.specs.Datum.{Text, same_text}
+use Rattle.spec_program.specs.Tree.{Expr, variable, binary, property, assignment, Target, to_property, Statement, evaluate, give, Program, the_end, seq}
 
 -- the variables that every verb begins with, in the order of their names
 unfoldable pub starting_names : List Text
@@ -17,6 +21,14 @@ place_in (y ∷ ys) x = cond (same_text y x) 0 (suc (place_in ys x))
 -- over a program's own names
 abbrev pub slot_of : List Text → Text → ℕ
 slot_of names x = place_in (starting_names ++ names) x
+
+-- where a name stands, if it does
+abbrev pub found_place : List Text → Text → Option ℕ
+found_place names x = if nat_lt (place_in names x) (length names) then Some (place_in names x) else None
+
+-- the map finds each of the names at its place, and no other
+abbrev pub HasPlaces : List Text → BTreeMap (Bor Text) ℕ → Type 0
+HasPlaces names m = (x : Text) → get_by (λ k. slice_cmp nat_cmp x k.now) m ≡ found_place names x
 
 abbrev pub mention : List Text → Text → List Text
 mention names x = cond (nat_lt (slot_of names x) (length (starting_names ++ names))) names (names ++ x ∷ [])

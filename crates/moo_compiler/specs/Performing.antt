@@ -1,15 +1,15 @@
 -- What a machine before an instruction stands for.
 use Rattle.std.specs.Prelude.{◌≡◌, ℕ, List, ◌++◌, length, reverse, slice_get, Some, IsTrue}
-use Rattle.moo_spec.specs.Datum.{Datum}
-use Rattle.moo_spec.specs.Tree.{binary, plus, property, assignment, to_property, evaluate, give, Program}
-use Rattle.moo_spec.specs.World.{Construct, of_expr, of_statement, of_program, Piece}
-use Rattle.moo_spec.specs.Place.{Linked}
-use Rattle.moo_spec.specs.WellFormed.{pieces_fit}
+use Rattle.spec_value.specs.Datum.{Datum}
+use Rattle.spec_program.specs.Tree.{binary, property, assignment, to_property, evaluate, give, Program}
+use Rattle.spec_program.specs.Construct.{Construct, of_expr, of_statement, of_program, Piece}
+use Rattle.spec_program.specs.Place.{Linked}
+use Rattle.spec_world.specs.WellFormed.{pieces_fit}
 use Rattle.moo_compiler.specs.Places.{places_of, path_of, held_of}
 
 -- how many operands the construct's own instruction takes
 abbrev pub operand_count : Construct → ℕ
-operand_count (of_expr (binary plus a b)) = 2
+operand_count (of_expr (binary op a b)) = 2
 operand_count (of_expr (property o p)) = 2
 operand_count (of_expr (assignment (to_property o p) e)) = 3
 operand_count (of_statement (evaluate e)) = 1

@@ -1,13 +1,13 @@
 -- Where in its program each instruction stands, and where pieces stand.
-use Rattle.std.specs.Prelude.{◌≡◌, ◌≢◌, ℕ, suc, List, [], ◌∷◌, ◌++◌, length, map, take, drop, slice_get, Option, Some, None, IsTrue}
-use Rattle.moo_spec.specs.Datum.{Datum, Text}
-use Rattle.moo_spec.specs.Tree.{Expr, literal, variable, binary, plus, property, assignment, Target, to_property, Statement, evaluate, give, give_zero, Program, the_end, seq}
-use Rattle.moo_spec.specs.World.{Construct, of_expr, of_statement, of_program, Piece}
-use Rattle.moo_spec.specs.Place.{Holds, holds, walks_list, walks_range, why_left, Part, part_at, tree_of, Linked}
-use Rattle.moo_spec.specs.WellFormed.{pieces_fit}
+use Rattle.std.specs.Prelude.{◌≡◌, ◌≢◌, ℕ, suc, List, [], ◌∷◌, ◌++◌, length, map, slice_get, Option, Some, None, IsTrue}
+use Rattle.spec_value.specs.Datum.{Datum, Text}
+use Rattle.spec_program.specs.Tree.{Expr, literal, variable, binary, property, assignment, Target, to_property, Statement, evaluate, give, give_zero, Program, the_end, seq}
+use Rattle.spec_program.specs.Construct.{Construct, of_expr, of_statement, of_program, Piece}
+use Rattle.spec_program.specs.Place.{part_at, tree_of, Linked, pieces_at}
+use Rattle.spec_world.specs.WellFormed.{pieces_fit}
 use Rattle.moo_compiler.specs.Names.{slot_of, names_of}
 use Rattle.moo_compiler.specs.Code.{code_of}
-use Rattle.moo_value.specs.declared.operator.BinaryOperator.TheVariants.{Plus}
+use Rattle.moo_compiler.specs.Operators.{operator_named}
 use Rattle.moo_compiler.specs.declared.code.Instruction.{Instruction}
 use Rattle.moo_compiler.specs.declared.code.Instruction.TheVariants.{Push, Load, Binary, ReadProperty, WriteProperty, Pop, Return, ReturnZero, Missing}
 
@@ -21,7 +21,7 @@ numbered n (places ∷ more) = map (λ place. n ∷ place) places ++ numbered (s
 -- in the order of the code: those in the parts, and then the construct itself
 abbrev mutual
   pub expr_places : Expr → List (List ℕ)
-  expr_places (binary plus a b) = numbered 1 (expr_places a ∷ expr_places b ∷ []) ++ [] ∷ []
+  expr_places (binary op a b) = numbered 1 (expr_places a ∷ expr_places b ∷ []) ++ [] ∷ []
   expr_places (property o p) = numbered 1 (expr_places o ∷ expr_places p ∷ []) ++ [] ∷ []
   expr_places (assignment t e) = assignment_places t (expr_places e)
   expr_places _ = [] ∷ []
@@ -62,7 +62,7 @@ construct_at c (n ∷ place) = on_tree (tree_of (part_at c n)) (λ d. construct_
 abbrev pub own_instruction : List Text → Construct → Option Instruction
 own_instruction names (of_expr (literal v)) = Some (Push v)
 own_instruction names (of_expr (variable x)) = Some (Load (slot_of names x))
-own_instruction names (of_expr (binary plus a b)) = Some (Binary Plus)
+own_instruction names (of_expr (binary op a b)) = Some (Binary (operator_named op))
 own_instruction names (of_expr (property o p)) = Some ReadProperty
 own_instruction names (of_expr (assignment (to_property o p) e)) = Some WriteProperty
 own_instruction names (of_expr e) = Some Missing
@@ -99,26 +99,6 @@ path_of (p ∷ ps) = path_of ps ++ p.part ∷ []
 abbrev pub held_of : List Piece → List Datum
 held_of [] = []
 held_of (p ∷ ps) = held_of ps ++ p.held
-
-abbrev pub held_count : Holds → ℕ
-held_count (holds kinds) = length kinds
-held_count walks_list = 2
-held_count walks_range = 2
-held_count why_left = 1
-
-abbrev pub in_tree : Option Construct → ℕ → (Construct → ℕ → Option (Construct × List Piece)) → Option (Construct × List Piece)
-in_tree None k go = None
-in_tree (Some c) k go = go c k
-
-abbrev pub in_part : Option Part → (Construct → ℕ → Option (Construct × List Piece)) → Option (Construct × List Piece)
-in_part None go = None
-in_part (Some x) go = in_tree x.tree (held_count x.held) go
-
--- down a path from a construct that these pieces lead out of: what stands there, and the pieces from there
-abbrev pub pieces_at : Construct → List ℕ → List Datum → List Piece → Option (Construct × List Piece)
-pieces_at c [] [] ps = Some (c, ps)
-pieces_at c [] (v ∷ vs) ps = None
-pieces_at c (n ∷ path) vs ps = in_part (part_at c n) (λ d k. pieces_at d path (drop k vs) (record { construct = c; part = n; held = take k vs } ∷ ps))
 
 -- the path of pieces and what they hold give the pieces back
 abbrev pub PiecesReadBack : Type 0

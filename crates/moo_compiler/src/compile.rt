@@ -1,17 +1,15 @@
 //! From a tree to its code.
 ghost use Rattle.std.specs.Prelude.{◌≡◌, ◌++◌, [], ◌∷◌, IfOk, OnOk};
-ghost use Rattle.moo_spec.specs.Tree.{Program};
+ghost use Rattle.spec_program.specs.Tree.{Program};
 ghost use Rattle.moo_tree.specs.ExpressionView.{target_place};
 ghost use Rattle.moo_tree.specs.StatementView.{program_of};
 ghost use Rattle.moo_compiler.specs.Names.{expr_names, target_names, statement_names, program_names, names_of};
 ghost use Rattle.moo_compiler.specs.Code.{expr_code, statement_code, program_code, code_of};
 
 use crate::code::{Code, Instruction};
-use crate::names::{add_mention, slot};
+use crate::names::Names;
 use moo_tree::expression::{Expression, ExpressionNode, Target};
 use moo_tree::statement::{Statement, StatementNode, Tree};
-use moo_value::operator::BinaryOperator;
-use moo_value::text::Text;
 use std::alloc::{AllocError, Global};
 
 /// The code of a tree.
@@ -20,7 +18,7 @@ pub fn compile(alloc: Global, tree: &Tree) -> Result<Code, AllocError>
     ensures names { IfOk result (λ code. code.names.items ≡ names_of tree.now) }
 {
     let statements = tree.statements();
-    let mut names = Vec::new(alloc);
+    let mut names = Names::new(alloc);
     for statement in statements {
         name_statement(&mut names, statement)?;
     }
@@ -30,13 +28,13 @@ pub fn compile(alloc: Global, tree: &Tree) -> Result<Code, AllocError>
     }
     Ok(Code {
         instructions,
-        names,
+        names: names.into_list(),
     })
 }
 
 // Adds the names of a statement's variables.
-fn name_statement(names: &mut Vec<Text>, statement: &Statement) -> Result<(), AllocError>
-    ensures { OnOk result (names.new.items ≡ statement_names statement.now names.old.items) }
+fn name_statement<'a>(names: &mut Names<'a>, statement: &'a Statement) -> Result<(), AllocError>
+    ensures { OnOk result (names.new ≡ statement_names statement.now names.old) }
 {
     match &statement.node {
         StatementNode::Evaluate(value) => name_expression(names, value),
@@ -46,12 +44,12 @@ fn name_statement(names: &mut Vec<Text>, statement: &Statement) -> Result<(), Al
 }
 
 // Adds the names of an expression's variables.
-fn name_expression(names: &mut Vec<Text>, expression: &Expression) -> Result<(), AllocError>
-    ensures { OnOk result (names.new.items ≡ expr_names expression.now names.old.items) }
+fn name_expression<'a>(names: &mut Names<'a>, expression: &'a Expression) -> Result<(), AllocError>
+    ensures { OnOk result (names.new ≡ expr_names expression.now names.old) }
 {
     match &expression.node {
         ExpressionNode::Literal(_) => Ok(()),
-        ExpressionNode::Variable(name) => add_mention(names, name),
+        ExpressionNode::Variable(name) => names.mention(name),
         ExpressionNode::Binary(_, left, right) => {
             name_expression(names, left)?;
             name_expression(names, right)
@@ -71,7 +69,7 @@ fn name_expression(names: &mut Vec<Text>, expression: &Expression) -> Result<(),
 // Adds the instructions of a statement.
 fn emit_statement(
     code: &mut Vec<Instruction>,
-    names: &[Text],
+    names: &Names<'_>,
     statement: &Statement,
 ) -> Result<(), AllocError>
     ensures { OnOk result (code.new.items ≡ code.old.items ++ statement_code names.now statement.now) }
@@ -90,9 +88,10 @@ fn emit_statement(
 }
 
 // Adds the instructions of an expression.
+#[tactic(auto, using(crate::specs::Operators::named_operator))]
 fn emit_expression(
     code: &mut Vec<Instruction>,
-    names: &[Text],
+    names: &Names<'_>,
     expression: &Expression,
 ) -> Result<(), AllocError>
     ensures { OnOk result (code.new.items ≡ code.old.items ++ expr_code names.now expression.now) }
@@ -103,15 +102,14 @@ fn emit_expression(
             put(code, Instruction::Push(value))
         }
         ExpressionNode::Variable(name) => {
-            let slot = slot(names, name.as_str());
+            let slot = names.slot(name.as_str());
             put(code, Instruction::Load(slot))
         }
-        ExpressionNode::Binary(BinaryOperator::Plus, left, right) => {
+        ExpressionNode::Binary(operator, left, right) => {
             emit_expression(code, names, left)?;
             emit_expression(code, names, right)?;
-            put(code, Instruction::Binary(BinaryOperator::Plus))
+            put(code, Instruction::Binary(*operator))
         }
-        ExpressionNode::Binary(_, _, _) => put(code, Instruction::Missing),
         ExpressionNode::Property(object, name) => {
             emit_expression(code, names, object)?;
             emit_expression(code, names, name)?;

@@ -1,32 +1,83 @@
 //! The slots of variables.
-ghost use Rattle.std.specs.Prelude.{◌≡◌, ◌+◌, ℕ, List, length, map, OnOk};
+ghost use Rattle.std.specs.Prelude.{◌≡◌, ◌+◌, [], ℕ, List, length, map, OnOk};
 ghost use Rattle.std.specs.Borrow.{Bor};
-ghost use Rattle.moo_compiler.specs.Names.{place_in, slot_of, mention, starting_names};
+ghost use Rattle.moo_compiler.specs.Names.{place_in, slot_of, mention as mention_of, starting_names};
 
 use crate::code::STARTING_NAMES;
 use moo_value::text::Text;
-use std::alloc::AllocError;
+use std::alloc::{AllocError, Global};
+use std::collections::BTreeMap;
+use std::marker::Model;
 
-/// The slot of a variable, over the program's own names.
-pub fn slot(names: &[Text], name: &str) -> usize
-    ensures { result ≡ slot_of names.now name.now }
-{
-    let place = starting_place(name);
-    if place < STARTING_NAMES.len() {
-        place
-    } else {
-        place + own_place(names, name)
-    }
+/// A program's own names, once each, in the order of their first mention. Where a name stands is looked up, and not searched for.
+#[derive(Drop)]
+pub struct Names<'a> {
+    list: Vec<Text>,
+    places: BTreeMap<&'a str, usize>,
 }
 
-/// Adds a name, unless it has a slot.
-pub fn add_mention(names: &mut Vec<Text>, name: &Text) -> Result<(), AllocError>
-    ensures { OnOk result (names.new.items ≡ mention names.old.items name.now) }
-{
-    if slot(names, name.as_str()) == STARTING_NAMES.len() + names.len() {
-        names.push(name.clone()?)?;
+impl<'a> Model for Names<'a> {
+    ghost use Rattle.std.specs.Prelude.{ℕ, List};
+
+    ghost Value = { List (List ℕ) };
+
+    ghost view = { λ a. a.list.items };
+
+    ghost use Rattle.moo_compiler.specs.Names.{HasPlaces};
+
+    ghost invariant = { λ a. HasPlaces a.list.items a.places };
+}
+
+impl<'a> Names<'a> {
+    /// No names.
+    pub fn new(alloc: Global) -> Names<'a>
+        ensures { result ≡ [] }
+    {
+        Names {
+            list: Vec::new(alloc),
+            places: BTreeMap::new(alloc),
+        }
     }
-    Ok(())
+
+    /// The slot of a variable.
+    pub fn slot(&self, name: &str) -> usize
+        ensures { result ≡ slot_of self.now name.now }
+    {
+        let place = starting_place(name);
+        if place < STARTING_NAMES.len() {
+            return place;
+        }
+        match self.places.get(name) {
+            Some(own) => place + *own,
+            None => place + self.list.len(),
+        }
+    }
+
+    /// Adds a name, unless it has a slot.
+    pub fn mention(&mut self, name: &'a Text) -> Result<(), AllocError>
+        ensures { OnOk result (self.new ≡ mention_of self.old name.now) }
+    {
+        let text = name.as_str();
+        if self.slot(text) < STARTING_NAMES.len() + self.list.len() {
+            return Ok(());
+        }
+        let place = self.list.len();
+        self.list.push(name.clone()?)?;
+        match self.places.insert(text, place) {
+            Ok(_) => Ok(()),
+            Err(error) => {
+                self.list.pop();
+                Err(AllocError::from(error))
+            }
+        }
+    }
+
+    /// The names.
+    pub fn into_list(self) -> Vec<Text>
+        ensures { result.items ≡ self.entry }
+    {
+        self.list
+    }
 }
 
 // The place among the starting names, or the count of those.
@@ -41,18 +92,6 @@ fn place_among(names: &[&str], name: &str) -> usize
 {
     for (place, known) in names.iter().enumerate() {
         if *known == name {
-            return place;
-        }
-    }
-    names.len()
-}
-
-// The place among the program's own names, or the count of those.
-fn own_place(names: &[Text], name: &str) -> usize
-    ensures { result ≡ place_in names.now name.now }
-{
-    for (place, known) in names.iter().enumerate() {
-        if known.as_str() == name {
             return place;
         }
     }

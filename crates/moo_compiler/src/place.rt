@@ -3,12 +3,11 @@
 //! A place is the path to a construct: part numbers, counted from 1 as written, the outermost first.
 ghost use Rattle.std.specs.Prelude.{◌≡◌, ◌∷◌, ◌++◌, ◌+◌, ◌<◌, ◌≤◌, ◌^◌, ℕ, [], Some, length, map, slice_get, IfOk, OnOk, MatchOption};
 ghost use Rattle.moo_compiler.specs.Places.{numbered, expr_places, assignment_places, statement_places, places_of, StandsAt};
-ghost use Rattle.moo_spec.specs.Tree.{to_property};
+ghost use Rattle.spec_program.specs.Tree.{to_property};
 
 use crate::program::Program;
 use moo_tree::expression::{Expression, ExpressionNode, Target};
 use moo_tree::statement::{Statement, StatementNode};
-use moo_value::operator::BinaryOperator;
 use std::alloc::{AllocError, Global};
 
 /// The place of the construct that an instruction performs, by the instruction's index in the code.
@@ -91,8 +90,10 @@ fn count(expression: &Expression) -> usize
     ensures { result ≡ length (expr_places expression.now) }
 {
     match &expression.node {
-        ExpressionNode::Binary(BinaryOperator::Plus, left, right)
-        | ExpressionNode::Property(left, right) => count(left) + count(right) + 1,
+        ExpressionNode::Binary(_, left, right) | ExpressionNode::Property(left, right) => count(
+            left,
+        ) + count(right)
+            + 1,
         ExpressionNode::Assignment(Target::Property(object, name), value) => {
             count(object) + count(name) + count(value) + 1
         }
@@ -142,8 +143,8 @@ fn find(expression: &Expression, index: usize, place: &mut Vec<usize>) -> Result
     ensures { OnOk result (slice_get (map (λ path. place.old.items ++ path) (expr_places expression.now)) index ≡ Some place.new.items) }
 {
     match &expression.node {
-        ExpressionNode::Binary(BinaryOperator::Plus, left, right)
-        | ExpressionNode::Property(left, right) => find_in_two(left, right, index, place),
+        ExpressionNode::Binary(_, left, right) | ExpressionNode::Property(left, right) =>
+            find_in_two(left, right, index, place),
         ExpressionNode::Assignment(Target::Property(object, name), value) => {
             find_in_assignment(object, name, value, index, place)
         }
@@ -246,8 +247,8 @@ fn index_in(expression: &Expression, place: &[usize]) -> Option<usize>
         return Some(count(expression) - 1);
     };
     match &expression.node {
-        ExpressionNode::Binary(BinaryOperator::Plus, left, right)
-        | ExpressionNode::Property(left, right) => index_in_two(left, right, part, rest),
+        ExpressionNode::Binary(_, left, right) | ExpressionNode::Property(left, right) =>
+            index_in_two(left, right, part, rest),
         ExpressionNode::Assignment(Target::Property(object, name), value) => {
             index_in_assignment(object, name, value, part, rest)
         }

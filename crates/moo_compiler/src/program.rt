@@ -23,8 +23,8 @@ struct Compiled {
 }
 
 impl Model for Program {
-    ghost use Rattle.moo_spec.specs.Tree.{Program as Source};
-    ghost use Rattle.moo_spec.specs.TreeCode.{program_code};
+    ghost use Rattle.spec_program.specs.Tree.{Program as Source};
+    ghost use Rattle.spec_program.specs.TreeCode.{program_code};
     ghost use Rattle.std.specs.Arc.{arc_value};
 
     ghost Value = { Source };

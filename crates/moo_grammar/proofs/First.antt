@@ -2,7 +2,7 @@
 use Rattle.std.proofs.Common.{◌≡◌, ◌+◌, ◌<◌, ℕ, true, false, List, [], ◌∷◌, ◌++◌, Option, Some, None, length, take, get_or, refl, sym, ap, ◌∙◌, subst, arith, add-one}
 use Rattle.std.proofs.Math.Seq.{take-suc, take-length}
 use Rattle.std.proofs.lemmas.List.{length-take-le}
-use Rattle.moo_spec.specs.Tree.{Statement, Program, the_end}
+use Rattle.spec_program.specs.Tree.{Statement, Program, the_end}
 use Rattle.moo_token.specs.Tokens.{Token}
 use Rattle.moo_grammar.specs.declared.machine.Frame.{Frame}
 use Rattle.moo_grammar.specs.declared.machine.Mode.{Mode}

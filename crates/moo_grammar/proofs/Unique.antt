@@ -1,10 +1,10 @@
 -- The tree can be read back from the postfix order, so no tokens have two trees.
 use Rattle.std.proofs.Common.{◌≡◌, ℕ, List, [], ◌∷◌, ◌++◌, length, Option, Some, None, refl, sym, ap, ◌∙◌, append_assoc, append-nil}
 use Rattle.std.specs.Prelude.{pos}
-use Rattle.moo_spec.specs.Datum as datum
-use Rattle.moo_spec.specs.Datum.{fold_case}
-use Rattle.moo_spec.specs.Tree as tree
-use Rattle.moo_spec.specs.Tree.{Statement, Program, the_end, seq}
+use Rattle.spec_value.specs.Datum as datum
+use Rattle.spec_value.specs.Datum.{fold_case}
+use Rattle.spec_program.specs.Tree as tree
+use Rattle.spec_program.specs.Tree.{Statement, Program, the_end, seq}
 use Rattle.moo_token.specs.declared.token.Sign.TheVariants as sign
 use Rattle.moo_token.specs.Tokens as t
 use Rattle.moo_token.specs.Tokens.{Token}

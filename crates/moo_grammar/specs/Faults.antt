@@ -1,6 +1,6 @@
 -- Which token is at fault.
 use Rattle.std.specs.Prelude.{◌≡◌, ℕ, ◌+◌, ◌<◌, ◌≤◌, List, ◌++◌, length, take}
-use Rattle.moo_spec.specs.Tree.{Program}
+use Rattle.spec_program.specs.Tree.{Program}
 use Rattle.moo_token.specs.Tokens.{Token}
 use Rattle.moo_grammar.specs.Grammar.{IsProgram}
 

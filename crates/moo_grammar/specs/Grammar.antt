@@ -1,10 +1,11 @@
 -- The grammar (Programmer's Manual, "The MOO Programming Language"): what a program is made of, the tokens that it is written with,
 -- and its tree.
 use Rattle.std.specs.Prelude.{◌≡◌, ℕ, zero, suc, ℤ, pos, negsuc, Bool, true, false, ◌==◌, if◌then◌else◌, List, [], ◌∷◌, ◌++◌}
-use Rattle.moo_spec.specs.Datum as datum
-use Rattle.moo_spec.specs.Datum.{Datum, Text, ErrorCode, fold_case}
-use Rattle.moo_spec.specs.Tree as tree
-use Rattle.moo_spec.specs.Tree.{Expr, Target, Statement, the_end, seq}
+use Rattle.spec_value.specs.Datum as datum
+use Rattle.spec_value.specs.Datum.{Datum, Text, ErrorCode, fold_case}
+use Rattle.spec_program.specs.Tree as tree
+use Rattle.spec_value.specs.Operators as operator
+use Rattle.spec_program.specs.Tree.{Expr, Target, Statement, the_end, seq}
 use Rattle.moo_token.specs.declared.token.Sign.TheVariants as sign
 use Rattle.moo_token.specs.declared.token.Keyword.TheVariants as word
 use Rattle.moo_token.specs.declared.token.ErrorName.{ErrorName}
@@ -160,7 +161,7 @@ abbrev mutual
 
   pub tree_sum : Sum → Expr
   tree_sum (operand a) = tree_operand a
-  tree_sum (plus a b) = tree.binary tree.plus (tree_sum a) (tree_operand b)
+  tree_sum (plus a b) = tree.binary operator.plus (tree_sum a) (tree_operand b)
 
   pub tree_operand : Operand → Expr
   tree_operand (literal l) = tree.literal (literal_value l)

@@ -1,6 +1,7 @@
 -- The tree of a postfix order.
 use Rattle.std.specs.Prelude.{List, [], ◌∷◌, ◌++◌, Option, Some, None}
-use Rattle.moo_spec.specs.Tree.{BinaryOperator, Expr, literal, variable, binary, property, assignment, Target, to_property, Statement, evaluate, give, give_zero, Program, the_end, seq}
+use Rattle.spec_value.specs.Operators.{BinaryOperator}
+use Rattle.spec_program.specs.Tree.{Expr, literal, variable, binary, property, assignment, Target, to_property, Statement, evaluate, give, give_zero, Program, the_end, seq}
 use Rattle.moo_grammar.specs.Postfix.{Op, literal_op, variable_op, binary_op, property_op, to_property_op, assignment_op, evaluate_op, give_op, give_zero_op, Put}
 
 -- what was read back and is not yet part of a tree

@@ -1,7 +1,7 @@
 -- A machine that takes a token at a time. It keeps a list of what was begun, the newest first, and what it has put out.
 use Rattle.std.specs.Prelude.{ℕ, suc, pos, Bool, true, false, if◌then◌else◌, List, [], ◌∷◌, Option, Some, None}
-use Rattle.moo_spec.specs.Datum as datum
-use Rattle.moo_spec.specs.Datum.{Datum, Text, fold_case}
+use Rattle.spec_value.specs.Datum as datum
+use Rattle.spec_value.specs.Datum.{Datum, Text, fold_case}
 use Rattle.moo_token.specs.declared.token.Sign.{Sign}
 use Rattle.moo_token.specs.declared.token.Sign.TheVariants as sign
 use Rattle.moo_token.specs.declared.token.Keyword.{Keyword}

@@ -1,9 +1,10 @@
 -- A phrase in postfix order: a step for each expression, target and statement of its tree, with the place of its first token.
 use Rattle.std.specs.Prelude.{ℕ, pos, List, [], ◌∷◌, ◌++◌, length}
-use Rattle.moo_spec.specs.Datum as datum
-use Rattle.moo_spec.specs.Datum.{Datum, Text, fold_case}
-use Rattle.moo_spec.specs.Tree as tree
-use Rattle.moo_spec.specs.Tree.{BinaryOperator}
+use Rattle.spec_value.specs.Datum as datum
+use Rattle.spec_value.specs.Datum.{Datum, Text, fold_case}
+use Rattle.spec_program.specs.Tree as tree
+use Rattle.spec_value.specs.Operators as operator
+use Rattle.spec_value.specs.Operators.{BinaryOperator}
 use Rattle.moo_token.specs.declared.token.Sign.TheVariants as sign
 use Rattle.moo_token.specs.Tokens as t
 use Rattle.moo_token.specs.Tokens.{Token}
@@ -29,7 +30,7 @@ abbrev pub and_put : List Put → Op → ℕ → List Put
 and_put out op first = out ++ record { op = op; first = first } ∷ []
 
 abbrev pub plus_op : Op
-plus_op = binary_op tree.plus
+plus_op = binary_op operator.plus
 
 -- each takes the tokens before the phrase and what is put out for them
 abbrev mutual

@@ -1,7 +1,7 @@
 //! Laws of the grammar.
 
 ghost use Rattle.std.specs.Prelude.{◌≡◌, ◌+◌, ◌<◌, [], List, Some, None, length, take, true, false};
-ghost use Rattle.moo_spec.specs.Tree.{Program};
+ghost use Rattle.spec_program.specs.Tree.{Program};
 ghost use Rattle.moo_token.specs.Tokens.{Token};
 ghost use Rattle.moo_grammar.specs.Grammar.{IsProgram};
 ghost use Rattle.moo_grammar.specs.Faults.{CanBegin, IsFault};

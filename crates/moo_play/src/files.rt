@@ -1,17 +1,34 @@
-//! Files and the standard input.
+//! What the words name: the bytes of files and of the standard input.
+use std::alloc::{AllocError, Global};
 use std::io::Read;
 use std::rt::Files;
 use std::{fs, io};
 
-/// All bytes of a file.
-pub fn read_file<R: Files + AllocGlobal>(rt: &R, path: &str) -> io::Result<Vec<u8>> {
-    fs::read(rt, path)
+/// All bytes of a script, from a file or, at the word `stdin`, the standard input. A script that cannot be read gives the line of that fault.
+pub fn read_script<R: Input + AllocGlobal + Files>(
+    rt: &R,
+    name: &str,
+) -> Result<Result<Vec<u8>, String>, AllocError> {
+    let read = if name == "stdin" {
+        read_input(rt)
+    } else {
+        fs::read(rt, name)
+    };
+    match read {
+        Ok(script) => Ok(Ok(script)),
+        Err(error) if error.kind() == io::ErrorKind::OutOfMemory => Err(AllocError),
+        Err(_) => Ok(Err(cannot_read(rt.alloc(), name)?)),
+    }
 }
 
-/// All bytes of the standard input.
-pub fn read_input<R: Input + AllocGlobal>(rt: &R) -> io::Result<Vec<u8>> {
+fn read_input<R: Input + AllocGlobal>(rt: &R) -> io::Result<Vec<u8>> {
     let mut bytes = Vec::new(rt.alloc());
     let mut reader = rt.reader();
     reader.read_to_end(&mut bytes)?;
     Ok(bytes)
+}
+
+/// The line of a file that cannot be read.
+pub fn cannot_read(alloc: Global, name: &str) -> Result<String, AllocError> {
+    format!(in alloc; "cannot read {name}")
 }

@@ -3,11 +3,12 @@
 
 mod files;
 mod run;
+mod words;
 
 use moo_server::play::stopped;
-use speculate::stack::STACK_SIZE;
 use std::process::ExitCode;
 use std::thread::Builder;
+use task_step::stack::STACK_SIZE;
 
 fn main(rt: HostRuntime) -> ExitCode {
     let host = rt;

@@ -3,7 +3,7 @@ use Rattle.std.proofs.Common.{◌≡◌, ℕ, ◌<◌, ◌≤◌, true, false, �
 use Rattle.std.specs.Cmp.Lexicographic.{pointwise, same_text}
 use Rattle.std.proofs.lemmas.Bool.Decides.{nat_tests}
 use Rattle.std.proofs.lemmas.Str.{IsUtf8-from_ascii}
-use Rattle.moo_spec.specs.Datum.{is_text}
+use Rattle.spec_value.specs.Datum.{is_text}
 use Rattle.moo_value.proofs.Characters.{all_ascii}
 use Rattle.task_step.specs.declared.step.Event.TheVariants as event
 use Rattle.moo_script.specs.declared.fault.LineFault.TheVariants as fault

@@ -1,5 +1,6 @@
 pub mod Digits
 pub mod Forms
 pub mod OneAnswer
+pub mod OneReading
 pub mod Scripts
 pub mod Spaces

@@ -1,7 +1,7 @@
 -- What a line of a script says, after the first one.
 use Rattle.std.specs.Prelude.{◌≡◌, ℕ, Bool, not, ◌&&◌, ◌==◌, nat_le, nat_lt, List, [], ◌∷◌, ◌++◌, length, codes, IsTrue, IsFalse}
 use Rattle.std.specs.List.{list_all}
-use Rattle.moo_spec.specs.Datum.{is_text}
+use Rattle.spec_value.specs.Datum.{is_text}
 use Rattle.task_step.specs.declared.step.Event.TheVariants as event
 use Rattle.moo_script.specs.declared.fault.LineFault.{LineFault}
 use Rattle.moo_script.specs.declared.fault.LineFault.TheVariants as fault

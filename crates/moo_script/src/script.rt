@@ -1,6 +1,6 @@
 //! Reading a script.
 ghost use Rattle.std.specs.Prelude.{◌≡◌, ◌++◌, ◌∷◌, ◌==◌, ℕ, List, length, codes, position, IfSome, IfOk, IfErr, IsTrue, IsFalse, MatchOption};
-ghost use Rattle.moo_spec.specs.Datum.{is_text};
+ghost use Rattle.spec_value.specs.Datum.{is_text};
 ghost use Rattle.moo_script.specs.Lines.{Says, IsRefused};
 ghost use Rattle.moo_script.specs.Scripts.{is_one_line, GivesKey, GiveSteps, IsScript, IsBodyFault, Fault, IsFault};
 

@@ -1,10 +1,10 @@
 //! The small world that `moo-play` calls `fixture`.
 ghost use Rattle.std.specs.Prelude.{◌≡◌, IfOk};
-ghost use Rattle.moo_spec.specs.Fixture.{fixture as fixture_meant};
+ghost use Rattle.spec_rows.specs.Fixture.{fixture as fixture_meant};
 
 use std::alloc::{AllocError, Global};
-use world::fixture::fixture as make_fixture;
 use world::worlds::World;
+use world_fixture::fixture::fixture as make_fixture;
 
 /// The small world of the definitions: a room with a counter, a box, a wizard and two players whose links are open.
 pub fn fixture(alloc: Global) -> Result<World, AllocError>

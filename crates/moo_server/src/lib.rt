@@ -3,6 +3,9 @@
 
 pub mod fixture;
 pub mod given;
+mod parts;
 pub mod play;
 pub mod printing;
+#[cfg(test)]
+mod tests;
 pub mod words;

@@ -1,21 +1,25 @@
 //! One run of `moo-play`.
-ghost use Rattle.std.specs.Prelude.{◌≡◌, ◌⊎◌, IfSome, IfOk, IsOk, IsTrue, is_some, MatchOption};
-ghost use Rattle.moo_server.specs.Runs.{Ran, RanInPart};
+ghost use Rattle.std.specs.Prelude.{◌≡◌, ◌⊎◌, ℕ, List, IfSome, IfOk, IsOk, OnOk, IsTrue, is_some, MatchOption, Some, None};
+ghost use Rattle.std.specs.Io.KnownBytes.{Appends};
+ghost use Rattle.spec_task.specs.Step.{Step, RunsOn, AllInRange};
+ghost use Rattle.moo_script.specs.Numbers.{number_value};
+ghost use Rattle.moo_script.specs.Scripts.{IsScript};
+ghost use Rattle.moo_server.specs.Printed.{stopped_line};
+ghost use Rattle.moo_server.specs.Runs.{Ran, RanInPart, conclusion};
+ghost use Rattle.moo_server.specs.Workers.{NamesWorkers};
 
-use crate::printing::print_outcome;
-use moo_script::fault::{LineFault, ScriptFault};
+use crate::parts::{Played, play_steps};
+use moo_script::fault::ScriptFault;
 use moo_script::number::read_number;
 use moo_script::script::read_script;
 use speculate::gate::Gate;
-use speculate::list::{MOST_WORKERS, run_list};
+use speculate::list::MOST_WORKERS;
 use std::alloc::Global;
 use std::io;
 use std::io::Write;
 use std::sync::Wait;
 use std::thread::Threads;
-use task_run::partial::{Partial, Refusal};
-use task_step::outcome::Outcome;
-use task_step::step::Step;
+use task_step::list::may_play;
 use world::worlds::World;
 
 /// The status of a run that went to its end.
@@ -27,8 +31,8 @@ pub const FAULT: u8 = 2;
 /// The status of a run that memory stopped.
 pub const STOPPED: u8 = 3;
 
-/// Runs a script over a world and writes the lines of its steps. A world or a script that could not be read comes as the line of its fault, without
-/// the program's name. Gives the world at the end, where a list ran and its lines were written, and the status.
+/// Runs a script over a world and writes the lines of its steps as they are run. A world or a script that could not be read comes as the line of
+/// its fault, without the program's name. Gives the world at the end, where a list ran and its lines were written, and the status.
 pub fn play_script<G: Gate, R: Threads + Wait + Sync, W: Write, E: Write>(
     rt: &R,
     alloc: Global,
@@ -39,9 +43,11 @@ pub fn play_script<G: Gate, R: Threads + Wait + Sync, W: Write, E: Write>(
     out: &mut W,
     errors: &mut E,
 ) -> (Option<World>, u8)
+    ensures workers { (NamesWorkers workers.now → ⊥) → (result.0 ≡ None) × (result.1 ≡ 2) × (out.new ≡ out.old) }
+    ensures numbers { IfOk world (λ w. IfOk script (λ s. (steps : List Step) → IsScript s.items w.plain.next steps → (RunsOn w.plain steps × AllInRange steps → ⊥) → (result.0 ≡ None) × (out.new ≡ out.old))) }
     ensures done { result.1 ≡ 0 → IsOk world × IsOk script × IsTrue (is_some result.0) }
-    ensures whole { IfOk world (λ w. IfOk script (λ s. IfSome result.0 (λ after. result.1 ≡ 0 → Ran w.plain s.items after.plain))) }
-    ensures part { IfOk world (λ w. IfOk script (λ s. IfSome result.0 (λ after. result.1 ≡ 3 → RanInPart w.plain s.items after.plain))) }
+    ensures whole { IfOk world (λ w. IfOk script (λ s. IfSome result.0 (λ after. result.1 ≡ 0 → Ran w.plain s.items after.plain (W.contents out.old) (W.contents out.new)))) }
+    ensures part { IfOk world (λ w. IfOk script (λ s. IfSome result.0 (λ after. result.1 ≡ 3 → (count : ℕ) × RanInPart w.plain s.items count after.plain (W.contents out.old) (W.contents out.new)))) }
     ensures status { MatchOption result.0 ((result.1 ≡ 2) ⊎ (result.1 ≡ 3)) (λ after. (result.1 ≡ 0) ⊎ (result.1 ≡ 3)) }
 {
     let Some(workers) = read_workers(workers) else {
@@ -59,15 +65,18 @@ pub fn play_script<G: Gate, R: Threads + Wait + Sync, W: Write, E: Write>(
         Ok(steps) => steps,
         Err(fault) => return (None, refuse_script(errors, &fault)),
     };
-    world.reopen();
-    match run_list(rt, alloc, gate, world, steps.as_slice(), workers) {
-        Ok(report) => conclude(alloc, out, report.world, &steps, &report.outcomes, DONE),
-        Err(partial) => refuse_list(alloc, out, errors, &steps, partial),
+    if !may_play(world.next(), &steps) {
+        return (None, refuse(errors, "numbers"));
     }
+    world.reopen();
+    let played = play_steps(rt, alloc, gate, world, &steps, workers, out);
+    conclude(errors, played)
 }
 
 /// How many workers the word says: a number from 1 to 64 without needless zeros.
-pub fn read_workers(word: &str) -> Option<usize> {
+pub fn read_workers(word: &str) -> Option<usize>
+    ensures { MatchOption result (NamesWorkers word.now → ⊥) (λ n. NamesWorkers word.now × (n ≡ number_value word.now)) }
+{
     let workers = read_number(word.as_bytes())? as usize;
     if 1 <= workers && workers <= MOST_WORKERS {
         Some(workers)
@@ -80,8 +89,14 @@ pub fn read_workers(word: &str) -> Option<usize> {
 pub fn stopped<E: Write>(errors: &mut E, count: usize) -> u8
     ensures { result ≡ 3 }
 {
-    let _ = writeln!(errors, "stopped after {count}");
+    let _ = tell_stopped(errors, count);
     STOPPED
+}
+
+fn tell_stopped<E: Write>(errors: &mut E, count: usize) -> io::Result<()>
+    ensures { OnOk result (Appends (E.contents errors.old) (E.contents errors.new) (stopped_line count)) }
+{
+    writeln!(errors, "stopped after {count}")
 }
 
 /// Says what is wrong, in a line that begins with the program's name.
@@ -105,70 +120,20 @@ fn refuse_script<E: Write>(errors: &mut E, fault: &ScriptFault) -> u8
 {
     match fault {
         ScriptFault::Line { line, kind } => {
-            let name = fault_name(*kind);
-            let _ = writeln!(errors, "moo-play: script: line {line}: {name}");
+            let _ = writeln!(errors, "moo-play: script: line {line}: {kind}");
             FAULT
         }
         ScriptFault::Memory(_) => stopped(errors, 0),
     }
 }
 
-fn fault_name(kind: LineFault) -> &'static str {
-    match kind {
-        LineFault::Key => "Key",
-        LineFault::Word => "Word",
-        LineFault::Number => "Number",
-        LineFault::Text => "Text",
-    }
-}
-
-fn refuse_list<W: Write, E: Write>(
-    alloc: Global,
-    out: &mut W,
-    errors: &mut E,
-    steps: &[Step],
-    partial: Partial,
-) -> (Option<World>, u8)
-    ensures { MatchOption result.0 (result.1 ≡ 2) (λ w. (w ≡ partial.world) × (result.1 ≡ 3)) }
+/// Says so where memory stopped the run.
+pub(crate) fn conclude<E: Write>(errors: &mut E, played: Played) -> (Option<World>, u8)
+    ensures { result ≡ conclusion played }
 {
-    match partial.refusal {
-        Refusal::Workers => (None, refuse(errors, "workers")),
-        Refusal::Numbers => (None, refuse(errors, "numbers")),
-        Refusal::Memory => {
-            let ended = conclude(alloc, out, partial.world, steps, &partial.outcomes, STOPPED);
-            if ended.1 == STOPPED {
-                stopped(errors, partial.count);
-            }
-            ended
-        }
+    match played {
+        Played::Whole(world) => (Some(world), DONE),
+        Played::Part(world, count) => (Some(world), stopped(errors, count)),
+        Played::Unwritten => (None, FAULT),
     }
-}
-
-// Writes the lines of the outcomes.
-fn conclude<W: Write>(
-    alloc: Global,
-    out: &mut W,
-    world: World,
-    steps: &[Step],
-    outcomes: &[Outcome],
-    status: u8,
-) -> (Option<World>, u8)
-    ensures { MatchOption result.0 (result.1 ≡ 2) (λ w. (w ≡ world) × (result.1 ≡ status)) }
-{
-    match print_all(alloc, out, steps, outcomes) {
-        Ok(()) => (Some(world), status),
-        Err(_) => (None, FAULT),
-    }
-}
-
-fn print_all<W: Write>(
-    alloc: Global,
-    out: &mut W,
-    steps: &[Step],
-    outcomes: &[Outcome],
-) -> io::Result<()> {
-    for (step, outcome) in steps.iter().zip(outcomes) {
-        print_outcome(alloc, out, step.number, outcome)?;
-    }
-    out.flush()
 }

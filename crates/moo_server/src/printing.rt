@@ -1,41 +1,60 @@
 //! The lines that `moo-play` prints.
-use moo_value::value::Value;
-use moo_value::write::to_literal;
-use std::alloc::Global;
+ghost use Rattle.std.specs.Prelude.{◌≡◌, ◌≤◌, ◌∷◌, ◌++◌, [], length, OnOk};
+ghost use Rattle.std.specs.List.{flat_map};
+ghost use Rattle.std.specs.Io.KnownBytes.{Appends};
+ghost use Rattle.task_step.specs.OutcomeView.{result_of, lines_of, due_of, queued_of, closed_of};
+ghost use Rattle.moo_server.specs.Printed.{result_text, step_line, told_line, due_text, queued_line, closed_line, outcome_lines, printed};
+
+use moo_value::write::Literal;
 use std::io;
 use std::io::Write;
-use task_step::outcome::{Due, Ending, Outcome};
+use task_step::outcome::{Due, Ending, Outcome, OutputLine, Queued};
+use task_step::step::Step;
+
+/// The lines of some steps, all of which go out at once. No memory is asked for.
+pub fn print_steps<W: Write>(out: &mut W, steps: &[Step], outcomes: &[Outcome]) -> io::Result<()>
+    requires { length outcomes.now ≤ length steps.now }
+    ensures { OnOk result (Appends (W.contents out.old) (W.contents out.new) (printed steps.now outcomes.now)) }
+{
+    for (i, outcome) in outcomes.iter().enumerate() {
+        let step = &steps[i];
+        print_outcome(out, step.number, outcome)?;
+    }
+    out.flush()
+}
 
 /// The lines of a step: `step N RESULT ticks T`, then `> C TEXT` for each output line, `+ ID DUE` for each queued task and `! C` for each
 /// closed link.
-pub fn print_outcome<W: Write>(
-    alloc: Global,
-    out: &mut W,
-    number: u32,
-    outcome: &Outcome,
-) -> io::Result<()> {
-    write!(out, "step {number} ")?;
-    print_ending(alloc, out, &outcome.result)?;
-    let ticks = outcome.ticks;
-    writeln!(out, " ticks {ticks}")?;
-    for line in &outcome.output {
-        let connection = line.connection;
-        let text = line.text.as_str();
-        writeln!(out, "> {connection} {text}")?;
-    }
-    for queued in &outcome.queued {
-        print_queued(out, queued.task, queued.due)?;
-    }
-    for connection in &outcome.closed {
-        writeln!(out, "! {connection}")?;
-    }
-    Ok(())
+pub fn print_outcome<W: Write>(out: &mut W, number: u32, outcome: &Outcome) -> io::Result<()>
+    ensures { OnOk result (Appends (W.contents out.old) (W.contents out.new) (outcome_lines number outcome.now)) }
+{
+    print_result(out, number, outcome)?;
+    print_told(out, &outcome.output)?;
+    print_queued(out, &outcome.queued)?;
+    print_closed(out, &outcome.closed)
 }
 
-fn print_ending<W: Write>(alloc: Global, out: &mut W, ending: &Ending) -> io::Result<()> {
+fn print_result<W: Write>(out: &mut W, number: u32, outcome: &Outcome) -> io::Result<()>
+    ensures { OnOk result (Appends (W.contents out.old) (W.contents out.new) (step_line number outcome.now)) }
+{
+    write!(out, "step {number} ")?;
+    print_ending(out, &outcome.result)?;
+    let ticks = outcome.ticks;
+    writeln!(out, " ticks {ticks}")
+}
+
+fn print_ending<W: Write>(out: &mut W, ending: &Ending) -> io::Result<()>
+    ensures { OnOk result (Appends (W.contents out.old) (W.contents out.new) (result_text (result_of ending.now))) }
+{
     match ending {
-        Ending::Value(value) => print_literal(alloc, out, "value", value),
-        Ending::Raised(code) => print_literal(alloc, out, "raised", code),
+        Ending::Value(value) => {
+            let literal = Literal(value);
+            write!(out, "value {literal}")
+        }
+        Ending::Raised(code) => {
+            let literal = Literal(code);
+            write!(out, "raised {literal}")
+        }
         Ending::Suspended => write!(out, "suspended"),
         Ending::Reading => write!(out, "reading"),
         Ending::OutOfTicks => write!(out, "ticks"),
@@ -47,20 +66,43 @@ fn print_ending<W: Write>(alloc: Global, out: &mut W, ending: &Ending) -> io::Re
     }
 }
 
-fn print_queued<W: Write>(out: &mut W, task: i32, due: Due) -> io::Result<()> {
+fn print_told<W: Write>(out: &mut W, lines: &[OutputLine]) -> io::Result<()>
+    ensures { OnOk result (Appends (W.contents out.old) (W.contents out.new) (flat_map told_line (lines_of lines.now))) }
+{
+    for line in lines {
+        let connection = line.connection;
+        let text = line.text.as_str();
+        writeln!(out, "> {connection} {text}")?;
+    }
+    Ok(())
+}
+
+fn print_queued<W: Write>(out: &mut W, tasks: &[Queued]) -> io::Result<()>
+    ensures { OnOk result (Appends (W.contents out.old) (W.contents out.new) (flat_map queued_line (queued_of tasks.now))) }
+{
+    for queued in tasks {
+        let task = queued.task;
+        write!(out, "+ {task} ")?;
+        print_due(out, queued.due)?;
+    }
+    Ok(())
+}
+
+fn print_due<W: Write>(out: &mut W, due: Due) -> io::Result<()>
+    ensures { OnOk result (Appends (W.contents out.old) (W.contents out.new) (due_text (due_of due) ++ 10 ∷ [])) }
+{
     match due {
-        Due::At(moment) => writeln!(out, "+ {task} {moment}"),
-        Due::Never => writeln!(out, "+ {task} never"),
-        Due::Line => writeln!(out, "+ {task} read"),
+        Due::At(moment) => writeln!(out, "{moment}"),
+        Due::Never => writeln!(out, "never"),
+        Due::Line => writeln!(out, "read"),
     }
 }
 
-fn print_literal<W: Write>(
-    alloc: Global,
-    out: &mut W,
-    word: &str,
-    value: &Value,
-) -> io::Result<()> {
-    let literal = to_literal(alloc, value)?;
-    write!(out, "{word} {literal}")
+fn print_closed<W: Write>(out: &mut W, connections: &[u32]) -> io::Result<()>
+    ensures { OnOk result (Appends (W.contents out.old) (W.contents out.new) (flat_map closed_line (closed_of connections.now))) }
+{
+    for connection in connections {
+        writeln!(out, "! {connection}")?;
+    }
+    Ok(())
 }

@@ -1,8 +1,8 @@
 -- What a scan of a program's postfix order finds.
 use Rattle.std.proofs.Common.{◌≡◌, ℕ, ◌-◌, Bool, true, false, cond, List, [], ◌∷◌, ◌++◌, length, Option, Some, None, refl, sym, ap, ◌∙◌}
 use Rattle.std.specs.Prelude.{◌==◌, pos}
-use Rattle.moo_spec.specs.Datum as datum
-use Rattle.moo_spec.specs.Datum.{fold_case}
+use Rattle.spec_value.specs.Datum as datum
+use Rattle.spec_value.specs.Datum.{fold_case}
 use Rattle.moo_token.specs.declared.token.Sign.TheVariants as sign
 use Rattle.moo_token.specs.Tokens as t
 use Rattle.moo_token.specs.Tokens.{Token}

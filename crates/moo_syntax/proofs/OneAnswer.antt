@@ -1,7 +1,7 @@
 -- A text has one answer.
 use Rattle.std.proofs.Common.{◌≡◌, ℕ, zero, suc, ◌+◌, ◌<◌, List, [], ◌∷◌, ◌++◌, length, take, Option, Some, None, refl, sym, ap, ◌∙◌, subst}
-use Rattle.moo_spec.specs.Datum.{Text}
-use Rattle.moo_spec.specs.Tree.{Program}
+use Rattle.spec_value.specs.Datum.{Text}
+use Rattle.spec_program.specs.Tree.{Program}
 use Rattle.moo_token.specs.Tokens.{Token, Place, Ending, whole, faulty, IsText, tokens_in}
 use Rattle.moo_token.proofs.Loop.{only}
 use Rattle.moo_grammar.specs.Faults.{CanBegin}

@@ -1,7 +1,7 @@
 -- What each way out of a parse says of the text.
 use Rattle.std.proofs.Common.{◌≡◌, ℕ, suc, ◌-◌, ◌<◌, true, false, List, [], ◌∷◌, length, Some, None, refl, sym, ap, ◌∙◌, subst}
-use Rattle.moo_spec.specs.Datum.{Text}
-use Rattle.moo_spec.specs.Tree.{Statement, Program, seq}
+use Rattle.spec_value.specs.Datum.{Text}
+use Rattle.spec_program.specs.Tree.{Statement, Program, seq}
 use Rattle.moo_token.specs.declared.fault.FaultKind.{FaultKind as TokenFaultKind}
 use Rattle.moo_token.specs.declared.token.Placed.{Placed}
 use Rattle.moo_token.specs.Views.{places}

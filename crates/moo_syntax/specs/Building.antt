@@ -1,6 +1,6 @@
 -- What the builder keeps, without where it lies in memory.
 use Rattle.std.specs.Prelude.{◌≡◌, List, [], ◌∷◌, map, Option, Some, None, Result, Ok, Err}
-use Rattle.moo_spec.specs.Tree.{Statement}
+use Rattle.spec_program.specs.Tree.{Statement}
 use Rattle.moo_tree.specs.ExpressionView.{target_place}
 use Rattle.moo_grammar.specs.Load.{Value, of_expr, of_target, Loaded}
 use Rattle.moo_syntax.specs.declared.build.Part.{Part}

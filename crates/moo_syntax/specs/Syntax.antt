@@ -1,7 +1,7 @@
 -- Which texts are programs, and which fault another text has.
 use Rattle.std.specs.Prelude.{◌≡◌, ℕ, ◌-◌, ◌<◌, List, [], length, map, slice_index, Some, None}
-use Rattle.moo_spec.specs.Datum.{Text}
-use Rattle.moo_spec.specs.Tree.{Program, the_end}
+use Rattle.spec_value.specs.Datum.{Text}
+use Rattle.spec_program.specs.Tree.{Program, the_end}
 use Rattle.moo_token.specs.declared.fault.FaultKind.{FaultKind as TokenFaultKind}
 use Rattle.moo_token.specs.declared.fault.FaultKind.TheVariants as of_token
 use Rattle.moo_token.specs.Tokens.{Place, Ending, whole, faulty, IsText, tokens_in}

@@ -1,8 +1,8 @@
 //! A text has one answer.
 
 ghost use Rattle.std.specs.Prelude.{◌≡◌, ℕ};
-ghost use Rattle.moo_spec.specs.Datum.{Text};
-ghost use Rattle.moo_spec.specs.Tree.{Program};
+ghost use Rattle.spec_value.specs.Datum.{Text};
+ghost use Rattle.spec_program.specs.Tree.{Program};
 ghost use Rattle.moo_syntax.specs.declared.fault.FaultKind.{FaultKind as Kind};
 ghost use Rattle.moo_syntax.specs.declared.fault.FaultKind.TheVariants as kind;
 ghost use Rattle.moo_syntax.specs.Syntax.{IsTree, HasFault};

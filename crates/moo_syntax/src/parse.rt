@@ -2,7 +2,7 @@
 
 ghost use Rattle.std.specs.Prelude.{◌≡◌, ◌<◌, ◌-◌, List, Some, true, length, IfOk, IfErr};
 ghost use Rattle.std.specs.List.{list_all};
-ghost use Rattle.moo_spec.specs.Datum.{Text};
+ghost use Rattle.spec_value.specs.Datum.{Text};
 ghost use Rattle.moo_token.specs.Tokens as tokens;
 ghost use Rattle.moo_token.specs.Tokens.{tokens_in};
 ghost use Rattle.moo_token.specs.Views.{places};

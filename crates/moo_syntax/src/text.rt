@@ -1,7 +1,7 @@
 //! Texts of tokens.
 
 ghost use Rattle.std.specs.Prelude.{◌≡◌, IsTrue, IfOk};
-ghost use Rattle.moo_spec.specs.Datum.{is_text, fold_case};
+ghost use Rattle.spec_value.specs.Datum.{is_text, fold_case};
 
 use moo_value::text::Text;
 use std::alloc::{AllocError, Global};

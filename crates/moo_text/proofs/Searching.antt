@@ -1,64 +1,8 @@
--- Steps of a search through a text.
-use Rattle.std.proofs.Common.{◌≡◌, ℕ, zero, suc, ◌+◌, ◌-◌, ◌<◌, ◌≤◌, Bool, true, false, List, [], ◌∷◌, ◌++◌, length, drop, take, refl, ap, sym, ◌∙◌, arith, Option, Some, None, option_map, append_assoc, if◌then◌else◌, ◌&&◌}
-use Rattle.std.proofs.Common.{length-drop, length-append}
-use Rattle.std.proofs.lemmas.List.{drop_all, append-nil}
-use Rattle.moo_spec.specs.TextSearch.{same_character, begins, at_front, or_else, first_at, last_at, replaced}
-
--- past so many characters
-abbrev pub first_from : Bool → List ℕ → List ℕ → ℕ → Option ℕ
-first_from cased s t n = option_map (λ k. n + k) (first_at cased s t)
-
-from_start : (o : Option ℕ) → option_map (λ k. 0 + k) o ≡ o
-from_start None = refl
-from_start (Some k) = ap Some (omega arith)
-
-counted_on : (n : ℕ) (o : Option ℕ) → option_map (λ k. n + k) (option_map suc o) ≡ option_map (λ k. (n + 1) + k) o
-counted_on n None = refl
-counted_on n (Some k) = ap Some (omega arith)
-
-pub first_begin : (cased : Bool) (s t : List ℕ) → first_from cased s t 0 ≡ first_at cased s t
-first_begin cased s t = from_start (first_at cased s t)
-
-pub first_here : (cased : Bool) (s t : List ℕ) (n : ℕ) → begins cased s t ≡ true → first_from cased s t n ≡ Some n
-first_here cased [] t n e = ap (λ b. option_map (λ k. n + k) (at_front b)) e ∙ ap Some (omega arith)
-first_here cased (c ∷ s) t n e = ap (λ b. option_map (λ k. n + k) (or_else (at_front b) (option_map suc (first_at cased s t)))) e ∙ ap Some (omega arith)
-
-pub first_on : (cased : Bool) (c : ℕ) (s t : List ℕ) (n : ℕ) → begins cased (c ∷ s) t ≡ false → first_from cased (c ∷ s) t n ≡ first_from cased s t (n + 1)
-first_on cased c s t n e = ap (λ b. option_map (λ k. n + k) (or_else (at_front b) (option_map suc (first_at cased s t)))) e ∙ counted_on n (first_at cased s t)
-
-pub first_end : (cased : Bool) (t : List ℕ) (n : ℕ) → begins cased [] t ≡ false → first_from cased [] t n ≡ None
-first_end cased t n e = ap (λ b. option_map (λ k. n + k) (at_front b)) e
-
-abbrev pub last_from : Bool → List ℕ → List ℕ → ℕ → Option ℕ → Option ℕ
-last_from cased s t n found = or_else (option_map (λ k. n + k) (last_at cased s t)) found
-
--- with what was found at the front
-abbrev pub found_here : Bool → ℕ → Option ℕ → Option ℕ
-found_here b n found = if b then Some n else found
-
-last_none : (o : Option ℕ) → or_else o None ≡ o
-last_none None = refl
-last_none (Some k) = refl
-
-pub last_begin : (cased : Bool) (s t : List ℕ) → last_from cased s t 0 None ≡ last_at cased s t
-last_begin cased s t = last_none (option_map (λ k. 0 + k) (last_at cased s t)) ∙ from_start (last_at cased s t)
-
-last_step : (o : Option ℕ) (b : Bool) (n : ℕ) (found : Option ℕ) → or_else (option_map (λ k. n + k) (or_else (option_map suc o) (at_front b))) found ≡ or_else (option_map (λ k. (n + 1) + k) o) (found_here b n found)
-last_step (Some k) b n found = ap Some (omega arith)
-last_step None true n found = ap Some (omega arith)
-last_step None false n found = refl
-
-pub last_on : (cased : Bool) (c : ℕ) (s t : List ℕ) (n : ℕ) (found : Option ℕ) → last_from cased (c ∷ s) t n found ≡ last_from cased s t (n + 1) (found_here (begins cased (c ∷ s) t) n found)
-last_on cased c s t n found = last_step (last_at cased s t) (begins cased (c ∷ s) t) n found
-
-end_step : (b : Bool) (n : ℕ) (found : Option ℕ) → or_else (option_map (λ k. n + k) (at_front b)) found ≡ found_here b n found
-end_step true n found = ap Some (omega arith)
-end_step false n found = refl
-
-pub last_end : (cased : Bool) (t : List ℕ) (n : ℕ) (found : Option ℕ) → last_from cased [] t n found ≡ found_here (begins cased [] t) n found
-last_end cased t n found = end_step (begins cased [] t) n found
-
--- ---- replacement
+-- Steps of a replacement through a text.
+use Rattle.std.proofs.Common.{◌≡◌, ℕ, zero, suc, ◌+◌, ◌-◌, ◌<◌, ◌≤◌, Bool, true, false, List, [], ◌∷◌, ◌++◌, length, drop, take, refl, ap, sym, ◌∙◌, arith, append_assoc, if◌then◌else◌, ◌&&◌}
+use Rattle.std.proofs.Common.{length-drop}
+use Rattle.std.proofs.lemmas.List.{drop_all, take_all, append-nil}
+use Rattle.spec_value.specs.TextSearch.{same_character, begins, replaced}
 
 replaced-drop : (cased : Bool) (t u : List ℕ) (n : ℕ) (s : List ℕ) → replaced cased t u n s ≡ replaced cased t u 0 (drop n s)
 replaced-drop cased t u zero s = refl
@@ -85,12 +29,6 @@ begins_length cased (c ∷ s) (d ∷ t) e = omega (arith, begins_length cased s 
     second true b h = h
     second false b h = absurd (cc)
 
-pub nothing_begins : (cased : Bool) (s t : List ℕ) (i : ℕ) → i < length t → length s ≡ 0 → begins cased s (drop i t) ≡ false
-nothing_begins cased (c ∷ s) t i h e = absurd (omega arith)
-nothing_begins cased [] [] i h e = absurd (omega arith)
-nothing_begins cased [] (d ∷ t) zero h e = refl
-nothing_begins cased [] (d ∷ t) (suc i) h e = nothing_begins cased [] t i (omega arith) refl
-
 drop_more : (n m : ℕ) (xs : List ℕ) → drop n (drop m xs) ≡ drop (m + n) xs
 drop_more n zero xs = let e : n ≡ 0 + n = omega arith in ap (λ k. drop k xs) e
 drop_more n (suc m) [] = ap (drop n) (drop_all (suc m) [] (omega arith)) ∙ drop_all n [] (omega arith) ∙ sym (drop_all (suc m + n) [] (omega arith))
@@ -106,18 +44,35 @@ replaced_at cased s t u out n h k e =
     ∙ ap (λ x. out ++ (u ++ replaced cased t u 0 x)) (sym (drop_more (length t) n s))
     ∙ ap (λ x. out ++ x) (sym (replaced_here cased t u (drop n s) h (some_left s n k) e))
 
-pub replaced_past : (cased : Bool) (s t u out : List ℕ) (n : ℕ) → n < length s → begins cased (drop n s) t ≡ false → (out ++ take 1 (drop n s)) ++ replaced cased t u 0 (drop (n + 1) s) ≡ out ++ replaced cased t u 0 (drop n s)
-replaced_past cased s t u out n k e =
-    append_assoc out (take 1 (drop n s)) (replaced cased t u 0 (drop (n + 1) s))
-    ∙ ap (λ x. out ++ (take 1 (drop n s) ++ replaced cased t u 0 x)) (sym (drop_more 1 n s))
-    ∙ ap (λ x. out ++ x) (sym (replaced_on cased t u (drop n s) (some_left s n k) e))
+-- past places at which nothing stands
+over : (cased : Bool) (t u s : List ℕ) (d : ℕ) → d ≤ length s → ((k : ℕ) → k < d → begins cased (drop k s) t ≡ true → ⊥) → take d s ++ replaced cased t u 0 (drop d s) ≡ replaced cased t u 0 s
+over cased t u s zero h none = refl
+over cased t u [] (suc d) h none = absurd (omega arith)
+over cased t u (c ∷ s) (suc d) h none =
+    ap (λ x. c ∷ x) (over cased t u s d (omega arith) (λ k l. none (suc k) (omega arith)))
+    ∙ sym (replaced_on cased t u (c ∷ s) (omega arith) (is_false (begins cased (c ∷ s) t) (none 0 (omega arith))))
+  where
+    is_false : (b : Bool) → (b ≡ true → ⊥) → b ≡ false
+    is_false true h = absurd (h refl)
+    is_false false h = refl
 
-pub fits_after : (cased : Bool) (s t : List ℕ) (n : ℕ) → n ≤ length s → begins cased (drop n s) t ≡ true → n + length t ≤ length s
-fits_after cased s t n h e = omega (arith, begins_length cased (drop n s) t e, length-drop n s)
+-- from one place to the next at which the text stands, and behind it
+pub replaced_next : (cased : Bool) (s t u out : List ℕ) (n next : ℕ) → 0 < length t → n ≤ next → next + length t ≤ length s → begins cased (drop next s) t ≡ true → ((k : ℕ) → n ≤ k → k < next → begins cased (drop k s) t ≡ true → ⊥) → ((out ++ take (next - n) (drop n s)) ++ u) ++ replaced cased t u 0 (drop (next + length t) s) ≡ out ++ replaced cased t u 0 (drop n s)
+replaced_next cased s t u out n next h low high here none =
+    let passed = take (next - n) (drop n s) in
+    let place : n + (next - n) ≡ next = omega arith in
+    replaced_at cased s t u (out ++ passed) next h (omega arith) here
+    ∙ append_assoc out passed (replaced cased t u 0 (drop next s))
+    ∙ ap (λ x. out ++ (passed ++ replaced cased t u 0 x)) (ap (λ k. drop k s) (sym place) ∙ sym (drop_more (next - n) n s))
+    ∙ ap (λ x. out ++ x) (over cased t u (drop n s) (next - n) (omega (arith, length-drop n s))
+    (λ k l b. none (n + k) (omega arith) (omega arith) (ap (λ x. begins cased x t) (sym (drop_more k n s)) ∙ b)))
 
-pub replaced_end : (cased : Bool) (s t u out whole : List ℕ) (n : ℕ) → length s ≤ n → out ++ replaced cased t u 0 (drop n s) ≡ whole → out ≡ whole
-replaced_end cased s t u out whole n h e =
-    sym (append-nil out) ∙ ap (λ x. out ++ replaced cased t u 0 x) (sym (drop_all n s h)) ∙ e
-
-pub too_long : (out more whole : List ℕ) (n : ℕ) → n ≤ length out → out ++ more ≡ whole → n ≤ length whole
-too_long out more whole n h e = omega (arith, ap length e, length-append out more)
+-- and what is left where it stands no more
+pub replaced_rest : (cased : Bool) (s t u out : List ℕ) (n : ℕ) → n ≤ length s → ((k : ℕ) → n ≤ k → k ≤ length s → begins cased (drop k s) t ≡ true → ⊥) → out ++ drop n s ≡ out ++ replaced cased t u 0 (drop n s)
+replaced_rest cased s t u out n h none =
+    let rest = drop n s in
+    ap (λ x. out ++ x)
+    (sym (append-nil rest) ∙ ap (λ x. x ++ replaced cased t u 0 []) (sym (take_all (length rest) rest (omega arith)))
+    ∙ ap (λ x. take (length rest) rest ++ replaced cased t u 0 x) (sym (drop_all (length rest) rest (omega arith)))
+    ∙ over cased t u rest (length rest) (omega arith)
+    (λ k l b. none (n + k) (omega arith) (omega (arith, length-drop n s)) (ap (λ x. begins cased x t) (sym (drop_more k n s)) ∙ b)))

@@ -3,3 +3,4 @@
 
 pub mod replace;
 pub mod search;
+mod two_way;

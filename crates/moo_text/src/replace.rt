@@ -1,10 +1,10 @@
 //! Replacement of parts of a text.
 ghost use Rattle.std.specs.Prelude.{◌≡◌, ◌<◌, ◌≤◌, IfOk, MatchOption, IsTrue, length};
-ghost use Rattle.moo_spec.specs.Answer.{weight_limit};
-ghost use Rattle.moo_spec.specs.Datum.{is_text};
-ghost use Rattle.moo_spec.specs.TextSearch.{substituted};
+ghost use Rattle.spec_value.specs.Answer.{weight_limit};
+ghost use Rattle.spec_value.specs.Datum.{is_text};
+ghost use Rattle.spec_value.specs.TextSearch.{substituted};
 
-use crate::search::begins;
+use crate::two_way::{Reading, divide, first_from};
 use moo_value::answer::WEIGHT_LIMIT;
 use moo_value::text::{Text, back, front};
 use std::alloc::{AllocError, Global};
@@ -23,21 +23,24 @@ pub fn substitute_text(
     requires replacement { IsTrue (is_text replacement.now) }
     ensures { IfOk result (λ o. MatchOption o (weight_limit ≤ length (substituted case_counts text.now sought.now replacement.now)) (λ t. t ≡ substituted case_counts text.now sought.now replacement.now)) }
 {
+    let reading = Reading {
+        backward: false,
+        case_counts,
+    };
+    let bytes = text.as_bytes();
+    let sought = sought.as_bytes();
+    let cut = divide(sought, reading);
     let mut out = String::new(alloc);
     let mut place = 0;
-    'places: while place < text.len() {
+    'places: while let Some(next) = first_from(bytes, place, sought, cut, reading) {
+        out.push_str(front(back(text, place), next - place))?;
+        out.push_str(replacement)?;
         if out.len() >= WEIGHT_LIMIT {
             return Ok(None);
         }
-        let rest = back(text, place);
-        if begins(rest.as_bytes(), sought.as_bytes(), case_counts) {
-            out.push_str(replacement)?;
-            place += sought.len();
-        } else {
-            out.push_str(front(rest, 1))?;
-            place += 1;
-        }
+        place = next + sought.len();
     }
+    out.push_str(back(text, place))?;
     if out.len() >= WEIGHT_LIMIT {
         return Ok(None);
     }

@@ -1,7 +1,9 @@
-//! Where a text stands in another. None of it takes memory.
-ghost use Rattle.std.specs.Prelude.{◌≡◌};
+//! Where a text stands in another, in time linear in both. None of it takes memory.
+ghost use Rattle.std.specs.Prelude.{◌≡◌, ◌<◌, ◌≤◌, length};
 ghost use Rattle.std.specs.Char.{to_ascii_lowercase};
-ghost use Rattle.moo_spec.specs.TextSearch.{same_character, begins as begins_of, first_at, last_at};
+ghost use Rattle.spec_value.specs.TextSearch.{first_at, last_at};
+
+use crate::two_way::{Reading, divide, first_from};
 
 /// A character with the case of A to Z ignored.
 pub fn fold(byte: u8) -> u8
@@ -14,62 +16,29 @@ pub fn fold(byte: u8) -> u8
 pub fn find(text: &str, sought: &str, case_counts: bool) -> Option<usize>
     ensures { result ≡ first_at case_counts text.now sought.now }
 {
-    let mut rest = text.as_bytes();
-    let mut place = 0;
-    'places: loop {
-        if begins(rest, sought.as_bytes(), case_counts) {
-            return Some(place);
-        }
-        let Some((_, more)) = rest.split_first() else {
-            return None;
-        };
-        rest = more;
-        place += 1;
+    if sought.is_empty() {
+        return Some(0);
     }
+    let reading = Reading {
+        backward: false,
+        case_counts,
+    };
+    let sought = sought.as_bytes();
+    first_from(text.as_bytes(), 0, sought, divide(sought, reading), reading)
 }
 
 /// The last place of a text in another, counted from 0; the case of letters counts or not.
 pub fn find_last(text: &str, sought: &str, case_counts: bool) -> Option<usize>
     ensures { result ≡ last_at case_counts text.now sought.now }
 {
-    let mut rest = text.as_bytes();
-    let mut place = 0;
-    let mut found = None;
-    'places: loop {
-        if begins(rest, sought.as_bytes(), case_counts) {
-            found = Some(place);
-        }
-        let Some((_, more)) = rest.split_first() else {
-            return found;
-        };
-        rest = more;
-        place += 1;
+    if sought.is_empty() {
+        return Some(text.len());
     }
-}
-
-/// Whether a text stands at the front of another.
-pub fn begins(text: &[u8], sought: &[u8], case_counts: bool) -> bool
-    ensures { result ≡ begins_of case_counts text.now sought.now }
-{
-    let mut rest = text;
-    for wanted in sought {
-        let Some((first, more)) = rest.split_first() else {
-            return false;
-        };
-        if !is_same(*first, *wanted, case_counts) {
-            return false;
-        }
-        rest = more;
-    }
-    true
-}
-
-fn is_same(left: u8, right: u8, case_counts: bool) -> bool
-    ensures { result ≡ same_character case_counts left right }
-{
-    if case_counts {
-        left == right
-    } else {
-        fold(left) == fold(right)
-    }
+    let reading = Reading {
+        backward: true,
+        case_counts,
+    };
+    let sought = sought.as_bytes();
+    let behind = first_from(text.as_bytes(), 0, sought, divide(sought, reading), reading)?;
+    Some(text.len() - sought.len() - behind)
 }

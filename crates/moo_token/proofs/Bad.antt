@@ -4,7 +4,7 @@ use Rattle.std.specs.Prelude.{◌==◌, nat_le, is_some}
 use Rattle.std.proofs.lemmas.Bool.Decides.{nat_tests}
 use Rattle.std.specs.List.{list_all}
 use Rattle.std.specs.Char.{is_ascii_digit}
-use Rattle.moo_spec.specs.Datum.{Text}
+use Rattle.spec_value.specs.Datum.{Text}
 use Rattle.moo_token.specs.declared.fault.FaultKind.TheVariants as k
 use Rattle.moo_token.specs.Tokens.{integer, object, is_letter, is_digits, value_from, hash, max_number, max_object, Spells, is_at_digit, is_blank, is_first, sign_of, IsBad, too_large}
 use Rattle.moo_token.proofs.Lists.{both_true, both_false, value_append, value_grows, digits_append}

@@ -2,7 +2,7 @@
 use Rattle.std.proofs.Common.{◌≡◌, ℕ, Bool, true, false, cond, [], ◌∷◌, ◌++◌, Option, Some, None, refl, sym, ap, ◌∙◌, arith, append_assoc}
 use Rattle.std.specs.Prelude.{◌==◌}
 use Rattle.std.specs.Char.{is_ascii_digit}
-use Rattle.moo_spec.specs.Datum.{Text, fold_case}
+use Rattle.spec_value.specs.Datum.{Text, fold_case}
 use Rattle.moo_token.specs.declared.token.Keyword.{Keyword}
 use Rattle.moo_token.specs.declared.token.ErrorName.{ErrorName}
 use Rattle.moo_token.specs.declared.token.Sign.{Sign}

@@ -3,7 +3,7 @@ use Rattle.std.proofs.Common.{◌≡◌, ℕ, zero, suc, ◌+◌, ◌-◌, ◌*�
 use Rattle.std.specs.Prelude.{◌==◌, nat_le}
 use Rattle.std.specs.Char.{is_ascii_digit}
 use Rattle.std.proofs.Math.Seq.{take-suc, take-length}
-use Rattle.moo_spec.specs.Datum.{Text, is_character}
+use Rattle.spec_value.specs.Datum.{Text, is_character}
 use Rattle.moo_token.specs.declared.token.Sign.{Sign}
 use Rattle.moo_token.specs.declared.cutter.Pending.{Pending}
 use Rattle.moo_token.specs.declared.cutter.Pending.TheVariants as p

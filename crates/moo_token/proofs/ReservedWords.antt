@@ -1,6 +1,6 @@
 -- The token of a word, by its spelling in lower case.
 use Rattle.std.proofs.Common.{◌≡◌, Some, None, ap, ◌∙◌}
-use Rattle.moo_spec.specs.Datum.{Text, fold_case}
+use Rattle.spec_value.specs.Datum.{Text, fold_case}
 use Rattle.moo_token.specs.declared.token.Keyword.{Keyword}
 use Rattle.moo_token.specs.declared.token.ErrorName.{ErrorName}
 use Rattle.moo_token.specs.Tokens.{keyword, error_name, identifier, keyword_of, error_of, keyword_or_other, error_or_identifier, word_of}

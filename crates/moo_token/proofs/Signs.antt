@@ -2,7 +2,7 @@
 use Rattle.std.proofs.Common.{◌≡◌, ℕ, Bool, true, false, cond, [], ◌∷◌, ◌++◌, Option, Some, None, refl, sym, ap, ◌∙◌, subst, ⊎_elim}
 use Rattle.std.specs.Prelude.{◌==◌}
 use Rattle.std.proofs.lemmas.Bool.{eqb-true}
-use Rattle.moo_spec.specs.Datum.{Text}
+use Rattle.spec_value.specs.Datum.{Text}
 use Rattle.moo_token.specs.declared.token.Sign.{Sign}
 use Rattle.moo_token.specs.declared.token.Sign.TheVariants as sign
 use Rattle.moo_token.specs.Tokens.{spelling, sign_of}

@@ -2,7 +2,7 @@
 use Rattle.std.proofs.Common.{◌≡◌, ℕ, true, List, [], ◌∷◌, Option, Some, None, refl, sym, ap, ◌∙◌, arith}
 use Rattle.std.proofs.lemmas.Bool.Decides.{nat_tests}
 use Rattle.std.specs.List.{list_all}
-use Rattle.moo_spec.specs.Datum.{Text, is_character, is_text, fold_case}
+use Rattle.spec_value.specs.Datum.{Text, is_character, is_text, fold_case}
 use Rattle.moo_token.specs.Tokens as t
 use Rattle.moo_token.specs.Tokens.{Token, identifier, keyword, error_name, integer, object, mark, is_letter, is_word, is_name, word_of, Escapes, none, plain, escaped, is_plain, max_number, max_object, Spells, IsInRange, is_sound, Place, Ending, IsText, end, bad, blank, token, tokens_in}
 use Rattle.moo_token.specs.declared.token.Keyword.{Keyword}

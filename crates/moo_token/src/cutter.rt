@@ -1,7 +1,7 @@
 //! The machine that takes a byte at a time.
 
 ghost use Rattle.std.specs.Prelude.{◌≡◌, ◌∷◌, ◌++◌, ◌+◌, ◌-◌, ◌*◌, ◌<◌, ◌≤◌, ◌^◌, [], OnOk};
-ghost use Rattle.moo_spec.specs.Datum as datum;
+ghost use Rattle.spec_value.specs.Datum as datum;
 ghost use Rattle.moo_token.specs.Tokens as tokens;
 ghost use Rattle.moo_token.specs.Cutting as spec;
 ghost use Rattle.moo_token.specs.Views.{token_of, places, state_of, Stepped, Finished};

@@ -2,7 +2,7 @@
 
 ghost use Rattle.std.specs.Prelude.{◌≡◌, ℕ, List, true, IfOk};
 ghost use Rattle.std.specs.List.{list_all};
-ghost use Rattle.moo_spec.specs.Datum.{Text};
+ghost use Rattle.spec_value.specs.Datum.{Text};
 ghost use Rattle.moo_token.specs.Tokens.{Place, Ending, IsText, faulty, is_sound, tokens_in};
 ghost use Rattle.moo_token.specs.Views.{places, ending_of};
 

@@ -1,7 +1,7 @@
 //! Which words are no identifiers.
 
 ghost use Rattle.std.specs.Prelude.{◌≡◌, IfOk};
-ghost use Rattle.moo_spec.specs.Datum.{same_text, fold_case};
+ghost use Rattle.spec_value.specs.Datum.{same_text, fold_case};
 ghost use Rattle.moo_token.specs.Tokens as spec;
 ghost use Rattle.moo_token.specs.Views.{token_of};
 

@@ -1,6 +1,6 @@
 -- Programs of the same statements are the same.
 use Rattle.std.proofs.Common.{◌≡◌, ◌↔◌, Bool, IsTrue, List, [], ◌∷◌, sym, ◌∙◌, ap, refl}
-use Rattle.moo_spec.specs.Tree.{Statement, Program, the_end, seq}
+use Rattle.spec_program.specs.Tree.{Statement, Program, the_end, seq}
 use Rattle.moo_tree.specs.StatementView.{program_of}
 
 first_statements : Program → List Statement

@@ -1,7 +1,7 @@
 -- The parts of an expression nest less deep than it.
 use Rattle.std.specs.Prelude.{ℕ, suc, ◌+◌, ◌≤◌, max}
 use Rattle.std.proofs.Common.{arith}
-use Rattle.moo_spec.specs.Tree.{Expr}
+use Rattle.spec_program.specs.Tree.{Expr}
 use Rattle.moo_tree.specs.Depth.{expr_depth, target_depth}
 use Rattle.moo_tree.specs.ExpressionView.{node_expr}
 use Rattle.moo_tree.specs.declared.expression.ExpressionNode.{ExpressionNode}

@@ -1,5 +1,5 @@
 -- What the fields of an expression mean.
-use Rattle.moo_spec.specs.Tree.{Expr, literal, variable, binary, property, assignment, Target as Place, to_property}
+use Rattle.spec_program.specs.Tree.{Expr, literal, variable, binary, property, assignment, Target as Place, to_property}
 use Rattle.moo_value.specs.Operators.{binary_of}
 use Rattle.moo_tree.specs.declared.expression.ExpressionNode.{ExpressionNode}
 use Rattle.moo_tree.specs.declared.expression.ExpressionNode.TheVariants.{Literal, Variable, Binary, Property, Assignment}

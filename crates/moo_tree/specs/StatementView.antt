@@ -1,6 +1,6 @@
 -- What the fields of statements and programs mean.
 use Rattle.std.specs.Prelude.{List, [], ◌∷◌, Option, Some, None}
-use Rattle.moo_spec.specs.Tree.{Expr, Statement, evaluate, give, give_zero, Program, the_end, seq}
+use Rattle.spec_program.specs.Tree.{Expr, Statement, evaluate, give, give_zero, Program, the_end, seq}
 use Rattle.moo_tree.specs.declared.statement.StatementNode.{StatementNode}
 use Rattle.moo_tree.specs.declared.statement.StatementNode.TheVariants.{Evaluate, Return}
 

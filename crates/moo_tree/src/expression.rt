@@ -36,8 +36,8 @@ pub enum Target {
 }
 
 impl Model for Expression {
-    ghost use Rattle.moo_spec.specs.Tree.{Expr};
-    ghost use Rattle.moo_spec.specs.TreeCode.{expr_code};
+    ghost use Rattle.spec_program.specs.Tree.{Expr};
+    ghost use Rattle.spec_program.specs.TreeCode.{expr_code};
     ghost use Rattle.moo_tree.specs.Depth.{expr_depth};
 
     ghost Value = { Expr };

@@ -21,8 +21,8 @@ pub enum StatementNode {
 }
 
 impl Model for Statement {
-    ghost use Rattle.moo_spec.specs.Tree.{Statement as Meant};
-    ghost use Rattle.moo_spec.specs.TreeCode.{statement_code};
+    ghost use Rattle.spec_program.specs.Tree.{Statement as Meant};
+    ghost use Rattle.spec_program.specs.TreeCode.{statement_code};
 
     ghost Value = { Meant };
 
@@ -40,8 +40,8 @@ pub struct Tree {
 }
 
 impl Model for Tree {
-    ghost use Rattle.moo_spec.specs.Tree.{Program};
-    ghost use Rattle.moo_spec.specs.TreeCode.{program_code};
+    ghost use Rattle.spec_program.specs.Tree.{Program};
+    ghost use Rattle.spec_program.specs.TreeCode.{program_code};
 
     ghost Value = { Program };
 

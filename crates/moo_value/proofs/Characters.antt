@@ -2,7 +2,7 @@
 use Rattle.std.proofs.Common.{◌≡◌, ℕ, zero, suc, ◌<◌, ◌≤◌, Bool, true, false, IsTrue, List, [], ◌∷◌, length, get_or, arith, ◌++◌, take, drop, refl, ◌&&◌, ◌||◌, nat_le, ◌==◌}
 use Rattle.std.specs.Str.{IsAscii}
 use Rattle.std.proofs.lemmas.Bool.Decides.{nat_tests}
-use Rattle.moo_spec.specs.Datum.{is_character, is_text}
+use Rattle.spec_value.specs.Datum.{is_character, is_text}
 
 pub character_below : (c : ℕ) → IsTrue (is_character c) → c < 128
 character_below c h = grind (arith, nat_tests)

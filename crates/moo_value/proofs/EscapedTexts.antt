@@ -3,8 +3,8 @@ use Rattle.std.proofs.Common.{◌≡◌, ℕ, ◌<◌, List, [], ◌∷◌, ◌+
 use Rattle.std.specs.Prelude.{unwrap_or}
 use Rattle.std.proofs.lemmas.Bool.Decides.{nat_tests}
 use Rattle.std.proofs.lemmas.List.{append-nil}
-use Rattle.moo_spec.specs.Datum.{is_text, is_character}
-use Rattle.moo_spec.specs.Literal.{escape, escaped}
+use Rattle.spec_value.specs.Datum.{is_text, is_character}
+use Rattle.spec_value.specs.Literal.{escape, escaped}
 use Rattle.moo_value.proofs.Characters.{character_below}
 use Rattle.moo_value.specs.Read.{one_character, first_of}
 

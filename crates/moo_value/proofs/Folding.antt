@@ -1,7 +1,7 @@
 -- Values with the case of letters left out.
 use Rattle.std.proofs.Common.{◌≡◌, ◌↔◌, ℕ, zero, suc, ◌<◌, Bool, IsTrue, List, [], ◌∷◌, length, get_or, map, refl, ap, sym, ◌∙◌, arith}
-use Rattle.moo_spec.specs.Datum.{Datum, item, list, of_list}
-use Rattle.moo_spec.specs.Datum.{folded, folded_data}
+use Rattle.spec_value.specs.Datum.{Datum, item, list, of_list}
+use Rattle.spec_value.specs.Datum.{folded, folded_data}
 use Rattle.moo_value.proofs.Listing.{list_inj}
 
 pub folded_of_list : (ds : List Datum) → folded_data (of_list ds) ≡ of_list (map folded ds)

@@ -4,14 +4,14 @@ use Rattle.std.proofs.lemmas.Bool.Decides.{nat_tests}
 use Rattle.std.proofs.Common.{◌⊎◌, ⊎_elim}
 use Rattle.std.specs.List.{AllZip}
 use Rattle.std.proofs.lemmas.List.Elements.{same_from_all_zip}
-use Rattle.moo_spec.specs.Datum.{is_value, are_values, weight, data_weight}
-use Rattle.moo_spec.specs.Datum.{Datum, Data, no_data, item, list, of_list, to_list, append, joined}
+use Rattle.spec_value.specs.Datum.{is_value, are_values, weight, data_weight}
+use Rattle.spec_value.specs.Datum.{Datum, Data, no_data, item, list, of_list, to_list, append, joined}
 use Rattle.std.proofs.lemmas.List.{take_all}
 use Rattle.std.proofs.Common.{length-drop, insert, remove, Option, Some, ◌==◌, min, ◌^◌, ◌-◌}
 use Rattle.std.proofs.Math.ListN.{set}
-use Rattle.moo_spec.specs.Places.{item_count, item_at, with_item, inserted, without, first_items, later_items}
+use Rattle.spec_value.specs.Places.{item_count, item_at, with_item, inserted, without, first_items, later_items}
 use Rattle.moo_value.specs.Depth.{depth, data_depth}
-use Rattle.moo_spec.specs.Literal.{literal, more_text, data_text}
+use Rattle.spec_value.specs.Literal.{literal, more_text, data_text}
 
 pub to_list-of_list : (ds : List Datum) → to_list (of_list ds) ≡ ds
 to_list-of_list [] = refl

@@ -1,6 +1,6 @@
 -- Errors' names at the front of some bytes.
 use Rattle.std.proofs.Common.{◌≡◌, ℕ, zero, suc, ◌+◌, ◌<◌, List, [], ◌∷◌, length, get_or, drop, refl, ap, sym, ◌∙◌, arith, add-one, Option, Some, None}
-use Rattle.moo_spec.specs.Literal.{error_name}
+use Rattle.spec_value.specs.Literal.{error_name}
 use Rattle.moo_value.specs.Errors.{code_of}
 use Rattle.moo_value.specs.Read.{after_name, first_named, named}
 use Rattle.moo_value.specs.declared.error.MooError.{MooError}

@@ -7,7 +7,7 @@ use Rattle.std.specs.Int.Signed.{mag}
 use Rattle.std.specs.Fmt.{decimal, signed_decimal}
 use Rattle.std.proofs.lemmas.Fmt.{decimal_by_steps, decimal_nonempty}
 use Rattle.std.proofs.Math.Seq.{take-append_seam, drop-append_seam}
-use Rattle.moo_spec.specs.Datum.{in_number_range}
+use Rattle.spec_value.specs.Datum.{in_number_range}
 use Rattle.moo_value.specs.Read.{is_digit, digit_run, numeral_length}
 
 abbrev pub IsRun : ℕ → List ℕ → Type 0

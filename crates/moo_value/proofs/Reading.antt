@@ -1,5 +1,5 @@
 -- Which value stands at the front of some bytes.
-use Rattle.std.proofs.Common.{◌≡◌, ℕ, zero, suc, ◌+◌, ◌<◌, ◌^◌, List, [], ◌∷◌, ◌++◌, length, IsTrue, Bool, true, false, Option, Some, None, option_map, refl, ap, sym, ◌∙◌, arith, append_assoc, ◌⊎◌, inl, inr, ⊎_elim, ℤ, pos, negsuc, if◌then◌else◌, Bor, length-append, ◌==◌}
+use Rattle.std.proofs.Common.{◌≡◌, ℕ, zero, suc, ◌+◌, ◌-◌, ◌<◌, ◌≤◌, ◌^◌, List, [], ◌∷◌, ◌++◌, length, IsTrue, Bool, true, false, Option, Some, None, option_map, refl, ap, sym, ◌∙◌, arith, append_assoc, ◌⊎◌, inl, inr, ⊎_elim, ℤ, pos, negsuc, if◌then◌else◌, Bor, length-append, ◌==◌}
 use Rattle.std.proofs.lemmas.List.{append-nil}
 use Rattle.std.specs.Str.{bytes_eq}
 use Rattle.std.proofs.lemmas.Slice.Eq.{bytes_eq-Decides}
@@ -7,12 +7,13 @@ use Rattle.moo_value.proofs.EscapedTexts.{first_same, second_same}
 use Rattle.std.proofs.lemmas.Bool.Decides.{nat_tests}
 use Rattle.std.specs.Fmt.{decimal, signed_decimal}
 use Rattle.std.proofs.lemmas.Fmt.{decimal_nonempty}
-use Rattle.moo_spec.specs.Datum.{Datum, integer, object, text, error, list, Data, ErrorCode, no_error, type_mismatch, zero_division, permission_denied, property_not_found, verb_not_found, variable_not_found, invalid_indirection, recursive_move, too_many_calls, range_error, wrong_argument_count, move_refused, invalid_argument, limit_exceeded, float_error, of_list, to_list}
-use Rattle.moo_spec.specs.Datum.{is_value, in_number_range, are_values}
-use Rattle.moo_spec.specs.Literal.{literal, data_text, more_text, escaped, error_name}
+use Rattle.spec_value.specs.Datum.{Datum, integer, object, text, error, list, Data, ErrorCode, no_error, type_mismatch, zero_division, permission_denied, property_not_found, verb_not_found, variable_not_found, invalid_indirection, recursive_move, too_many_calls, range_error, wrong_argument_count, move_refused, invalid_argument, limit_exceeded, float_error, of_list, to_list}
+use Rattle.spec_value.specs.Datum.{is_value, in_number_range, are_values}
+use Rattle.spec_value.specs.Literal.{literal, data_text, more_text, escaped, error_name}
 use Rattle.moo_value.proofs.Listing.{of_list-to_list}
 use Rattle.moo_value.specs.declared.error.MooError.{MooError}
 use Rattle.moo_value.specs.declared.error.MooError.TheVariants.{NoError, TypeMismatch, ZeroDivision, PermissionDenied, PropertyNotFound, VerbNotFound, VariableNotFound, InvalidIndirection, RecursiveMove, TooManyCalls, RangeError, WrongArgumentCount, MoveRefused, InvalidArgument, LimitExceeded, FloatError}
+use Rattle.moo_value.specs.Depth.{depth, data_depth}
 use Rattle.moo_value.specs.Read.{is_digit, digit_run, mark, Found, found, first_named, FindsNumber, FindsError, FindsText, FindsValue, FindsItems}
 use Rattle.moo_value.proofs.Numbers.{run_decimal}
 
@@ -95,49 +96,60 @@ first_value d ds h = grind (arith, nat_tests)
 pub rest_values : (d : Datum) (ds : List Datum) → IsTrue (are_values (of_list (d ∷ ds))) → IsTrue (are_values (of_list ds))
 rest_values d ds h = grind (arith, nat_tests)
 
-module _ (bytes rest : List ℕ) (c : ℕ) (split : bytes ≡ c ∷ rest) where
-  pub arm_list : (o : Found (List Datum)) → c ≡ 123 → FindsItems rest o → FindsValue bytes (option_map (λ p. (list (of_list p.0), p.1)) o)
-  arm_list o k f (list ds) r h d e =
+pub rest_depth : (d : Datum) (ds : List Datum) (n : ℕ) → data_depth (of_list (d ∷ ds)) ≤ n → data_depth (of_list ds) ≤ n
+rest_depth d ds n h = omega arith
+
+module _ (bytes rest : List ℕ) (c : ℕ) (split : bytes ≡ c ∷ rest) (n : ℕ) where
+  pub arm_list : (o : Found (List Datum)) → 0 < n → c ≡ 123 → FindsItems (n - 1) rest o → FindsValue n bytes (option_map (λ p. (list (of_list p.0), p.1)) o)
+  arm_list o b k f (list ds) r h w d e =
       let t : rest ≡ (data_text ds ++ 125 ∷ []) ++ r = cc in
       let tail : rest ≡ data_text (of_list (to_list ds)) ++ 125 ∷ r = t ∙ append_assoc (data_text ds) (125 ∷ []) r ∙ ap (λ x. data_text x ++ 125 ∷ r) (sym (of_list-to_list ds)) in
-      found-map (λ xs. list (of_list xs)) o ∙ ap (option_map (λ q. (list (of_list q.0), q.1))) (f (to_list ds) r (rw (of_list-to_list ds) h) tail) ∙ ap (λ x. Some (list x, r)) (of_list-to_list ds)
-  arm_list o k f (integer n) r h d e = absurd (not_123 c k (front (integer n) r c rest h (sym e ∙ split)))
-  arm_list o k f (object n) r h d e = absurd (omega (arith, front (object n) r c rest h (sym e ∙ split)))
-  arm_list o k f (text s) r h d e = absurd (omega (arith, front (text s) r c rest h (sym e ∙ split)))
-  arm_list o k f (error x) r h d e = absurd (omega (arith, front (error x) r c rest h (sym e ∙ split)))
+      found-map (λ xs. list (of_list xs)) o ∙ ap (option_map (λ q. (list (of_list q.0), q.1))) (f (to_list ds) r (rw (of_list-to_list ds) h) (rw (of_list-to_list ds) (omega arith)) tail) ∙ ap (λ x. Some (list x, r)) (of_list-to_list ds)
+  arm_list o b k f (integer n) r h w d e = absurd (not_123 c k (front (integer n) r c rest h (sym e ∙ split)))
+  arm_list o b k f (object n) r h w d e = absurd (omega (arith, front (object n) r c rest h (sym e ∙ split)))
+  arm_list o b k f (text s) r h w d e = absurd (omega (arith, front (text s) r c rest h (sym e ∙ split)))
+  arm_list o b k f (error x) r h w d e = absurd (omega (arith, front (error x) r c rest h (sym e ∙ split)))
 
-  pub arm_text : (o : Found (List ℕ)) → c ≡ 34 → FindsText rest o → FindsValue bytes (option_map (λ p. (text p.0, p.1)) o)
-  arm_text o k f (text s) r h d e =
+  -- no room for a list
+  pub arm_deep : n ≡ 0 → c ≡ 123 → FindsValue n bytes None
+  arm_deep none k (list ds) r h w d e = absurd (omega arith)
+  arm_deep none k (integer z) r h w d e = absurd (not_123 c k (front (integer z) r c rest h (sym e ∙ split)))
+  arm_deep none k (object z) r h w d e = absurd (omega (arith, front (object z) r c rest h (sym e ∙ split)))
+  arm_deep none k (text s) r h w d e = absurd (omega (arith, front (text s) r c rest h (sym e ∙ split)))
+  arm_deep none k (error x) r h w d e = absurd (omega (arith, front (error x) r c rest h (sym e ∙ split)))
+
+  pub arm_text : (o : Found (List ℕ)) → c ≡ 34 → FindsText rest o → FindsValue n bytes (option_map (λ p. (text p.0, p.1)) o)
+  arm_text o k f (text s) r h w d e =
       let t : rest ≡ (escaped s ++ 34 ∷ []) ++ r = cc in
       let tail : rest ≡ escaped s ++ 34 ∷ r = t ∙ append_assoc (escaped s) (34 ∷ []) r in
       found-map text o ∙ ap (option_map (λ q. (text q.0, q.1))) (f s r h tail)
-  arm_text o k f (integer n) r h d e = absurd (not_34 c k (front (integer n) r c rest h (sym e ∙ split)))
-  arm_text o k f (object n) r h d e = absurd (omega (arith, front (object n) r c rest h (sym e ∙ split)))
-  arm_text o k f (list s) r h d e = absurd (omega (arith, front (list s) r c rest h (sym e ∙ split)))
-  arm_text o k f (error x) r h d e = absurd (omega (arith, front (error x) r c rest h (sym e ∙ split)))
+  arm_text o k f (integer n) r h w d e = absurd (not_34 c k (front (integer n) r c rest h (sym e ∙ split)))
+  arm_text o k f (object n) r h w d e = absurd (omega (arith, front (object n) r c rest h (sym e ∙ split)))
+  arm_text o k f (list s) r h w d e = absurd (omega (arith, front (list s) r c rest h (sym e ∙ split)))
+  arm_text o k f (error x) r h w d e = absurd (omega (arith, front (error x) r c rest h (sym e ∙ split)))
 
-  pub arm_object : (o : Found ℤ) → c ≡ 35 → FindsNumber rest o → FindsValue bytes (option_map (λ p. (object p.0, p.1)) o)
-  arm_object o k f (object n) r h d e =
+  pub arm_object : (o : Found ℤ) → c ≡ 35 → FindsNumber rest o → FindsValue n bytes (option_map (λ p. (object p.0, p.1)) o)
+  arm_object o k f (object n) r h w d e =
       let tail : rest ≡ signed_decimal n ++ r = cc in
       found-map object o ∙ ap (option_map (λ q. (object q.0, q.1))) (f n r h d tail)
-  arm_object o k f (integer n) r h d e = absurd (not_35 c k (front (integer n) r c rest h (sym e ∙ split)))
-  arm_object o k f (text s) r h d e = absurd (omega (arith, front (text s) r c rest h (sym e ∙ split)))
-  arm_object o k f (list s) r h d e = absurd (omega (arith, front (list s) r c rest h (sym e ∙ split)))
-  arm_object o k f (error x) r h d e = absurd (omega (arith, front (error x) r c rest h (sym e ∙ split)))
+  arm_object o k f (integer n) r h w d e = absurd (not_35 c k (front (integer n) r c rest h (sym e ∙ split)))
+  arm_object o k f (text s) r h w d e = absurd (omega (arith, front (text s) r c rest h (sym e ∙ split)))
+  arm_object o k f (list s) r h w d e = absurd (omega (arith, front (list s) r c rest h (sym e ∙ split)))
+  arm_object o k f (error x) r h w d e = absurd (omega (arith, front (error x) r c rest h (sym e ∙ split)))
 
-  pub arm_error : (o : Found ErrorCode) → c ≡ 69 → FindsError bytes o → FindsValue bytes (option_map (λ p. (error p.0, p.1)) o)
-  arm_error o k f (error x) r h d e = found-map error o ∙ ap (option_map (λ q. (error q.0, q.1))) (f x r e)
-  arm_error o k f (integer n) r h d e = absurd (not_69 c k (front (integer n) r c rest h (sym e ∙ split)))
-  arm_error o k f (text s) r h d e = absurd (omega (arith, front (text s) r c rest h (sym e ∙ split)))
-  arm_error o k f (list s) r h d e = absurd (omega (arith, front (list s) r c rest h (sym e ∙ split)))
-  arm_error o k f (object n) r h d e = absurd (omega (arith, front (object n) r c rest h (sym e ∙ split)))
+  pub arm_error : (o : Found ErrorCode) → c ≡ 69 → FindsError bytes o → FindsValue n bytes (option_map (λ p. (error p.0, p.1)) o)
+  arm_error o k f (error x) r h w d e = found-map error o ∙ ap (option_map (λ q. (error q.0, q.1))) (f x r e)
+  arm_error o k f (integer n) r h w d e = absurd (not_69 c k (front (integer n) r c rest h (sym e ∙ split)))
+  arm_error o k f (text s) r h w d e = absurd (omega (arith, front (text s) r c rest h (sym e ∙ split)))
+  arm_error o k f (list s) r h w d e = absurd (omega (arith, front (list s) r c rest h (sym e ∙ split)))
+  arm_error o k f (object n) r h w d e = absurd (omega (arith, front (object n) r c rest h (sym e ∙ split)))
 
-  pub arm_number : (o : Found ℤ) → (c ≡ 123 → ⊥) → (c ≡ 34 → ⊥) → (c ≡ 35 → ⊥) → (c ≡ 69 → ⊥) → FindsNumber bytes o → FindsValue bytes (option_map (λ p. (integer p.0, p.1)) o)
-  arm_number o k l m n f (integer z) r h d e = found-map integer o ∙ ap (option_map (λ q. (integer q.0, q.1))) (f z r h d e)
-  arm_number o k l m n f (object x) r h d e = absurd (m (front (object x) r c rest h (sym e ∙ split)))
-  arm_number o k l m n f (text s) r h d e = absurd (l (front (text s) r c rest h (sym e ∙ split)))
-  arm_number o k l m n f (list s) r h d e = absurd (k (front (list s) r c rest h (sym e ∙ split)))
-  arm_number o k l m n f (error x) r h d e = absurd (n (front (error x) r c rest h (sym e ∙ split)))
+  pub arm_number : (o : Found ℤ) → (c ≡ 123 → ⊥) → (c ≡ 34 → ⊥) → (c ≡ 35 → ⊥) → (c ≡ 69 → ⊥) → FindsNumber bytes o → FindsValue n bytes (option_map (λ p. (integer p.0, p.1)) o)
+  arm_number o k l m p f (integer z) r h w d e = found-map integer o ∙ ap (option_map (λ q. (integer q.0, q.1))) (f z r h d e)
+  arm_number o k l m p f (object x) r h w d e = absurd (m (front (object x) r c rest h (sym e ∙ split)))
+  arm_number o k l m p f (text s) r h w d e = absurd (l (front (text s) r c rest h (sym e ∙ split)))
+  arm_number o k l m p f (list s) r h w d e = absurd (k (front (list s) r c rest h (sym e ∙ split)))
+  arm_number o k l m p f (error x) r h w d e = absurd (p (front (error x) r c rest h (sym e ∙ split)))
 
 -- what stands behind an item
 abbrev pub behind : List Datum → List ℕ → List ℕ
@@ -189,15 +201,15 @@ some_bytes (error limit_exceeded) r h e = cc
 some_bytes (error float_error) r h e = cc
 some_bytes (list ds) r h e = cc
 
-module _ (rest : List ℕ) (e : Datum) (es : List Datum) (r : List ℕ) (h : IsTrue (are_values (of_list (e ∷ es)))) (is : rest ≡ data_text (of_list (e ∷ es)) ++ 125 ∷ r) where
-  pub item_none : FindsValue rest None → ⊥
+module _ (rest : List ℕ) (e : Datum) (es : List Datum) (r : List ℕ) (h : IsTrue (are_values (of_list (e ∷ es)))) (n : ℕ) (w : data_depth (of_list (e ∷ es)) ≤ n) (is : rest ≡ data_text (of_list (e ∷ es)) ++ 125 ∷ r) where
+  pub item_none : FindsValue n rest None → ⊥
   item_none f =
-      let got = f e (behind es r) (first_value e es h) (behind_ends es r) (is ∙ behind_item e es r) in
+      let got = f e (behind es r) (first_value e es h) (omega arith) (behind_ends es r) (is ∙ behind_item e es r) in
       cc
 
-  pub item_some : (v : Datum) (after : Bor (List ℕ)) → FindsValue rest (Some (v, after)) → (v ≡ e) × (after.now ≡ behind es r)
+  pub item_some : (v : Datum) (after : Bor (List ℕ)) → FindsValue n rest (Some (v, after)) → (v ≡ e) × (after.now ≡ behind es r)
   item_some v after f =
-      let got = f e (behind es r) (first_value e es h) (behind_ends es r) (is ∙ behind_item e es r) in
+      let got = f e (behind es r) (first_value e es h) (omega arith) (behind_ends es r) (is ∙ behind_item e es r) in
       (first_same v e after.now (behind es r) got, second_same v e after.now (behind es r) got)
 
 pub mark_none : (es : List Datum) (r after : List ℕ) → after ≡ behind es r → ◌≡◌ {A = Option (Bool × List ℕ)} None (mark after) → ⊥
@@ -221,14 +233,14 @@ pub list_goes : (items ds es pushed : List Datum) (e v x : Datum) (xs : List Dat
 list_goes items ds es pushed e v x xs is some same new =
     is ∙ ap (λ ys. items ++ e ∷ ys) some ∙ sym (append_assoc items (e ∷ []) (x ∷ xs)) ∙ ap (λ y. (items ++ y ∷ []) ++ x ∷ xs) (sym same) ∙ ap (λ ys. ys ++ x ∷ xs) (sym new)
 
-pub none_found : (d : Datum) (bytes : List ℕ) → IsTrue (is_value d) → bytes ≡ literal d → FindsValue bytes None → ⊥
-none_found d bytes h e f =
-    let got = f d [] h refl (e ∙ sym (append-nil (literal d))) in
+pub none_found : (d : Datum) (bytes : List ℕ) (n : ℕ) → IsTrue (is_value d) → depth d ≤ n → bytes ≡ literal d → FindsValue n bytes None → ⊥
+none_found d bytes n h w e f =
+    let got = f d [] h w refl (e ∙ sym (append-nil (literal d))) in
     cc
 
-pub rest_found : (d v : Datum) (bytes : List ℕ) (rest : Bor (List ℕ)) → IsTrue (is_value d) → bytes ≡ literal d → FindsValue bytes (Some (v, rest)) → (v ≡ d) × (rest.now ≡ [])
-rest_found d v bytes rest h e f =
-    let got = f d [] h refl (e ∙ sym (append-nil (literal d))) in
+pub rest_found : (d v : Datum) (bytes : List ℕ) (rest : Bor (List ℕ)) (n : ℕ) → IsTrue (is_value d) → depth d ≤ n → bytes ≡ literal d → FindsValue n bytes (Some (v, rest)) → (v ≡ d) × (rest.now ≡ [])
+rest_found d v bytes rest n h w e f =
+    let got = f d [] h w refl (e ∙ sym (append-nil (literal d))) in
     (first_same v d rest.now [] got, second_same v d rest.now [] got)
 
 pub not_empty : (xs : List ℕ) (b : Bool) → b ≡ (length xs == 0) → xs ≡ [] → b ≡ false → ⊥

@@ -2,9 +2,9 @@
 use Rattle.std.proofs.Common.{◌≡◌, ◌↔◌, ℕ, zero, suc, Bool, true, false, IsTrue, List, [], ◌∷◌, refl, ap, sym, ◌∙◌, arith, ◌&&◌, ◌==◌, ℤ, pos, negsuc, subst}
 use Rattle.std.proofs.lemmas.Bool.Decides.{nat_tests}
 use Rattle.std.specs.Ordering.{int_eq}
-use Rattle.moo_spec.specs.Datum.{ErrorCode, error_number, Text, same_text, Datum, integer, object, text, error, list, Data, no_data, item, same, same_data, folded}
-use Rattle.moo_spec.specs.DatumCode.{error_at, error_back}
-use Rattle.moo_spec.specs.Operators.{alike}
+use Rattle.spec_value.specs.Datum.{ErrorCode, error_number, Text, same_text, Datum, integer, object, text, error, list, Data, no_data, item, same, same_data, folded}
+use Rattle.spec_value.specs.DatumCode.{error_at, error_back}
+use Rattle.spec_value.specs.Operators.{alike}
 
 same_integers : (m n : ℤ) → IsTrue (int_eq m n) → m ≡ n
 same_integers (pos m) (pos n) h = ap pos (grind (arith, nat_tests))

@@ -3,8 +3,8 @@ use Rattle.std.proofs.Common.{◌≡◌, ℕ, zero, suc, ◌+◌, ◌/◌, ◌%�
 use Rattle.std.proofs.lemmas.Bool.Decides.{nat_tests}
 use Rattle.std.specs.Fmt.{decimal, signed_decimal}
 use Rattle.std.proofs.lemmas.Fmt.{decimal_by_steps}
-use Rattle.moo_spec.specs.Datum.{ErrorCode, no_error, type_mismatch, zero_division, permission_denied, property_not_found, verb_not_found, variable_not_found, invalid_indirection, recursive_move, too_many_calls, range_error, wrong_argument_count, move_refused, invalid_argument, limit_exceeded, float_error, Datum, integer, object, text, error, list, Data, no_data, item, is_character, is_text, in_number_range, is_value, are_values}
-use Rattle.moo_spec.specs.Literal.{error_name, error_message, escape, escaped, literal, data_text, more_text, to_text}
+use Rattle.spec_value.specs.Datum.{ErrorCode, no_error, type_mismatch, zero_division, permission_denied, property_not_found, verb_not_found, variable_not_found, invalid_indirection, recursive_move, too_many_calls, range_error, wrong_argument_count, move_refused, invalid_argument, limit_exceeded, float_error, Datum, integer, object, text, error, list, Data, no_data, item, is_character, is_text, in_number_range, is_value, are_values}
+use Rattle.spec_value.specs.Literal.{error_name, error_message, escape, escaped, literal, data_text, more_text, to_text}
 use Rattle.moo_value.proofs.Characters.{is_text-append}
 
 one_digit : (n : ℕ) → n < 10 → IsTrue (is_text ((48 + n) ∷ []))

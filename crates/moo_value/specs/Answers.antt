@@ -1,7 +1,7 @@
 -- What an operation answers, in the words of the definitions.
 use Rattle.std.specs.Prelude.{Result, Ok, Err}
-use Rattle.moo_spec.specs.Datum.{Datum}
-use Rattle.moo_spec.specs.Answer.{Answer, gives, raises}
+use Rattle.spec_value.specs.Datum.{Datum}
+use Rattle.spec_value.specs.Answer.{Answer, gives, raises}
 use Rattle.moo_value.specs.Errors.{code_of}
 use Rattle.moo_value.specs.declared.error.MooError.{MooError}
 

@@ -1,6 +1,6 @@
 -- How deep a value nests.
 use Rattle.std.specs.Prelude.{ℕ, suc, max}
-use Rattle.moo_spec.specs.Datum.{Datum, integer, object, text, error, list, Data, no_data, item}
+use Rattle.spec_value.specs.Datum.{Datum, integer, object, text, error, list, Data, no_data, item}
 
 abbrev mutual
   pub depth : Datum → ℕ

@@ -1,5 +1,5 @@
 -- The errors of the definitions, by their names here.
-use Rattle.moo_spec.specs.Datum.{ErrorCode, no_error, type_mismatch, zero_division, permission_denied, property_not_found, verb_not_found, variable_not_found, invalid_indirection, recursive_move, too_many_calls, range_error, wrong_argument_count, move_refused, invalid_argument, limit_exceeded, float_error}
+use Rattle.spec_value.specs.Datum.{ErrorCode, no_error, type_mismatch, zero_division, permission_denied, property_not_found, verb_not_found, variable_not_found, invalid_indirection, recursive_move, too_many_calls, range_error, wrong_argument_count, move_refused, invalid_argument, limit_exceeded, float_error}
 use Rattle.moo_value.specs.declared.error.MooError.{MooError}
 use Rattle.moo_value.specs.declared.error.MooError.TheVariants.{NoError, TypeMismatch, ZeroDivision, PermissionDenied, PropertyNotFound, VerbNotFound, VariableNotFound, InvalidIndirection, RecursiveMove, TooManyCalls, RangeError, WrongArgumentCount, MoveRefused, InvalidArgument, LimitExceeded, FloatError}
 

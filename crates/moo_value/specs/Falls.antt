@@ -3,7 +3,7 @@ use Rattle.std.specs.Prelude.{ℕ, suc, ◌+◌, ◌≤◌, max, List, [], ◌�
 use Rattle.std.proofs.Common.{arith}
 use Rattle.std.specs.Arc.{arc_value}
 use denote.Param.Weighed.{most}
-use Rattle.moo_spec.specs.Datum.{Datum, of_list}
+use Rattle.spec_value.specs.Datum.{Datum, of_list}
 use Rattle.moo_value.specs.Depth.{depth, data_depth}
 use Rattle.moo_value.specs.View.{node_datum}
 use Rattle.moo_value.specs.declared.value.Node.{Node}

@@ -1,5 +1,5 @@
 -- The operators of the definitions, by their names here.
-use Rattle.moo_spec.specs.Tree.{BinaryOperator as BinaryOperatorOf, plus, minus, times, divided_by, remainder_by, to_the, equals, differs, less, less_or_equal, greater, greater_or_equal, is_in, UnaryOperator as UnaryOperatorOf, negation, not_true}
+use Rattle.spec_value.specs.Operators.{BinaryOperator as BinaryOperatorOf, plus, minus, times, divided_by, remainder_by, to_the, equals, differs, less, less_or_equal, greater, greater_or_equal, is_in, UnaryOperator as UnaryOperatorOf, negation, not_true}
 use Rattle.moo_value.specs.declared.operator.BinaryOperator.{BinaryOperator}
 use Rattle.moo_value.specs.declared.operator.BinaryOperator.TheVariants.{Plus, Minus, Times, DividedBy, RemainderBy, ToThe, Equals, Differs, Less, LessOrEqual, Greater, GreaterOrEqual, IsIn}
 use Rattle.moo_value.specs.declared.operator.UnaryOperator.{UnaryOperator}

@@ -2,8 +2,9 @@
 use Rattle.std.specs.Prelude.{◌≡◌, ℕ, zero, suc, ◌≤◌, ℤ, List, [], ◌∷◌, ◌++◌, length, Bool, true, false, IsTrue, ◌&&◌, nat_le, ◌==◌, if◌then◌else◌, Option, Some, None, option_map, IfSome}
 use Rattle.std.specs.Fmt.{signed_decimal}
 use Rattle.std.specs.Borrow.{Bor}
-use Rattle.moo_spec.specs.Datum.{Datum, Data, ErrorCode, of_list, to_list, is_text, is_value, are_values, in_number_range}
-use Rattle.moo_spec.specs.Literal.{literal, data_text, escaped, error_name}
+use Rattle.spec_value.specs.Datum.{Datum, Data, ErrorCode, of_list, to_list, is_text, is_value, are_values, in_number_range}
+use Rattle.spec_value.specs.Literal.{literal, data_text, escaped, error_name}
+use Rattle.moo_value.specs.Depth.{depth, data_depth}
 use Rattle.moo_value.specs.Errors.{code_of}
 use Rattle.moo_value.specs.declared.error.MooError.{MooError}
 
@@ -74,9 +75,14 @@ FindsError bytes o = (e : ErrorCode) (r : List ℕ) → bytes ≡ error_name e +
 abbrev pub FindsText : List ℕ → Found (List ℕ) → Type 0
 FindsText bytes o = (s r : List ℕ) → IsTrue (is_text s) → bytes ≡ escaped s ++ 34 ∷ r → found o ≡ Some (s, r)
 
-abbrev pub FindsValue : List ℕ → Found Datum → Type 0
-FindsValue bytes o = (d : Datum) (r : List ℕ) → IsTrue (is_value d) → digit_run r ≡ 0 → bytes ≡ literal d ++ r → found o ≡ Some (d, r)
+-- of the values that nest at most so deep
+abbrev pub FindsValue : ℕ → List ℕ → Found Datum → Type 0
+FindsValue n bytes o = (d : Datum) (r : List ℕ) → IsTrue (is_value d) → depth d ≤ n → digit_run r ≡ 0 → bytes ≡ literal d ++ r → found o ≡ Some (d, r)
 
 -- behind the opening brace
-abbrev pub FindsItems : List ℕ → Found (List Datum) → Type 0
-FindsItems bytes o = (ds : List Datum) (r : List ℕ) → IsTrue (are_values (of_list ds)) → bytes ≡ data_text (of_list ds) ++ 125 ∷ r → found o ≡ Some (ds, r)
+abbrev pub FindsItems : ℕ → List ℕ → Found (List Datum) → Type 0
+FindsItems n bytes o = (ds : List Datum) (r : List ℕ) → IsTrue (are_values (of_list ds)) → data_depth (of_list ds) ≤ n → bytes ≡ data_text (of_list ds) ++ 125 ∷ r → found o ≡ Some (ds, r)
+
+-- the text is the literal of no value that nests at most so deep
+abbrev pub IsNoLiteralWithin : ℕ → List ℕ → Type 0
+IsNoLiteralWithin n t = (d : Datum) → IsTrue (is_value d) → depth d ≤ n → literal d ≡ t → ⊥

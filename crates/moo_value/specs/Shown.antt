@@ -1,5 +1,5 @@
 -- What a lent value is.
-use Rattle.moo_spec.specs.Datum.{Datum, integer, object, text, error, list, of_list}
+use Rattle.spec_value.specs.Datum.{Datum, integer, object, text, error, list, of_list}
 use Rattle.moo_value.specs.Errors.{code_of}
 use Rattle.moo_value.specs.declared.value.Shown.{Shown}
 use Rattle.moo_value.specs.declared.value.Shown.TheVariants.{Integer, Object, Text, Error, List}

@@ -1,7 +1,7 @@
 -- What the fields of a value mean.
 use Rattle.std.specs.Prelude.{◌^◌, ◌-◌, Bool, true, ◌&&◌, ◌==◌, min}
 use Rattle.std.specs.Arc.{arc_value}
-use Rattle.moo_spec.specs.Datum.{Datum, integer, object, text, error, list, of_list, is_value, data_weight}
+use Rattle.spec_value.specs.Datum.{Datum, integer, object, text, error, list, of_list, is_value, data_weight}
 use Rattle.moo_value.specs.Errors.{code_of}
 use Rattle.moo_value.specs.declared.value.Node.{Node}
 use Rattle.moo_value.specs.declared.value.Node.TheVariants.{Integer, Object, Text, Error, List}

@@ -1,6 +1,6 @@
 //! What an operation of the language answers: a value, or the error that it raises.
 ghost use Rattle.std.specs.Prelude.{◌≡◌};
-ghost use Rattle.moo_spec.specs.Answer.{limited as limited_of};
+ghost use Rattle.spec_value.specs.Answer.{limited as limited_of};
 ghost use Rattle.moo_value.specs.Answers.{answer_of};
 
 use crate::error::MooError;

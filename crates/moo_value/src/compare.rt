@@ -2,8 +2,8 @@
 ghost use Rattle.std.specs.Prelude.{◌≡◌, ◌↔◌, IsTrue, map, ok_or};
 ghost use Rattle.std.specs.Cmp.Lexicographic.{slice_cmp};
 ghost use Rattle.std.specs.Ordering.{nat_cmp};
-ghost use Rattle.moo_spec.specs.Datum.{folded, fold_case};
-ghost use Rattle.moo_spec.specs.Order.{order as order_of};
+ghost use Rattle.spec_value.specs.Datum.{folded, fold_case};
+ghost use Rattle.spec_value.specs.Order.{order as order_of};
 
 use crate::error::MooError;
 use crate::value::{Shown, Value};

@@ -40,8 +40,8 @@ pub enum MooError {
 
 impl MooError {
     ghost use Rattle.moo_value.specs.Errors.{code_of};
-    ghost use Rattle.moo_spec.specs.Datum.{error_number};
-    ghost use Rattle.moo_spec.specs.Literal.{error_name, error_message};
+    ghost use Rattle.spec_value.specs.Datum.{error_number};
+    ghost use Rattle.spec_value.specs.Literal.{error_name, error_message};
 
     /// All errors, in their order.
     pub const ALL: [MooError; 16] = [

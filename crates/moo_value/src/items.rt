@@ -1,8 +1,8 @@
 //! The shared items of lists.
 ghost use Rattle.std.specs.Prelude.{◌≡◌, ◌<◌, ◌≤◌, length, IfOk, IsTrue, min, is_ok, Some, if◌then◌else◌};
 ghost use Rattle.std.specs.Arc.{arc_value};
-ghost use Rattle.moo_spec.specs.Datum.{of_list, append, are_values, data_weight};
-ghost use Rattle.moo_spec.specs.Places.{item_at, with_item, inserted, without};
+ghost use Rattle.spec_value.specs.Datum.{of_list, append, are_values, data_weight};
+ghost use Rattle.spec_value.specs.Places.{item_at, with_item, inserted, without};
 
 use crate::value::Value;
 use std::alloc::AllocError;

@@ -1,8 +1,8 @@
 //! Values from their literals.
 ghost use Rattle.std.specs.Prelude.{◌≡◌, ◌<◌, ◌≤◌, length, IfSome, [], ◌∷◌, IfOk, MatchOption, option_map};
-ghost use Rattle.moo_spec.specs.Literal.{literal, IsNoLiteral};
+ghost use Rattle.spec_value.specs.Literal.{literal};
 ghost use Rattle.moo_value.specs.Errors.{code_of};
-ghost use Rattle.moo_value.specs.Read.{digit_run, numeral_length, found, one_character, mark, after_name, IsNoLonger, FindsNumber, FindsError, FindsText, FindsValue, FindsItems};
+ghost use Rattle.moo_value.specs.Read.{digit_run, numeral_length, found, one_character, mark, after_name, IsNoLonger, FindsNumber, FindsError, FindsText, FindsValue, FindsItems, IsNoLiteralWithin};
 
 use crate::error::MooError;
 use crate::text::Text;
@@ -11,11 +11,16 @@ use crate::write::to_literal;
 use std::alloc::{AllocError, Global};
 use std::str;
 
-/// The value whose literal the text is.
+/// How deep lists nest at most in a literal that is read. What walks over values recurses, so a text that nests deeper is refused before
+/// it can overflow a stack. A value that weighs no more than a result may nests 65,536 lists at most, and what a server puts such values
+/// into, as the arguments of a call or what a handler is told, adds a few.
+pub const NESTING_LIMIT: usize = 100_000;
+
+/// The value whose literal the text is, for values that nest no deeper than the limit.
 pub fn from_literal(alloc: Global, text: &str) -> Result<Option<Value>, AllocError>
-    ensures { IfOk result (λ o. MatchOption o (IsNoLiteral text.now) (λ v. literal v ≡ text.now)) }
+    ensures { IfOk result (λ o. MatchOption o (IsNoLiteralWithin NESTING_LIMIT text.now) (λ v. literal v ≡ text.now)) }
 {
-    let Some((value, rest)) = read_value(alloc, text.as_bytes())? else {
+    let Some((value, rest)) = read_value(alloc, text.as_bytes(), NESTING_LIMIT)? else {
         return Ok(None);
     };
     if !rest.is_empty() {
@@ -30,15 +35,22 @@ pub fn from_literal(alloc: Global, text: &str) -> Result<Option<Value>, AllocErr
 }
 
 #[cycle(read)]
-fn read_value(alloc: Global, bytes: &[u8]) -> Result<Option<(Value, &[u8])>, AllocError>
+fn read_value(
+    alloc: Global,
+    bytes: &[u8],
+    room: usize,
+) -> Result<Option<(Value, &[u8])>, AllocError>
     ensures shorter { IfOk result (λ o. IsNoLonger bytes.now o) }
-    ensures finds { IfOk result (λ o. FindsValue bytes.now o) }
+    ensures finds { IfOk result (λ o. FindsValue room bytes.now o) }
 {
     let Some((first, rest)) = byte_at_front(bytes) else {
         return Ok(None);
     };
     if first == b'{' {
-        return match read_items(alloc, rest)? {
+        if room == 0 {
+            return Ok(None);
+        }
+        return match read_items(alloc, rest, room - 1)? {
             Some((items, rest)) => Ok(Some((Value::list(items)?, rest))),
             None => Ok(None),
         };
@@ -68,9 +80,13 @@ fn read_value(alloc: Global, bytes: &[u8]) -> Result<Option<(Value, &[u8])>, All
 }
 
 #[cycle(read)]
-fn read_items(alloc: Global, bytes: &[u8]) -> Result<Option<(Vec<Value>, &[u8])>, AllocError>
+fn read_items(
+    alloc: Global,
+    bytes: &[u8],
+    room: usize,
+) -> Result<Option<(Vec<Value>, &[u8])>, AllocError>
     ensures shorter { IfOk result (λ o. IsNoLonger bytes.now o) }
-    ensures finds { IfOk result (λ o. FindsItems bytes.now (option_map (λ p. (p.0.items, p.1)) o)) }
+    ensures finds { IfOk result (λ o. FindsItems room bytes.now (option_map (λ p. (p.0.items, p.1)) o)) }
 {
     let mut items = Vec::new(alloc);
     match byte_at_front(bytes) {
@@ -83,7 +99,7 @@ fn read_items(alloc: Global, bytes: &[u8]) -> Result<Option<(Vec<Value>, &[u8])>
     }
     let mut rest = bytes;
     'all: loop {
-        match read_value(alloc, rest)? {
+        match read_value(alloc, rest, room)? {
             None => return Ok(None),
             Some((item, after)) => {
                 items.push(item)?;

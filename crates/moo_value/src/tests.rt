@@ -2,7 +2,7 @@
 use crate::answer::limited;
 use crate::compare::{equal, order, same};
 use crate::error::MooError;
-use crate::read::from_literal;
+use crate::read::{NESTING_LIMIT, from_literal};
 use crate::text::Text;
 use crate::value::{Shown, Value};
 use crate::write::{to_literal, to_str};
@@ -51,17 +51,38 @@ fn is_answered(alloc: Global) -> Result<bool, AllocError> {
     )
 }
 
-// Whether a text of opening braces alone is no literal.
-fn is_refused(alloc: Global) -> Result<bool, AllocError> {
+// So many opening braces, and so many closing ones.
+fn braces(alloc: Global, opening: usize, closing: usize) -> Result<String, AllocError> {
     let mut text = String::new(alloc);
-    for _ in 0..DEPTH {
+    for _ in 0..opening {
         text.push('{')?;
     }
-    Ok(from_literal(alloc, text.as_str())?.is_none())
+    for _ in 0..closing {
+        text.push('}')?;
+    }
+    Ok(text)
+}
+
+fn is_literal(alloc: Global, text: &str) -> Result<bool, AllocError> {
+    Ok(from_literal(alloc, text)?.is_some())
+}
+
+// Whether lists nest in a literal up to the limit, and no text overflows the stack.
+fn is_bounded(alloc: Global) -> Result<bool, AllocError> {
+    let deepest = braces(alloc, NESTING_LIMIT, NESTING_LIMIT)?;
+    let deeper = braces(alloc, NESTING_LIMIT + 1, NESTING_LIMIT + 1)?;
+    let open = braces(alloc, 10_000_000, 0)?;
+    let deep = braces(alloc, 5_000_000, 5_000_000)?;
+    Ok(
+        is_literal(alloc, deepest.as_str())?
+            && !is_literal(alloc, deeper.as_str())?
+            && !is_literal(alloc, open.as_str())?
+            && !is_literal(alloc, deep.as_str())?,
+    )
 }
 
 fn are_as_wanted(alloc: Global) -> Result<bool, AllocError> {
-    Ok(is_answered(alloc)? && is_refused(alloc)?)
+    Ok(is_answered(alloc)? && is_bounded(alloc)?)
 }
 
 #[test]

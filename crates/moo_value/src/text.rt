@@ -1,6 +1,6 @@
 //! Texts, the strings of the language.
 ghost use Rattle.std.specs.Prelude.{◌≡◌, ◌↔◌, ◌≤◌, ◌++◌, take, drop, IfOk, MatchOption, IsTrue, IsFalse, length, string_bytes};
-ghost use Rattle.moo_spec.specs.Datum.{is_text as is_text_of};
+ghost use Rattle.spec_value.specs.Datum.{is_text as is_text_of};
 
 use std::alloc::{AllocError, Global};
 use std::marker::Model;
@@ -18,7 +18,7 @@ impl Model for Text {
 
     ghost Value = { List ℕ };
 
-    ghost use Rattle.moo_spec.specs.Datum.{is_text};
+    ghost use Rattle.spec_value.specs.Datum.{is_text};
 
     ghost view = { λ a. arc_str_bytes a.bytes };
 

@@ -1,6 +1,6 @@
 //! Values.
 ghost use Rattle.std.specs.Prelude.{◌≡◌, ◌<◌, ◌≤◌, IfOk, IsTrue, min, is_ok, Some, if◌then◌else◌};
-ghost use Rattle.moo_spec.specs.Datum.{Datum, integer, object, text as text_of, error, list, of_list, is_value};
+ghost use Rattle.spec_value.specs.Datum.{Datum, integer, object, text as text_of, error, list, of_list, is_value};
 
 use crate::error::MooError;
 use crate::items;
@@ -28,8 +28,8 @@ enum Node {
 }
 
 impl Model for Value {
-    ghost use Rattle.moo_spec.specs.Datum.{Datum};
-    ghost use Rattle.moo_spec.specs.DatumCode.{datum_code};
+    ghost use Rattle.spec_value.specs.Datum.{Datum};
+    ghost use Rattle.spec_value.specs.DatumCode.{datum_code};
     ghost use Rattle.moo_value.specs.Depth.{depth};
 
     ghost Value = { Datum };
@@ -65,8 +65,8 @@ pub enum Shown<'a> {
 impl Value {
     ghost use Rattle.moo_value.specs.Errors.{code_of};
     ghost use Rattle.moo_value.specs.Shown.{shown_datum};
-    ghost use Rattle.moo_spec.specs.Datum.{is_true as is_true_of};
-    ghost use Rattle.moo_spec.specs.Answer.{count, truth as truth_of};
+    ghost use Rattle.spec_value.specs.Datum.{is_true as is_true_of};
+    ghost use Rattle.spec_value.specs.Answer.{count, truth as truth_of};
 
     /// An integer.
     pub fn integer(number: i32) -> Value
@@ -167,7 +167,7 @@ impl Value {
 }
 
 impl Value {
-    ghost use Rattle.moo_spec.specs.Datum.{weight};
+    ghost use Rattle.spec_value.specs.Datum.{weight};
 
     /// What the value weighs, or the greatest number where that is more. It is not counted anew: a list keeps it.
     pub fn weight(&self) -> usize
@@ -182,7 +182,7 @@ impl Value {
 }
 
 impl Value {
-    ghost use Rattle.moo_spec.specs.Places.{length_of_list, list_item, list_with, list_inserted, list_without, list_appended};
+    ghost use Rattle.spec_value.specs.Places.{length_of_list, list_item, list_with, list_inserted, list_without, list_appended};
 
     /// Puts an item at the end of a list, in place where no other owner shares the list. Another kind of value stays.
     pub fn push(&mut self, item: Value) -> Result<(), AllocError>

@@ -1,18 +1,34 @@
 //! Values as text (Programmer's Manual, `tostr()` and `toliteral()`).
 ghost use Rattle.std.specs.Prelude.{◌≡◌, ◌++◌, ◌<◌, IfOk, OnOk, IsTrue, string_bytes};
-ghost use Rattle.moo_spec.specs.Datum.{of_list, is_text};
-ghost use Rattle.moo_spec.specs.Literal.{literal, data_text, to_text, escape, escaped};
+ghost use Rattle.std.specs.Fmt.{WritesOnOk, signed_decimal};
+ghost use Rattle.spec_value.specs.Datum.{of_list, is_text};
+ghost use Rattle.spec_value.specs.Literal.{literal, data_text, to_text, escape, escaped};
 
 use crate::value::{Shown, Value};
 use std::alloc::{AllocError, Global};
+use std::fmt;
+use std::fmt::Formatter;
+
+/// A value as a program would write it. It is written straight to where it goes, and asks for no memory of its own.
+#[derive(Clone, Copy)]
+pub struct Literal<'a>(pub &'a Value);
+
+impl fmt::Display for Literal<'_> {
+    ghost use Rattle.std.specs.Prelude.{Some};
+    ghost use Rattle.spec_value.specs.Literal.{literal};
+
+    ghost output = { λ l. Some (literal l.0.now) };
+
+    fn fmt<W: fmt::Write>(&self, f: &mut Formatter<W>) -> fmt::Result {
+        write_literal(f, self.0)
+    }
+}
 
 /// The value as a program would write it.
 pub fn to_literal(alloc: Global, value: &Value) -> Result<String, AllocError>
     ensures { IfOk result (λ s. string_bytes s ≡ literal value.now) }
 {
-    let mut text = String::new(alloc);
-    write_literal(&mut text, value)?;
-    Ok(text)
+    Literal(value).to_string(alloc)
 }
 
 /// The value as people would read it: texts as they are, errors by their messages, lists as `{list}`.
@@ -37,60 +53,78 @@ pub fn write_str(out: &mut String, value: &Value) -> Result<(), AllocError>
     }
 }
 
-/// Writes the value as a program would write it, behind what is there.
 #[cycle(literal)]
-pub fn write_literal(out: &mut String, value: &Value) -> Result<(), AllocError>
-    ensures { OnOk result (string_bytes out.new ≡ string_bytes out.old ++ literal value.now) }
+fn write_literal<W: fmt::Write>(f: &mut Formatter<W>, value: &Value) -> fmt::Result
+    ensures { WritesOnOk W.write_str_gives f.old result (literal value.now) f.new }
 {
     value.know();
     match value.shown() {
-        Shown::Integer(number) => write!(out, "{number}"),
-        Shown::Object(number) => write!(out, "#{number}"),
-        Shown::Text(text) => {
-            out.push('"')?;
-            write_escaped(out, text)?;
-            out.push('"')
+        Shown::Integer(number) => write_number(f, number),
+        Shown::Object(number) => {
+            write_mark(f, "#")?;
+            write_number(f, number)
         }
-        Shown::Error(error) => out.push_str(error.name()),
+        Shown::Text(text) => {
+            write_mark(f, "\"")?;
+            write_escaped(f, text)?;
+            write_mark(f, "\"")
+        }
+        Shown::Error(error) => write_mark(f, error.name()),
         Shown::List(items) => {
-            out.push('{')?;
-            write_items(out, items)?;
-            out.push('}')
+            write_mark(f, "{")?;
+            write_items(f, items)?;
+            write_mark(f, "}")
         }
     }
 }
 
 #[cycle(literal)]
-fn write_items(out: &mut String, items: &[Value]) -> Result<(), AllocError>
-    ensures { OnOk result (string_bytes out.new ≡ string_bytes out.old ++ data_text (of_list items.now)) }
+fn write_items<W: fmt::Write>(f: &mut Formatter<W>, items: &[Value]) -> fmt::Result
+    ensures { WritesOnOk W.write_str_gives f.old result (data_text (of_list items.now)) f.new }
 {
     if let Some((first, rest)) = items.split_first() {
-        write_literal(out, first)?;
+        write_literal(f, first)?;
         for item in rest {
-            out.push_str(", ")?;
-            write_literal(out, item)?;
+            write_mark(f, ", ")?;
+            write_literal(f, item)?;
         }
     }
     Ok(())
 }
 
+// A function of its own, as those for numbers and texts are, so that a value that nests deep takes little stack for each level.
+#[inline(never)]
+fn write_mark<W: fmt::Write>(f: &mut Formatter<W>, mark: &str) -> fmt::Result
+    ensures { WritesOnOk W.write_str_gives f.old result mark.now f.new }
+{
+    f.write_str(mark)
+}
+
+#[inline(never)]
+fn write_number<W: fmt::Write>(f: &mut Formatter<W>, number: i32) -> fmt::Result
+    ensures { WritesOnOk W.write_str_gives f.old result (signed_decimal number) f.new }
+{
+    write!(f, "{number}")
+}
+
 // Writes a text with a backslash before each quote and backslash.
-fn write_escaped(out: &mut String, text: &str) -> Result<(), AllocError>
+#[inline(never)]
+fn write_escaped<W: fmt::Write>(f: &mut Formatter<W>, text: &str) -> fmt::Result
     requires { IsTrue (is_text text.now) }
-    ensures { OnOk result (string_bytes out.new ≡ string_bytes out.old ++ escaped text.now) }
+    ensures { WritesOnOk W.write_str_gives f.old result (escaped text.now) f.new }
 {
     for byte in text.as_bytes() {
-        push_escaped(out, *byte)?;
+        write_escaped_byte(f, *byte)?;
     }
     Ok(())
 }
 
-fn push_escaped(out: &mut String, byte: u8) -> Result<(), AllocError>
+fn write_escaped_byte<W: fmt::Write>(f: &mut Formatter<W>, byte: u8) -> fmt::Result
     requires { byte < 128 }
-    ensures { OnOk result (string_bytes out.new ≡ string_bytes out.old ++ escape byte) }
+    ensures { WritesOnOk W.write_str_gives f.old result (escape byte) f.new }
 {
     if byte == b'"' || byte == b'\\' {
-        out.push('\\')?;
+        f.write_str("\\")?;
     }
-    out.push(char::from(byte))
+    f.write_char(char::from(byte))
 }

@@ -11,7 +11,7 @@ use Rattle.std.specs.Prelude.{List, [], ◌∷◌}
 use Rattle.std.proofs.Crossing.{crosses}
 use Rattle.footprint.proofs.Crossing.{reads_send, changes_send}
 use Rattle.task_step.proofs.Crossing.{step_send, step_sync, outcome_send}
-use Rattle.world.proofs.Crossing.{world_send, snapshot_sync}
+use Rattle.world.proofs.Crossing.{count_send, world_send, snapshot_sync}
 use Rattle.speculate.specs.contracts.board.Board as board
 use Rattle.speculate.specs.contracts.guesses.Guess as guess
 use Rattle.speculate.specs.contracts.held.Held as held
@@ -34,7 +34,7 @@ mark_send : IsSend mark.the_row
 mark_send = search (sendable, crosses) depth 60
 
 board_send : IsSend board.the_row
-board_send = search (sendable, crosses, step_send, world_send, outcome_send, mark_send, held_send) depth 60
+board_send = search (sendable, crosses, step_send, world_send, outcome_send, mark_send, held_send, count_send) depth 60
 
 phantom_send : (J : RattleType) → IsSend (PhantomData.the_row J)
 phantom_send J = search (sendable, crosses) depth 60

@@ -1,10 +1,10 @@
 -- Each change keeps a board honest.
-use Rattle.std.proofs.Common.{◌≡◌, ℕ, zero, suc, ◌+◌, ◌≤◌, List, [], ◌∷◌, ◌++◌, length, take, Some, slice_get, slice_set, inl, inr, refl, sym, ap, subst, ◌∙◌, arith, length-append, length-drop}
+use Rattle.std.proofs.Common.{◌≡◌, ℕ, zero, suc, ◌+◌, List, [], ◌∷◌, ◌++◌, length, take, Some, slice_get, slice_set, inl, inr, refl, sym, ap, subst, ◌∙◌, arith, length-append, length-drop}
 use Rattle.std.proofs.lemmas.List.{take_all}
 use Rattle.std.proofs.lemmas.Option.{slice_get_within}
-use Rattle.moo_spec.specs.World.{World}
-use Rattle.moo_spec.specs.Questions.{Agrees}
-use Rattle.moo_spec.specs.Step.{Step, Outcome, RunsOn, AllInRange, play1, play}
+use Rattle.spec_world.specs.World.{World}
+use Rattle.spec_world.specs.Questions.{Agrees}
+use Rattle.spec_task.specs.Step.{Step, Outcome, RunsOn, AllInRange, play1, play}
 use Rattle.world.specs.Counted.{Counted}
 use Rattle.world.specs.Sound.{IsSound}
 use Rattle.speculate.specs.declared.held.Held.{Held}
@@ -15,7 +15,8 @@ use Rattle.speculate.specs.Right.{Guessed, IsRight, after_guess}
 use Rattle.speculate.specs.BoardState.{BoardState, FitsStep, runs, IsHonest, opened_on, with_held}
 use Rattle.speculate.specs.Progress.{Committed, Commits, with_commit, Advances, ready, rest, IsUndone, StaysPut, AdvancesInPart, AllHeld}
 use Rattle.speculate.proofs.Places.{fits_at, fits_set, fits_any, fits_empty, fits_length, ready_more, ready_all}
-use Rattle.speculate.proofs.Plays.{play_more, range_at, play1_sound}
+use Rattle.speculate.proofs.Plays.{play_more, range_at}
+use Rattle.world.proofs.SoundKeeps.{sound_step}
 
 kept_plays : (w : World) (s : Step) (g : Guessed) (w' : Counted) (n : ℕ) (o : Outcome) → IsSound w → g.step ≡ s → IsRight g → Agrees w g.reads
     → w' ≡ record { plain = after_guess g w; opened = n } → o ≡ g.outcome → play1 w s ≡ (w'.plain, o)
@@ -38,10 +39,11 @@ runs_more (Rerun ∷ ms) m = omega (arith, runs_more ms m)
 runs_more (Lost ∷ ms) m = omega (arith, runs_more ms m)
 
 -- and one view was opened for each mark but Kept
-views_more : (w : Counted) (s : Step) (h : Held) (w' : Counted) (o : Outcome) (m : Mark) (ms : List Mark) (n : ℕ) → Committed w s h w' o m → n + runs ms ≤ w.opened → n + runs (ms ++ m ∷ []) ≤ w'.opened
-views_more w s Empty w' o m ms n c h = absurd c
-views_more w s Loss w' o m ms n c h = rw c.1 (omega (arith, runs_more ms Lost, c.0.1))
-views_more w s (Holds g) w' o m ms n c h =
+views_more : (w : Counted) (s : Step) (h : Held) (w' : Counted) (o : Outcome) (m : Mark) (ms : List Mark) (n u : ℕ)
+    → Committed w s h w' o m → w.opened ≡ n + runs ms + u → w'.opened ≡ n + runs (ms ++ m ∷ []) + u
+views_more w s Empty w' o m ms n u c h = absurd c
+views_more w s Loss w' o m ms n u c h = rw c.1 (omega (arith, runs_more ms Lost, c.0.1))
+views_more w s (Holds g) w' o m ms n u c h =
     elim c [
       | inl a ↦ rw a.3 (omega (arith, runs_more ms Kept, ap (λ (x : Counted). x.opened) a.1))
       | inr b ↦ rw b.2 (omega (arith, runs_more ms Rerun, b.1.1))
@@ -63,7 +65,7 @@ commits_keeps b b' honest c =
     let one = committed_plays b.world c.step c.held c.world c.outcome c.mark honest.sound fits c.committed in
     let within = slice_get_within b.steps (length b.outcomes) c.step c.step_is in
     let more : length (b.outcomes ++ c.outcome ∷ []) ≡ suc (length b.outcomes) = omega (arith, length-append b.outcomes (c.outcome ∷ [])) in
-    let after : IsSound (play1 b.world.plain c.step).0 = play1_sound b.world.plain c.step honest.sound (range_at b.steps (length b.outcomes) c.step honest.in_range c.step_is) in
+    let after : IsSound (play1 b.world.plain c.step).0 = sound_step b.world.plain c.step honest.sound (range_at b.steps (length b.outcomes) c.step honest.in_range c.step_is) in
     let next : IsHonest (with_commit b c.world c.outcome c.mark) = record {
       sound = subst IsSound (ap (λ (p : World × Outcome). p.0) one) after;
       numbers = honest.numbers;
@@ -72,7 +74,7 @@ commits_keeps b b' honest c =
       marks = omega (arith, length-append b.marks (c.mark ∷ []), honest.marks);
       played = rw more (next_played b.base.plain b.steps (length b.outcomes) b.world.plain b.outcomes c.step c.world.plain c.outcome honest.played c.step_is one);
       held = fits_any b.steps b.held (length b.outcomes) Empty (λ s. tt) honest.held;
-      views = views_more b.world c.step c.held c.world c.outcome c.mark b.marks b.base.opened c.committed honest.views;
+      views = views_more b.world c.step c.held c.world c.outcome c.mark b.marks b.base.opened b.undone c.committed honest.views;
     } in
     subst IsHonest (sym c.after) next
 
@@ -82,8 +84,8 @@ advances_keep (suc k) b b' honest a = commits_keeps a.0 b' (advances_keep k b a.
 
 -- ---- nothing is committed
 
-pub undone_keeps : (b : BoardState) (w : Counted) → IsHonest b → IsUndone b.world w → IsHonest (record b { world = w })
-undone_keeps b w honest u = record {
+pub undone_keeps : (b : BoardState) (w : Counted) (n : ℕ) → IsHonest b → IsUndone b.world b.undone w n → IsHonest (record b { world = w; undone = n })
+undone_keeps b w n honest u = record {
   sound = subst IsSound (sym u.0) honest.sound;
   numbers = honest.numbers;
   in_range = honest.in_range;
@@ -91,11 +93,11 @@ undone_keeps b w honest u = record {
   marks = honest.marks;
   played = honest.played ∙ ap (λ (p : World). (p, b.outcomes)) (sym u.0);
   held = honest.held;
-  views = elim u.1 [ inl a ↦ omega (arith, a, honest.views) | inr a ↦ omega (arith, a, honest.views) ];
+  views = elim u.1 [ inl a ↦ omega (arith, a.0, a.1, honest.views) | inr a ↦ omega (arith, a.0, a.1, honest.views) ];
 }
 
 pub stays_keep : (b b' : BoardState) → IsHonest b → StaysPut b b' → IsHonest b'
-stays_keep b b' honest s = subst IsHonest (sym s.2) (undone_keeps b s.0 honest s.1)
+stays_keep b b' honest s = subst IsHonest (sym s.3) (undone_keeps b s.0 s.1 honest s.2)
 
 pub part_keeps : (b b' : BoardState) → IsHonest b → AdvancesInPart b b' → IsHonest b'
 part_keeps b b' honest p = stays_keep p.2.0 b' (advances_keep p.0 b p.2.0 honest p.2.1) p.2.2
@@ -144,12 +146,12 @@ opened_honest base ss sound runs range = record {
 -- ---- nothing happened
 
 pub stays_same : (b b' : BoardState) → b' ≡ b → StaysPut b b'
-stays_same b b' e = (b.world, (refl, inl refl), e)
+stays_same b b' e = (b.world, b.undone, (refl, inl (refl, refl)), e)
 
-pub stays_at : (b : BoardState) (w : Counted) (os : List Outcome) (ms : List Mark) (hs : List Held)
-    → IsUndone b.world w → os ≡ b.outcomes → ms ≡ b.marks → hs ≡ b.held
-    → StaysPut b record { base = b.base; steps = b.steps; world = w; outcomes = os; marks = ms; held = hs }
-stays_at b w os ms hs u a c d = (w, u, rw (a, c, d) refl)
+pub stays_at : (b : BoardState) (w : Counted) (n : ℕ) (os : List Outcome) (ms : List Mark) (hs : List Held)
+    → IsUndone b.world b.undone w n → os ≡ b.outcomes → ms ≡ b.marks → hs ≡ b.held
+    → StaysPut b record { base = b.base; steps = b.steps; world = w; outcomes = os; marks = ms; held = hs; undone = n }
+stays_at b w n os ms hs u a c d = (w, n, u, rw (a, c, d) refl)
 
 -- ---- what an advance counts
 
@@ -188,11 +190,11 @@ ended_plays b honest end =
 
 -- ---- the next commit, by its parts
 
-pub commit_at : (b : BoardState) (at : ℕ) (s : Step) (h : Held) (w : Counted) (o : Outcome) (m : Mark) (os : List Outcome) (ms : List Mark) (hs : List Held)
+pub commit_at : (b : BoardState) (at : ℕ) (s : Step) (h : Held) (w : Counted) (o : Outcome) (m : Mark) (os : List Outcome) (ms : List Mark) (hs : List Held) (n : ℕ)
     → at ≡ length b.outcomes → slice_get b.steps at ≡ Some s → slice_get b.held at ≡ Some h → Committed b.world s h w o m
-    → os ≡ b.outcomes ++ o ∷ [] → ms ≡ b.marks ++ m ∷ [] → hs ≡ slice_set b.held at Empty
-    → Commits b record { base = b.base; steps = b.steps; world = w; outcomes = os; marks = ms; held = hs }
-commit_at b at s h w o m os ms hs here s_at h_at done os_is ms_is hs_is = record {
+    → os ≡ b.outcomes ++ o ∷ [] → ms ≡ b.marks ++ m ∷ [] → hs ≡ slice_set b.held at Empty → n ≡ b.undone
+    → Commits b record { base = b.base; steps = b.steps; world = w; outcomes = os; marks = ms; held = hs; undone = n }
+commit_at b at s h w o m os ms hs n here s_at h_at done os_is ms_is hs_is n_is = record {
   step = s;
   held = h;
   world = w;
@@ -201,5 +203,5 @@ commit_at b at s h w o m os ms hs here s_at h_at done os_is ms_is hs_is = record
   step_is = subst (λ (k : ℕ). slice_get b.steps k ≡ Some s) here s_at;
   held_is = subst (λ (k : ℕ). slice_get b.held k ≡ Some h) here h_at;
   committed = done;
-  after = rw (os_is, ms_is, hs_is, here) refl;
+  after = rw (os_is, ms_is, hs_is, n_is, here) refl;
 }

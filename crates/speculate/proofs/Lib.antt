@@ -1,4 +1,3 @@
-pub mod Changed
 pub mod Crossing
 pub mod Honest
 pub mod Places

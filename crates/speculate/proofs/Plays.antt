@@ -1,13 +1,10 @@
 -- Playing one step more.
-use Rattle.std.proofs.Common.{◌≡◌, ℕ, zero, suc, List, [], ◌∷◌, ◌++◌, take, Bool, true, false, IsTrue, if◌then◌else◌, Some, slice_get, refl, ap, subst}
+use Rattle.std.proofs.Common.{◌≡◌, ℕ, zero, suc, List, [], ◌∷◌, ◌++◌, take, IsTrue, Some, slice_get, refl, ap, subst}
 use Rattle.std.specs.List.{list_all}
-use Rattle.moo_spec.specs.World.{World}
-use Rattle.moo_spec.specs.Step.{Step, Outcome, in_range, AllInRange, plain, ended, run_event, numbered, play1, play}
-use Rattle.moo_spec.proofs.Entries.{first_holds, second_holds}
-use Rattle.moo_spec.proofs.StepKeeps.{step_keeps}
+use Rattle.spec_world.specs.World.{World}
+use Rattle.spec_task.specs.Step.{Step, Outcome, in_range, AllInRange, play1, play}
+use Rattle.spec_value.proofs.Entries.{first_holds, second_holds}
 use Rattle.world.specs.Counted.{Counted}
-use Rattle.world.specs.Sound.{IsSimple, IsSound}
-use Rattle.world.proofs.SoundKeeps.{sound_event}
 
 abbrev outcome_first : Outcome → World × List Outcome → World × List Outcome
 outcome_first o p = (p.0, o ∷ p.1)
@@ -27,15 +24,6 @@ range_at [] k s all is = cc
 range_at (x ∷ ss) zero s all is =
     let e : x ≡ s = cc in subst (λ z. IsTrue (in_range z)) e (first_holds (in_range x) (list_all in_range ss) all)
 range_at (x ∷ ss) (suc k) s all is = range_at ss k s (second_holds (in_range x) (list_all in_range ss) all) is
-
--- a step leaves a sound world sound
-pub play1_sound : (w : World) (s : Step) → IsSound w → IsTrue (in_range s) → IsSound (play1 w s).0
-unfolding play1
-play1_sound w s h fits = record { well_formed = step_keeps w s h.well_formed fits; simple = simple w.ending }
-  where
-    simple : (b : Bool) → IsSimple (numbered s.number w.next (if b then (w, plain ended []) else run_event w s.event)).0
-    simple true = record { verbs = h.simple.verbs; slots = h.simple.slots }
-    simple false = let u = sound_event w s.event h in record { verbs = u.simple.verbs; slots = u.simple.slots }
 
 pub play_none : (w : World) (ss : List Step) → play w (take 0 ss) ≡ (w, [])
 unfolding play

@@ -1,11 +1,11 @@
 -- A step run over nothing but its reads.
-use Rattle.std.proofs.Common.{◌≡◌, suc, List, [], max, sym, subst}
-use Rattle.moo_spec.specs.World.{World}
-use Rattle.moo_spec.specs.Questions.{Read, Change}
-use Rattle.moo_spec.specs.Step.{Step, Outcome, play1}
+use Rattle.std.proofs.Common.{◌≡◌, List, [], sym, subst}
+use Rattle.spec_world.specs.World.{World}
+use Rattle.spec_world.specs.Questions.{Read, Change}
+use Rattle.spec_task.specs.Step.{Step, Outcome, play1}
 use Rattle.view.specs.Law.{Goes}
 use Rattle.view.specs.Trace.{Trace, IsStart, world_now}
-use Rattle.task_run.specs.Performed.{performed, StepsTo}
+use Rattle.task_run.specs.Performed.{StepsTo}
 use Rattle.speculate.specs.Right.{IsRight}
 
 abbrev pub nothing_yet : World → Trace
@@ -13,18 +13,17 @@ nothing_yet home = record { home = home; reads = []; changes = [] }
 
 -- it gives a right guess
 pub right_guess : (home : World) (s : Step) (new : Trace) (o : Outcome)
-    → Goes IsStart world_now (nothing_yet home) new (λ before after. StepsTo (performed before s) after o)
+    → Goes IsStart world_now (nothing_yet home) new (λ before after. StepsTo (play1 before s) after o)
     → IsRight record { step = s; reads = new.reads; changes = new.changes; outcome = o }
-unfolding play1
 right_guess home s new o goes w sound agrees =
     let g = goes w (sound, agrees) in
-    λ i. (record (sym g.1.0 i) { next = max (suc s.number) w.next }, g.1.1 i)
+    λ i. (sym g.1.0 i, g.1.1 i)
 
 -- the same by its parts
 pub right_at : (home : World) (s s' : Step) (old new : Trace) (rs : List Read) (cs : List Change) (o : Outcome)
     → old ≡ nothing_yet home → s' ≡ s → rs ≡ new.reads → cs ≡ new.changes
-    → Goes IsStart world_now old new (λ before after. StepsTo (performed before s) after o)
+    → Goes IsStart world_now old new (λ before after. StepsTo (play1 before s) after o)
     → IsRight record { step = s'; reads = rs; changes = cs; outcome = o }
 right_at home s s' old new rs cs o empty same reads changes goes =
-    let G : Trace → Type 0 = λ t. Goes IsStart world_now t new (λ before after. StepsTo (performed before s) after o) in
+    let G : Trace → Type 0 = λ t. Goes IsStart world_now t new (λ before after. StepsTo (play1 before s) after o) in
     rw (same, reads, changes) (right_guess home s new o (subst G empty goes))

@@ -1,6 +1,6 @@
 -- A board as plain data, and when it is honest.
 use Rattle.std.specs.Prelude.{◌≡◌, ℕ, suc, ◌+◌, ◌≤◌, List, [], ◌∷◌, length, take, replicate, Some, slice_get, slice_set}
-use Rattle.moo_spec.specs.Step.{Step, Outcome, RunsOn, AllInRange, play}
+use Rattle.spec_task.specs.Step.{Step, Outcome, RunsOn, AllInRange, play}
 use Rattle.world.specs.Counted.{Counted}
 use Rattle.world.specs.Sound.{IsSound}
 use Rattle.speculate.specs.Right.{IsRight}
@@ -9,8 +9,8 @@ use Rattle.speculate.specs.declared.held.Held.TheVariants.{Empty, Loss, Holds}
 use Rattle.speculate.specs.declared.held.Mark.{Mark}
 use Rattle.speculate.specs.declared.held.Mark.TheVariants.{Kept, Rerun, Lost}
 
--- The world that it began with and its steps; the world, the outcomes and the marks of the steps that are committed; and what
--- each position holds. A world comes with the number of the views that were opened on it to change it.
+-- The world that it began with and its steps; the world, the outcomes and the marks of the steps that are committed; what each
+-- position holds; and how many runs were undone for want of memory. A world comes with the number of the views that were opened on it to change it.
 pub record BoardState : Type 0 where
   pub base : Counted
   pub steps : List Step
@@ -18,6 +18,7 @@ pub record BoardState : Type 0 where
   pub outcomes : List Outcome
   pub marks : List Mark
   pub held : List Held
+  pub undone : ℕ
 
 -- a position holds nothing, a loss, or a right guess for its very step
 abbrev pub FitsStep : Step → Held → Type 0
@@ -38,8 +39,8 @@ runs (Kept ∷ ms) = runs ms
 runs (Rerun ∷ ms) = suc (runs ms)
 runs (Lost ∷ ms) = suc (runs ms)
 
--- What is committed is the play of the base over as many steps, each position holds what fits its step, and a view was opened
--- on the world for each step that was run there; views beyond those were undone for want of memory.
+-- What is committed is the play of the base over as many steps, each position holds what fits its step, and the views that were opened
+-- on the world are one for each step that was run there and one for each run that was undone.
 pub record IsHonest (b : BoardState) : Type 0 where
   pub sound : IsSound b.world.plain
   pub numbers : RunsOn b.base.plain b.steps
@@ -48,11 +49,11 @@ pub record IsHonest (b : BoardState) : Type 0 where
   pub marks : length b.marks ≡ length b.outcomes
   pub played : play b.base.plain (take (length b.outcomes) b.steps) ≡ (b.world.plain, b.outcomes)
   pub held : EachFits b.steps b.held
-  pub views : b.base.opened + runs b.marks ≤ b.world.opened
+  pub views : b.world.opened ≡ b.base.opened + runs b.marks + b.undone
 
 -- a board with nothing committed and nothing held
 abbrev pub opened_on : Counted → List Step → BoardState
-opened_on base steps = record { base = base; steps = steps; world = base; outcomes = []; marks = []; held = replicate (length steps) Empty }
+opened_on base steps = record { base = base; steps = steps; world = base; outcomes = []; marks = []; held = replicate (length steps) Empty; undone = 0 }
 
 -- the position is not committed yet and holds nothing
 abbrev pub IsFree : BoardState → ℕ → Type 0

@@ -1,7 +1,7 @@
 -- How a board goes on.
 use Rattle.std.specs.Prelude.{◌≡◌, ◌≢◌, ℕ, zero, suc, ◌+◌, ◌≤◌, ◌⊎◌, List, [], ◌∷◌, ◌++◌, length, drop, Some, slice_get, slice_set}
-use Rattle.moo_spec.specs.Questions.{Agrees}
-use Rattle.moo_spec.specs.Step.{Step, Outcome, play1}
+use Rattle.spec_world.specs.Questions.{Agrees}
+use Rattle.spec_task.specs.Step.{Step, Outcome, play1}
 use Rattle.world.specs.Counted.{Counted}
 use Rattle.speculate.specs.Right.{after_guess}
 use Rattle.speculate.specs.BoardState.{BoardState}
@@ -58,13 +58,13 @@ rest b = drop (length b.outcomes) b.held
 abbrev pub IsNextHeld : BoardState → Type 0
 IsNextHeld b = (h : Held) × (slice_get b.held (length b.outcomes) ≡ Some h) × (h ≢ Empty)
 
--- nothing happened, but that a run may have been undone
-abbrev pub IsUndone : Counted → Counted → Type 0
-IsUndone w w' = (w'.plain ≡ w.plain) × ((w'.opened ≡ w.opened) ⊎ (w'.opened ≡ w.opened + 1))
+-- nothing happened, but that a run may have been undone: then a view more was opened
+abbrev pub IsUndone : Counted → ℕ → Counted → ℕ → Type 0
+IsUndone w n w' n' = (w'.plain ≡ w.plain) × (((w'.opened ≡ w.opened) × (n' ≡ n)) ⊎ ((w'.opened ≡ w.opened + 1) × (n' ≡ n + 1)))
 
 -- the board as it was, but for a run that may have been undone
 abbrev pub StaysPut : BoardState → BoardState → Type 0
-StaysPut b b' = (w : Counted) × IsUndone b.world w × (b' ≡ record b { world = w })
+StaysPut b b' = (w : Counted) × (n : ℕ) × IsUndone b.world b.undone w n × (b' ≡ record b { world = w; undone = n })
 
 -- a first part of the places that hold something is committed, and then nothing
 abbrev pub AdvancesInPart : BoardState → BoardState → Type 0

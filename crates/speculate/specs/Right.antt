@@ -1,10 +1,10 @@
 -- What a guess says of a step, and when it is right.
-use Rattle.std.specs.Prelude.{◌≡◌, suc, max, List, refl}
+use Rattle.std.specs.Prelude.{◌≡◌, List, refl}
 use Rattle.std.specs.Coded.{Coded, code_by, coded×, coded_list}
-use Rattle.moo_spec.specs.World.{World}
-use Rattle.moo_spec.specs.Questions.{Read, Change, Agrees, apply_all}
-use Rattle.moo_spec.specs.Step.{Step, Outcome, play1}
-use Rattle.moo_spec.specs.StepCode.{step_code, outcome_code}
+use Rattle.spec_world.specs.World.{World}
+use Rattle.spec_world.specs.Questions.{Read, Change, Agrees, apply_all}
+use Rattle.spec_task.specs.Step.{Step, Outcome, play1}
+use Rattle.spec_task.specs.StepCode.{step_code, outcome_code}
 use Rattle.footprint.specs.QuestionCode.{read_code, change_code}
 use Rattle.world.specs.Sound.{IsSound}
 
@@ -15,9 +15,9 @@ pub record Guessed : Type 0 where
   pub changes : List Change
   pub outcome : Outcome
 
--- the world with the changes; its next number is greater than the step's
+-- the world with the changes
 abbrev pub after_guess : Guessed → World → World
-after_guess g w = record (apply_all g.changes w) { next = max (suc g.step.number) w.next }
+after_guess g w = apply_all g.changes w
 
 -- in every sound world that gives the answers that were read, the step does what the guess says
 abbrev pub IsRight : Guessed → Type 0

@@ -1,20 +1,21 @@
 //! The board of a list: one world, and what each position that is not committed yet holds.
 ghost use Rattle.std.specs.Prelude.{◌≡◌, ◌≤◌, ◌<◌, ◌↔◌, ◌⊎◌, ◌≢◌, [], true, false, IsTrue, IsErrOf, IfOk, IfErr, OnOk, OnErr, length, replicate, Some, slice_get};
-ghost use Rattle.moo_spec.specs.Step.{RunsOn, AllInRange};
+ghost use Rattle.spec_task.specs.Step.{RunsOn, AllInRange};
 ghost use Rattle.speculate.specs.BoardState.{IsHonest, IsFree, opened_on, with_held};
 ghost use Rattle.speculate.specs.Progress.{Commits, Advances, AdvancesInPart, IsNextHeld, StaysPut, SameRun, ready, rest, AllHeld};
 
 use crate::commit::commit;
 use crate::guesses::Guess;
 use crate::held::{Held, Mark, put_back, take_out};
-use crate::list::Report;
+use crate::report::Report;
 use std::alloc::{AllocError, Global};
 use std::marker::Model;
 use std::snapshot::Snapshot as Remembered;
-use task_run::partial::Refusal;
 use task_step::list::may_play;
 use task_step::outcome::Outcome;
+use task_step::partial::Refusal;
 use task_step::step::Step;
+use world::count::Count;
 use world::worlds::{Snapshot, World};
 
 /// A list of steps under way. The steps are committed in their order: what is committed is what they do one after another.
@@ -26,6 +27,7 @@ pub struct Board {
     outcomes: Vec<Outcome>,
     marks: Vec<Mark>,
     held: Vec<Held>,
+    undone: Count,
 }
 
 impl Model for Board {
@@ -36,9 +38,25 @@ impl Model for Board {
 
     ghost coded = { board_code };
 
-    ghost view = { λ b. record { base = b.base.value; steps = b.steps.items; world = b.world; outcomes = b.outcomes.items; marks = b.marks.items; held = b.held.items } };
+    ghost view = { λ b. record {
+      base = b.base.value;
+      steps = b.steps.items;
+      world = b.world;
+      outcomes = b.outcomes.items;
+      marks = b.marks.items;
+      held = b.held.items;
+      undone = b.undone;
+    } };
 
-    ghost invariant = { λ b. IsHonest record { base = b.base.value; steps = b.steps.items; world = b.world; outcomes = b.outcomes.items; marks = b.marks.items; held = b.held.items } };
+    ghost invariant = { λ b. IsHonest record {
+      base = b.base.value;
+      steps = b.steps.items;
+      world = b.world;
+      outcomes = b.outcomes.items;
+      marks = b.marks.items;
+      held = b.held.items;
+      undone = b.undone;
+    } };
 }
 
 /// Why a guess or a loss was refused.
@@ -74,6 +92,7 @@ impl Board {
                 outcomes,
                 marks,
                 held,
+                undone: Count::zero(),
             }),
             Err(_) => Err((Refusal::Memory, world)),
         }
@@ -184,7 +203,13 @@ impl Board {
             return Err(AllocError);
         }
         let held = take_out(&mut self.held, at);
-        match commit(alloc, &mut self.world, held, &self.steps[at]) {
+        match commit(
+            alloc,
+            &mut self.world,
+            &mut self.undone,
+            held,
+            &self.steps[at],
+        ) {
             Ok((outcome, mark)) => {
                 self.outcomes.push_reserved(outcome);
                 self.marks.push_reserved(mark);
@@ -276,6 +301,7 @@ impl Board {
             outcomes,
             marks,
             held: _,
+            undone: _,
         } = self;
         Report {
             world,

@@ -1,6 +1,7 @@
 //! The commit of one position.
 ghost use Rattle.std.specs.Prelude.{◌≡◌, ◌≢◌, IsTrue, IfOk, IfErr};
-ghost use Rattle.moo_spec.specs.Step.{in_range};
+ghost use Rattle.spec_world.specs.Questions.{Agrees};
+ghost use Rattle.spec_task.specs.Step.{in_range};
 ghost use Rattle.speculate.specs.BoardState.{FitsStep};
 ghost use Rattle.speculate.specs.Right.{after_guess};
 ghost use Rattle.speculate.specs.Progress.{Ran, Committed, IsUndone};
@@ -11,29 +12,32 @@ use std::alloc::Global;
 use task_run::list::play_step;
 use task_step::outcome::Outcome;
 use task_step::step::Step;
+use world::count::Count;
 use world::worlds::World;
 
-/// Commits a step on the world, as its position says. After want of memory the world is as it was, and what was held is given back.
+/// Commits a step on the world, as its position says. After want of memory the world is as it was, what was held is given back, and a run that was
+/// undone is counted.
 pub(crate) fn commit(
     alloc: Global,
     world: &mut World,
+    undone: &mut Count,
     held: Held,
     step: &Step,
 ) -> Result<(Outcome, Mark), Held>
     requires range { IsTrue (in_range step.now) }
     requires fits { FitsStep step.now held }
     requires some { held ≢ Held.Empty }
-    ensures ok { IfOk result (λ r. Committed world.old step.now held world.new r.0 r.1) }
-    ensures err { IfErr result (λ h. (h ≡ held) × IsUndone world.old world.new) }
+    ensures ok { IfOk result (λ r. Committed world.old step.now held world.new r.0 r.1 × (undone.new ≡ undone.old)) }
+    ensures err { IfErr result (λ h. (h ≡ held) × IsUndone world.old undone.old world.new undone.new) }
 {
     match held {
         Held::Empty => unreachable!(),
-        Held::Loss => run(alloc, world, Held::Loss, step, Mark::Lost),
+        Held::Loss => run(alloc, world, undone, Held::Loss, step, Mark::Lost),
         Held::Holds(guess) => {
             if guess.agrees(world) {
                 keep(world, guess)
             } else {
-                run(alloc, world, Held::Holds(guess), step, Mark::Rerun)
+                run(alloc, world, undone, Held::Holds(guess), step, Mark::Rerun)
             }
         }
     }
@@ -41,7 +45,7 @@ pub(crate) fn commit(
 
 // A guess that agrees is kept.
 fn keep(world: &mut World, guess: Guess) -> Result<(Outcome, Mark), Held>
-    requires { IsTrue (in_range guess.step) }
+    requires { Agrees world.old.plain guess.reads }
     ensures ok { IfOk result (λ r. (world.new ≡ record { plain = after_guess guess world.old.plain; opened = world.old.opened }) × (r.0 ≡ guess.outcome) × (r.1 ≡ Mark.Kept)) }
     ensures err { IfErr result (λ h. (h ≡ Held.Holds guess) × (world.new ≡ world.old)) }
 {
@@ -55,16 +59,20 @@ fn keep(world: &mut World, guess: Guess) -> Result<(Outcome, Mark), Held>
 fn run(
     alloc: Global,
     world: &mut World,
+    undone: &mut Count,
     held: Held,
     step: &Step,
     mark: Mark,
 ) -> Result<(Outcome, Mark), Held>
     requires { IsTrue (in_range step.now) }
-    ensures ok { IfOk result (λ r. Ran world.old step.now world.new r.0 × (r.1 ≡ mark)) }
-    ensures err { IfErr result (λ h. (h ≡ held) × IsUndone world.old world.new) }
+    ensures ok { IfOk result (λ r. Ran world.old step.now world.new r.0 × (r.1 ≡ mark) × (undone.new ≡ undone.old)) }
+    ensures err { IfErr result (λ h. (h ≡ held) × IsUndone world.old undone.old world.new undone.new) }
 {
     match play_step(alloc, world, step) {
         Ok(outcome) => Ok((outcome, mark)),
-        Err(_) => Err(held),
+        Err(_) => {
+            undone.tick();
+            Err(held)
+        }
     }
 }

@@ -1,12 +1,12 @@
 //! The end of a list.
-ghost use Rattle.std.specs.Prelude.{◌≡◌, ◌≤◌, length, take, IfOk, IfErr, OnOk};
-ghost use Rattle.moo_spec.specs.Step.{play};
-ghost use Rattle.speculate.specs.BoardState.{IsHonest};
+ghost use Rattle.std.specs.Prelude.{◌≡◌, ◌≤◌, ◌+◌, length, take, IfOk, IfErr, OnOk};
+ghost use Rattle.spec_task.specs.Step.{play};
+ghost use Rattle.speculate.specs.BoardState.{IsHonest, runs};
 
 use crate::board::Board;
-use crate::list::Report;
+use crate::report::Report;
 use std::alloc::{AllocError, Global};
-use task_run::partial::{Partial, Refusal};
+use task_step::partial::{Partial, Refusal};
 
 /// Commits what the board has left, and takes it apart.
 pub(crate) fn conclude(alloc: Global, mut board: Board) -> Result<Report, Partial>
@@ -14,6 +14,7 @@ pub(crate) fn conclude(alloc: Global, mut board: Board) -> Result<Report, Partia
     ensures count { IfOk result (λ r. (length r.outcomes.items ≡ length board.steps) × (length r.marks.items ≡ length board.steps)) }
     ensures part { IfErr result (λ p. play board.base.plain (take p.count board.steps) ≡ (p.world.plain, p.outcomes.items)) }
     ensures err { IfErr result (λ p. (p.count ≡ length p.outcomes.items) × (p.count ≤ length board.steps) × (p.refusal ≡ Refusal.Memory)) }
+    ensures views { IfOk result (λ r. board.base.opened + runs r.marks.items ≤ r.world.opened) }
 {
     let ended = finish(alloc, &mut board).is_ok();
     let Report {

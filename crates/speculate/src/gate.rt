@@ -1,6 +1,6 @@
 //! The gate through which guesses are made.
-ghost use Rattle.std.specs.Prelude.{IsTrue};
-ghost use Rattle.moo_spec.specs.Step.{in_range};
+ghost use Rattle.std.specs.Prelude.{◌<◌, IsTrue, length};
+ghost use Rattle.spec_task.specs.Step.{AllInRange, in_range};
 
 use crate::guesses::Guess;
 use crate::guessing::guess;
@@ -36,4 +36,18 @@ impl Gate for Free {
     ) -> Result<Guess, AllocError> {
         guess(alloc, snapshot, step)
     }
+}
+
+/// The gate's guess for the step at a position, if it gives one.
+pub(crate) fn guess_at<G: Gate>(
+    alloc: Global,
+    gate: &G,
+    snapshot: &Snapshot,
+    steps: &[Step],
+    at: usize,
+) -> Option<Guess>
+    requires range { AllInRange steps.now }
+    requires at { at < length steps.now }
+{
+    gate.guess(alloc, at, snapshot, &steps[at]).ok()
 }

@@ -1,10 +1,8 @@
 //! Guesses.
 ghost use Rattle.std.specs.Prelude.{◌≡◌, ◌↔◌, IsTrue, IfOk, IfErr};
-ghost use Rattle.moo_spec.specs.Questions.{Agrees};
-ghost use Rattle.moo_spec.specs.Step.{in_range};
+ghost use Rattle.spec_world.specs.Questions.{Agrees};
 ghost use Rattle.speculate.specs.Right.{IsRight, after_guess};
 
-use crate::steps::is_same;
 use footprint::reads::{Changes, Reads};
 use std::marker::Model;
 use task_step::outcome::Outcome;
@@ -44,7 +42,7 @@ impl Guess {
     pub fn is_for(&self, step: &Step) -> bool
         ensures { IsTrue result ↔ self.now.step ≡ step.now }
     {
-        is_same(&self.step, step)
+        self.step.same(step)
     }
 
     /// Whether the world gives the answers that were read.
@@ -55,24 +53,21 @@ impl Guess {
     }
 
     /// The world has the changes, and the guess's outcome is the step's. After want of memory nothing has changed.
-    #[tactic(auto, using(crate::proofs::Changed::sound_changes, crate::proofs::Changed::next_stays))]
-    pub fn keep(self, world: &mut World) -> Result<Outcome, Guess>
-        requires { IsTrue (in_range self.step) }
+    pub(crate) fn keep(self, world: &mut World) -> Result<Outcome, Guess>
+        requires { Agrees world.old.plain self.reads }
         ensures ok { IfOk result (λ o. (world.new ≡ record { plain = after_guess self world.old.plain; opened = world.old.opened }) × (o ≡ self.outcome)) }
         ensures err { IfErr result (λ g. (g ≡ self) × (world.new ≡ world.old)) }
     {
-        world.know();
-        let Ok(draft) = world.prepare(&self.changes) else {
+        let Ok(prepared) = world.prepare(&self.changes) else {
             return Err(self);
         };
         let Guess {
-            step,
+            step: _,
             reads: _,
             changes: _,
             outcome,
         } = self;
-        world.commit(draft);
-        world.raise(u64::from(step.number));
+        world.commit(prepared);
         Ok(outcome)
     }
 }

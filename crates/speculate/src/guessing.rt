@@ -1,11 +1,10 @@
 //! Making a guess.
 ghost use Rattle.std.specs.Prelude.{◌≡◌, IsTrue, IfOk};
-ghost use Rattle.moo_spec.specs.Questions.{Agrees};
-ghost use Rattle.moo_spec.specs.Step.{in_range};
+ghost use Rattle.spec_world.specs.Questions.{Agrees};
+ghost use Rattle.spec_task.specs.Step.{in_range};
 ghost use Rattle.speculate.specs.Right.{IsRight};
 
 use crate::guesses::Guess;
-use crate::steps::again;
 use std::alloc::{AllocError, Global};
 use task_run::step::run_step;
 use task_step::step::Step;
@@ -23,7 +22,7 @@ pub fn guess(alloc: Global, snapshot: &Snapshot, step: &Step) -> Result<Guess, A
     let outcome = run_step(alloc, &mut view, step)?;
     let (reads, changes) = view.finish();
     Ok(Guess {
-        step: again(step)?,
+        step: step.clone()?,
         reads,
         changes,
         outcome,

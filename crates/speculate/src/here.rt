@@ -1,17 +1,16 @@
 //! A list on the caller's thread alone, without a lock and without threads.
-ghost use Rattle.std.specs.Prelude.{◌≡◌, ◌≤◌, ◌<◌, length, take, IfOk, IfErr};
-ghost use Rattle.moo_spec.specs.Step.{AllInRange, play};
+ghost use Rattle.std.specs.Prelude.{◌≡◌, ◌≤◌, ◌+◌, length, take, IfOk, IfErr};
+ghost use Rattle.spec_task.specs.Step.{AllInRange, play};
+ghost use Rattle.speculate.specs.BoardState.{runs};
 
 use crate::board::Board;
 use crate::finish::conclude;
-use crate::gate::Gate;
-use crate::guesses::Guess;
-use crate::list::Report;
+use crate::gate::{Gate, guess_at};
+use crate::report::Report;
 use crate::rounds::end_of_round;
 use std::alloc::Global;
-use task_run::partial::{Partial, Refusal};
+use task_step::partial::{Partial, Refusal};
 use task_step::step::Step;
-use world::worlds::Snapshot;
 
 /// Plays a board to its end in rounds, each with guesses on one snapshot.
 pub(crate) fn play_here<G: Gate>(
@@ -25,6 +24,7 @@ pub(crate) fn play_here<G: Gate>(
     ensures count { IfOk result (λ r. (length r.outcomes.items ≡ length board.steps) × (length r.marks.items ≡ length board.steps)) }
     ensures part { IfErr result (λ p. play board.base.plain (take p.count board.steps) ≡ (p.world.plain, p.outcomes.items)) }
     ensures err { IfErr result (λ p. (p.count ≡ length p.outcomes.items) × (p.count ≤ length board.steps) × (p.refusal ≡ Refusal.Memory)) }
+    ensures views { IfOk result (λ r. board.base.opened + runs r.marks.items ≤ r.world.opened) }
 {
     let mut first = 0;
     'round: while first < steps.len() {
@@ -57,18 +57,4 @@ fn round_here<G: Gate>(
         board.settle(at, guess);
     }
     let _ = board.advance(alloc);
-}
-
-/// The gate's guess for the step at a position, if it gives one.
-pub(crate) fn guess_at<G: Gate>(
-    alloc: Global,
-    gate: &G,
-    snapshot: &Snapshot,
-    steps: &[Step],
-    at: usize,
-) -> Option<Guess>
-    requires range { AllInRange steps.now }
-    requires at { at < length steps.now }
-{
-    gate.guess(alloc, at, snapshot, &steps[at]).ok()
 }

@@ -10,7 +10,6 @@ pub mod guessing;
 pub mod held;
 mod here;
 pub mod list;
+pub mod report;
 mod rounds;
 pub mod shared;
-pub mod stack;
-mod steps;

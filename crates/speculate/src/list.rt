@@ -1,37 +1,25 @@
 //! A list of steps.
-ghost use Rattle.std.specs.Prelude.{◌≡◌, ◌≢◌, ◌≤◌, ◌<◌, ◌↔◌, ◌⊎◌, length, take, IfOk, IfErr, IsOk};
-ghost use Rattle.moo_spec.specs.Step.{RunsOn, AllInRange, play};
+ghost use Rattle.std.specs.Prelude.{◌≡◌, ◌≢◌, ◌≤◌, ◌<◌, ◌↔◌, ◌⊎◌, ◌+◌, length, take, IfOk, IfErr, IsOk};
+ghost use Rattle.spec_task.specs.Step.{RunsOn, AllInRange, play};
+ghost use Rattle.speculate.specs.BoardState.{runs};
 
 use crate::board::Board;
 use crate::gate::Gate;
-use crate::held::Mark;
 use crate::here::play_here;
+use crate::report::Report;
 use crate::rounds::play_in_rounds;
-use crate::steps::all_again;
 use std::alloc::Global;
 use std::marker::Brand;
 use std::sync::Wait;
 use std::thread::Threads;
-use task_run::list::refused;
-use task_run::partial::{Partial, Refusal};
+use task_step::copies::copied;
 use task_step::list::may_play;
-use task_step::outcome::Outcome;
+use task_step::partial::{Partial, Refusal, refused};
 use task_step::step::Step;
 use world::worlds::World;
 
 /// The most workers of a list.
 pub const MOST_WORKERS: usize = 64;
-
-/// What a whole list gave.
-#[derive(Drop)]
-pub struct Report {
-    /// The world after the steps.
-    pub world: World,
-    /// The outcome of each step, in order.
-    pub outcomes: Vec<Outcome>,
-    /// How each step was committed, in order.
-    pub marks: Vec<Mark>,
-}
 
 /// Runs the steps by as many workers, of which the caller is one: what comes is what the steps do one after another. Refused are, in this order,
 /// a number of workers that is not from 1 to 64, and steps whose numbers do not run on from the world's next one or that are out of range;
@@ -48,6 +36,7 @@ pub fn run_list<G: Gate, R: Threads + Wait + Sync>(
     ensures part { IfErr result (λ p. play world.plain (take p.count steps.now) ≡ (p.world.plain, p.outcomes.items)) }
     ensures count { IfOk result (λ r. (length r.outcomes.items ≡ length steps.now) × (length r.marks.items ≡ length steps.now)) }
     ensures err { IfErr result (λ p. (p.count ≡ length p.outcomes.items) × (p.count ≤ length steps.now)) }
+    ensures views { IfOk result (λ r. world.opened + runs r.marks.items ≤ r.world.opened) }
     ensures workers { IfErr result (λ p. (p.refusal ≡ Refusal.Workers) ↔ ((workers ≡ 0) ⊎ (64 < workers))) }
     ensures numbers { IfErr result (λ p. (p.refusal ≡ Refusal.Numbers) ↔ ((0 < workers) × (workers ≤ 64) × ¬ (RunsOn world.plain steps.now × AllInRange steps.now))) }
     ensures untouched { IfErr result (λ p. (p.refusal ≢ Refusal.Memory) → (p.world ≡ world) × (p.count ≡ 0)) }
@@ -59,7 +48,7 @@ pub fn run_list<G: Gate, R: Threads + Wait + Sync>(
     if !may_play(world.next(), steps) {
         return Err(refused(alloc, Refusal::Numbers, world));
     }
-    let Ok(list) = all_again(alloc, steps) else {
+    let Ok(list) = copied(alloc, steps) else {
         return Err(refused(alloc, Refusal::Memory, world));
     };
     let board = match Board::new(alloc, world, list) {

@@ -1,20 +1,20 @@
 //! A list in rounds, with the positions of a round shared out to several workers.
 ghost use Rattle.std.specs.Prelude.{◌≡◌, ◌≤◌, ◌<◌, ◌+◌, length, take, IfOk, IfErr};
-ghost use Rattle.moo_spec.specs.Step.{AllInRange, play};
+ghost use Rattle.spec_task.specs.Step.{AllInRange, play};
+ghost use Rattle.speculate.specs.BoardState.{runs};
 ghost use denote.Param.Send.{IsSend, IsSync};
 
 use crate::board::Board;
 use crate::finish::conclude;
-use crate::gate::Gate;
-use crate::here::guess_at;
-use crate::list::Report;
+use crate::gate::{Gate, guess_at};
+use crate::report::Report;
 use crate::shared::{Run, SharedBoard};
-use crate::stack::STACK_SIZE;
 use std::alloc::Global;
 use std::sync::Wait;
 use std::thread;
 use std::thread::{Builder, Threads};
-use task_run::partial::{Partial, Refusal};
+use task_step::partial::{Partial, Refusal};
+use task_step::stack::STACK_SIZE;
 use task_step::step::Step;
 use world::worlds::Snapshot;
 
@@ -50,6 +50,7 @@ pub(crate) fn play_in_rounds<J: Run, G: Gate, R: Threads + Wait + Sync>(
     ensures count { IfOk result (λ r. (length r.outcomes.items ≡ length board.steps) × (length r.marks.items ≡ length board.steps)) }
     ensures part { IfErr result (λ p. play board.base.plain (take p.count board.steps) ≡ (p.world.plain, p.outcomes.items)) }
     ensures err { IfErr result (λ p. (p.count ≡ length p.outcomes.items) × (p.count ≤ length board.steps) × (p.refusal ≡ Refusal.Memory)) }
+    ensures views { IfOk result (λ r. board.base.opened + runs r.marks.items ≤ r.world.opened) }
 {
     let shared: SharedBoard<J> = SharedBoard::new(board);
     rounds(rt, alloc, gate, &shared, steps, workers);

@@ -1,8 +1,8 @@
 -- The lines of the verbs that called another.
 use Rattle.std.proofs.Common.{◌≡◌, ◌∙◌, sym, ap, ℕ, zero, suc, ◌+◌, ◌<◌, ◌≤◌, ℤ, List, [], ◌∷◌, ◌++◌, length, get_or, drop, refl, arith, add-one, append_assoc, codes}
-use Rattle.moo_spec.specs.Datum.{Text}
-use Rattle.moo_spec.specs.Turn.{Traced}
-use Rattle.moo_spec.specs.Step.{called_from, verb_spelled}
+use Rattle.spec_value.specs.Datum.{Text}
+use Rattle.spec_task.specs.Turn.{Traced}
+use Rattle.spec_task.specs.Step.{called_from, verb_spelled}
 
 -- the line of a verb that called another
 abbrev pub caller_line : ℤ → Traced → ℤ × Text

@@ -1,14 +1,14 @@
 -- The rules of a step and of a line, answer by answer.
 use Rattle.std.proofs.Common.{◌≡◌, ℤ, ◌<◌, Bool, true, false, List, [], ◌∷◌, length, Option, Some, None, option_map, Result, IfOk, ap, sym, ◌∙◌, refl, arith, IsTrue, codes, if◌then◌else◌, ◌&&◌, ◌==◌, nat_le, nat_lt}
 use Rattle.std.specs.List.{list_all}
-use Rattle.moo_spec.specs.Datum.{Text}
-use Rattle.moo_spec.specs.World.{World, Object, Verb, object_at}
-use Rattle.moo_spec.specs.Questions.{Header, header, header_at, verbs_at}
-use Rattle.moo_spec.specs.Commands.{unspaced, verb_named}
-use Rattle.moo_spec.specs.Step.{Step, Outcome, plain, none, ended, in_range, event_in_range, run_event, run_person, run_word, run_verb, verbs_of}
-use Rattle.moo_spec.proofs.Entries.{second_holds}
+use Rattle.spec_value.specs.Datum.{Text}
+use Rattle.spec_world.specs.World.{World, Header, Object, Verb, object_at}
+use Rattle.spec_world.specs.Questions.{header_at, verbs_at}
+use Rattle.spec_task.specs.Commands.{unspaced, verb_named}
+use Rattle.spec_task.specs.Step.{Step, Event, Outcome, performed, plain, none, ended, in_range, event_in_range, run_event, run_person, run_word, run_verb, verbs_of}
+use Rattle.spec_value.proofs.Entries.{second_holds}
 use Rattle.view.specs.Law.{Goes}
-use Rattle.task_run.specs.Performed.{performed, StepsTo}
+use Rattle.task_run.specs.Performed.{StepsTo}
 use Rattle.task_run.proofs.Stepping.{went_on}
 
 -- ---- a step
@@ -20,24 +20,24 @@ event_fits s h =
     (nat_le 1 s.number && nat_le s.number 33554431 && nat_le s.moment 2147483647 && (length s.key == 32) && list_all (λ b. nat_lt b 256) s.key)
     (event_in_range s.event) h
 
-abbrev at_ending : World → Step → Bool → World × Outcome
-at_ending w s b = if b then (w, plain ended []) else run_event w s.event
+abbrev at_ending : World → Event → Bool → World × Outcome
+at_ending w x b = if b then (w, plain ended []) else run_event w x
 
-pub step_of_ending : (w : World) (s : Step) → w.ending ≡ true → performed w s ≡ (w, plain ended [])
-step_of_ending w s e = ap (at_ending w s) e
+pub step_of_ending : (w : World) (x : Event) → w.ending ≡ true → performed w x ≡ (w, plain ended [])
+step_of_ending w x e = ap (at_ending w x) e
 
-pub step_of_event : (w : World) (s : Step) → w.ending ≡ false → performed w s ≡ run_event w s.event
-step_of_event w s e = ap (at_ending w s) e
+pub step_of_event : (w : World) (x : Event) → w.ending ≡ false → performed w x ≡ run_event w x
+step_of_event w x e = ap (at_ending w x) e
 
 -- ---- a person, whose header alone counts
 
-pub no_person : (w : World) (c who : ℤ) (t : Text) (x : Option Object) → option_map header x ≡ None → run_person w c who t x ≡ (w, plain none [])
+pub no_person : (w : World) (c who : ℤ) (t : Text) (x : Option Object) → option_map (λ y. y.header) x ≡ None → run_person w c who t x ≡ (w, plain none [])
 no_person w c who t None e = refl
 no_person w c who t (Some x) e = absurd (cc)
 
-pub person_there : (w : World) (c who : ℤ) (t : Text) (x : Option Object) (h : Header) → option_map header x ≡ Some h → run_person w c who t x ≡ run_word w c who h.location (unspaced t)
+pub person_there : (w : World) (c who : ℤ) (t : Text) (x : Option Object) (h : Header) → option_map (λ y. y.header) x ≡ Some h → run_person w c who t x ≡ run_word w c who h.location (unspaced t)
 person_there w c who t None h e = absurd (cc)
-person_there w c who t (Some x) h e = let same : header x ≡ h = cc in ap (λ (k : Header). run_word w c who k.location (unspaced t)) same
+person_there w c who t (Some x) h e = let same : x.header ≡ h = cc in ap (λ (k : Header). run_word w c who k.location (unspaced t)) same
 
 -- ---- a word
 

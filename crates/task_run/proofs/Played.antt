@@ -1,9 +1,9 @@
 -- A task that stopped, as a step.
 use Rattle.std.proofs.Common.{◌≡◌, ◌∙◌, sym, ap, ℕ, ℤ, ◌-◌, ◌≤◌, Result, Ok, Err, IfOk, arith}
-use Rattle.moo_spec.specs.World.{World}
-use Rattle.moo_spec.specs.Turn.{Pending}
-use Rattle.moo_spec.specs.Segment.{Stop, Ended, segment, stopped}
-use Rattle.moo_spec.specs.Step.{Outcome, after_segment}
+use Rattle.spec_world.specs.World.{World}
+use Rattle.spec_task.specs.Turn.{Pending}
+use Rattle.spec_task.specs.Segment.{Stop, Ended, segment, stopped}
+use Rattle.spec_task.specs.Step.{Outcome, after_segment}
 use Rattle.machine.specs.declared.task.Run.{Run}
 use Rattle.view.specs.Law.{Goes}
 use Rattle.task_run.specs.Performed.{StepsTo}

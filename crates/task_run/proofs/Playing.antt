@@ -1,22 +1,14 @@
 -- A step on a world, and steps one after another.
-use Rattle.std.proofs.Common.{◌≡◌, ℕ, suc, ◌+◌, ◌<◌, ◌≤◌, List, [], ◌∷◌, ◌++◌, length, get_or, take, sym, ap, ◌∙◌, arith, add-one}
-use Rattle.std.specs.Prelude.{max}
+use Rattle.std.proofs.Common.{◌≡◌, ℕ, ◌+◌, ◌<◌, ◌≤◌, List, [], ◌∷◌, ◌++◌, length, get_or, take, sym, ap, ◌∙◌, arith, add-one}
 use Rattle.std.proofs.Math.Seq.{take-suc, take-length}
-use Rattle.moo_spec.specs.World.{World}
-use Rattle.moo_spec.specs.Step.{Step, Outcome, play1, play}
-use Rattle.moo_spec.proofs.Steps.{play_goes_on}
-use Rattle.task_run.specs.Performed.{performed, StepsTo}
-use Rattle.task_run.proofs.SoundSteps.{next_performed}
+use Rattle.spec_world.specs.World.{World}
+use Rattle.spec_task.specs.Step.{Step, Outcome, play1, play}
+use Rattle.spec_task.proofs.Steps.{play_goes_on}
+use Rattle.task_run.specs.Performed.{StepsTo}
 
--- a step is what it does, and then its number
-pub played_once : (w u v : World) (s : Step) (n : ℕ) (o : Outcome)
-    → StepsTo (performed w s) u o → v ≡ record u { next = max (n + 1) u.next } → n ≡ s.number → play1 w s ≡ (v, o)
-unfolding play1
-played_once w u v s n o h raised same =
-    let performs : play1 w s ≡ (record u { next = max (suc s.number) w.next }, o) = λ i. (record (sym h.0 i) { next = max (suc s.number) w.next }, h.1 i) in
-    let stays : u.next ≡ w.next = ap (λ (x : World). x.next) h.0 ∙ next_performed w s in
-    let number : max (n + 1) u.next ≡ max (suc s.number) w.next = omega arith in
-    performs ∙ ap (λ (x : World). (x, o)) (ap (λ m. record u { next = m }) (sym number) ∙ sym raised)
+-- what a step left and gave is what it plays
+pub is_played : (p : World × Outcome) (v : World) (o : Outcome) → StepsTo p v o → p ≡ (v, o)
+is_played p v o h = λ i. (sym h.0 i, h.1 i)
 
 -- one step more
 pub played_more : (w u v : World) (ss : List Step) (i : ℕ) (d : Step) (os : List Outcome) (o : Outcome)

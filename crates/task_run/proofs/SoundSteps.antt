@@ -1,34 +1,23 @@
--- A step leaves a sound world sound, but for its next number as it was.
-use Rattle.std.proofs.Common.{◌≡◌, Bool, true, false, [], Result, Ok, Err, refl, sym, subst, IfOk, OnOk, if◌then◌else◌}
-use Rattle.moo_spec.specs.World.{World}
-use Rattle.moo_spec.specs.Step.{Step, Outcome, plain, ended, run_event}
+-- A step leaves a sound world sound.
+use Rattle.std.proofs.Common.{◌≡◌, Result, Ok, Err, sym, subst, IfOk, OnOk}
+use Rattle.spec_world.specs.World.{World}
+use Rattle.spec_world.specs.Questions.{Change, apply}
+use Rattle.spec_task.specs.Step.{Event, Outcome, performed}
 use Rattle.world.specs.Sound.{IsSound}
-use Rattle.world.proofs.SoundKeeps.{sound_event, next_stays}
+use Rattle.world.proofs.SoundKeeps.{sound_applied, sound_performed}
 use Rattle.view.specs.Law.{Goes, AreSound}
-use Rattle.task_run.specs.Performed.{performed, StepsTo}
+use Rattle.task_run.specs.Performed.{StepsTo}
 
-abbrev choice : World → Step → Bool → World × Outcome
-choice w s b = if b then (w, plain ended []) else run_event w s.event
+pub sound_after_step : {V E : Type 0} (holds : V → World → Type 0) (now : V → World → World) (old new : V) (x : Event) (r : Result Outcome E)
+    → AreSound holds now old → IfOk r (λ o. Goes holds now old new (λ before after. StepsTo (performed before x) after o)) → OnOk r (AreSound holds now new)
+sound_after_step holds now old new x (Err e) sound stepped = stepped
+sound_after_step holds now old new x (Ok o) sound stepped = λ w h.
+    let k = stepped w h in subst IsSound (sym k.1.0) (sound_performed (now old w) x (sound w k.0))
 
-pub sound_performed : (w : World) (s : Step) → IsSound w → IsSound (performed w s).0
-sound_performed w s h = go w.ending
-  where
-    go : (b : Bool) → IsSound (choice w s b).0
-    go true = h
-    go false = sound_event w s.event h
-
-pub next_performed : (w : World) (s : Step) → ((performed w s).0).next ≡ w.next
-next_performed w s = go w.ending
-  where
-    go : (b : Bool) → ((choice w s b).0).next ≡ w.next
-    go true = refl
-    go false = next_stays w s.event
-
-pub sound_after_step : {V E : Type 0} (holds : V → World → Type 0) (now : V → World → World) (old new : V) (s : Step) (r : Result Outcome E)
-    → AreSound holds now old → IfOk r (λ o. Goes holds now old new (λ before after. StepsTo (performed before s) after o)) → OnOk r (AreSound holds now new)
-sound_after_step holds now old new s (Err e) sound stepped = stepped
-sound_after_step holds now old new s (Ok o) sound stepped = λ w h.
-    let k = stepped w h in subst IsSound (sym k.1.0) (sound_performed (now old w) s (sound w k.0))
+-- what only changes leaves the worlds sound
+pub sound_after_change : {V : Type 0} (holds : V → World → Type 0) (now : V → World → World) (old new : V) (c : Change)
+    → AreSound holds now old → Goes holds now old new (λ before after. after ≡ apply c before) → AreSound holds now new
+sound_after_change holds now old new c sound changed = λ w h. let k = changed w h in subst IsSound (sym k.1) (sound_applied c (now old w) (sound w k.0))
 
 -- what only reads leaves the worlds sound
 pub sound_after_read : {V : Type 0} (holds : V → World → Type 0) (now : V → World → World) (old new : V)

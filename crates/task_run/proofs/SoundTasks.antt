@@ -1,8 +1,8 @@
 -- A task leaves a sound world sound.
 use Rattle.std.proofs.Common.{◌≡◌, ℕ, ap, subst}
-use Rattle.moo_spec.specs.World.{World}
-use Rattle.moo_spec.specs.Turn.{Pending}
-use Rattle.moo_spec.specs.Segment.{Stop, Ended, segment, stopped}
+use Rattle.spec_world.specs.World.{World}
+use Rattle.spec_task.specs.Turn.{Pending}
+use Rattle.spec_task.specs.Segment.{Stop, Ended, segment, stopped}
 use Rattle.world.specs.Sound.{IsSound}
 use Rattle.world.proofs.SoundKeeps.{sound_segment}
 use Rattle.view.specs.Law.{Goes, AreSound}

@@ -1,9 +1,9 @@
 -- Verbs by their names.
 use Rattle.std.proofs.Common.{◌≡◌, ◌↔◌, ℕ, zero, suc, ◌+◌, ◌<◌, ◌≤◌, Bool, true, false, IsTrue, List, [], ◌∷◌, length, get_or, drop, Some, None, refl, arith, add-one}
-use Rattle.moo_spec.specs.Datum.{Text, fold_case, same_text}
-use Rattle.moo_spec.specs.World.{Verb}
-use Rattle.moo_spec.specs.Commands.{verb_named}
-use Rattle.moo_spec.proofs.Same.{same_texts, text_itself}
+use Rattle.spec_value.specs.Datum.{Text, fold_case, same_text}
+use Rattle.spec_world.specs.World.{Verb}
+use Rattle.spec_task.specs.Commands.{verb_named}
+use Rattle.spec_value.proofs.Same.{same_texts, text_itself}
 
 -- a test that decides whether two texts are equal is `same_text`
 pub same_text_is : (b : Bool) (s t : Text) → (IsTrue b ↔ s ≡ t) → b ≡ same_text s t

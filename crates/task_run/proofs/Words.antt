@@ -1,8 +1,8 @@
 -- The spaces at the front of a line.
 use Rattle.std.proofs.Common.{◌≡◌, ℕ, zero, suc, ◌<◌, IsTrue, List, [], ◌∷◌, length, get_or, refl, arith}
 use Rattle.std.proofs.lemmas.Bool.Decides.{nat_tests}
-use Rattle.moo_spec.specs.Datum.{is_text}
-use Rattle.moo_spec.specs.Commands.{unspaced}
+use Rattle.spec_value.specs.Datum.{is_text}
+use Rattle.spec_task.specs.Commands.{unspaced}
 
 pub unspaced_space : (c : ℕ) (t : List ℕ) → c ≡ 32 → unspaced (c ∷ t) ≡ unspaced t
 unfolding unspaced

@@ -1,8 +1,8 @@
 -- For which task a run stands, and the outcome of a task that stopped.
 use Rattle.std.specs.Prelude.{◌≡◌, ℕ, ℤ}
-use Rattle.moo_spec.specs.Turn.{Pending}
-use Rattle.moo_spec.specs.Segment.{Stop}
-use Rattle.moo_spec.specs.Step.{Outcome, plain, stop_result, stop_lines}
+use Rattle.spec_task.specs.Turn.{Pending}
+use Rattle.spec_task.specs.Segment.{Stop}
+use Rattle.spec_task.specs.Step.{Outcome, plain, stop_result, stop_lines}
 use Rattle.machine.specs.declared.task.Run.{Run}
 use Rattle.machine.specs.Stands.{Verb, Standing, StandsFor, pending}
 

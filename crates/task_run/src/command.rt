@@ -1,9 +1,9 @@
 //! A command.
 ghost use Rattle.std.specs.Prelude.{◌≡◌, pos, IfOk, OnOk, Some};
-ghost use Rattle.moo_spec.specs.Turn.{Pending};
-ghost use Rattle.moo_spec.specs.Segment.{segment, raised as raised_by};
-ghost use Rattle.moo_spec.specs.Commands.{command as command_of, one_word as one_word_start};
-ghost use Rattle.moo_spec.specs.Step.{run_verb as verb_run, after_segment, plain, stop_result, stop_lines};
+ghost use Rattle.spec_task.specs.Turn.{Pending};
+ghost use Rattle.spec_task.specs.Segment.{segment, raised as raised_by};
+ghost use Rattle.spec_task.specs.Commands.{command as command_of, one_word as one_word_start};
+ghost use Rattle.spec_task.specs.Step.{run_verb as verb_run, after_segment, plain, stop_result, stop_lines};
 ghost use Rattle.machine.specs.Stands.{stop_meant, failure_meant};
 ghost use Rattle.view.specs.Law.{Goes, AreSound};
 ghost use Rattle.task_run.specs.Performed.{StepsTo};

@@ -1,6 +1,6 @@
 //! Outcomes of steps that run no task.
 ghost use Rattle.std.specs.Prelude.{◌≡◌, ◌∷◌, [], pos, IfOk, codes};
-ghost use Rattle.moo_spec.specs.Step.{plain, none};
+ghost use Rattle.spec_task.specs.Step.{plain, none};
 ghost use Rattle.task_step.specs.OutcomeView.{result_of, lines_of};
 
 use crate::told::{NOT_UNDERSTOOD, line};

@@ -4,7 +4,6 @@
 mod command;
 mod ending;
 pub mod list;
-pub mod partial;
 pub mod step;
 pub mod told;
 mod verb;

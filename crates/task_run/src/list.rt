@@ -1,13 +1,12 @@
 //! Lists of steps on one thread.
-ghost use Rattle.std.specs.Prelude.{◌≡◌, ◌≢◌, ◌≤◌, ◌+◌, ◌↔◌, length, take, IsTrue, IsOk, IfOk, IfErr, OnErr, []};
-ghost use Rattle.moo_spec.specs.Step.{play1, play, RunsOn, AllInRange, in_range};
-ghost use Rattle.task_run.specs.Performed.{performed, StepsTo};
+ghost use Rattle.std.specs.Prelude.{◌≡◌, ◌≢◌, ◌≤◌, ◌+◌, ◌↔◌, length, take, IsTrue, IsOk, IfOk, IfErr, OnErr};
+ghost use Rattle.spec_task.specs.Step.{play1, play, RunsOn, AllInRange, in_range};
 
-use crate::partial::{Partial, Refusal};
 use crate::step::run_step;
 use std::alloc::{AllocError, Global};
 use task_step::list::may_play;
 use task_step::outcome::Outcome;
+use task_step::partial::{Partial, Refusal, refused};
 use task_step::step::Step;
 use view::live::Live;
 use world::worlds::World;
@@ -56,33 +55,9 @@ pub fn play_step(alloc: Global, world: &mut World, step: &Step) -> Result<Outcom
     ensures err { OnErr result (world.new.plain ≡ world.old.plain) }
     ensures opened { world.new.opened ≡ world.old.opened + 1 }
 {
-    let outcome = perform(alloc, world, step)?;
-    world.raise(u64::from(step.number));
-    Ok(outcome)
-}
-
-// What a step does but for the world's next number. After an error the world is as it was.
-fn perform(alloc: Global, world: &mut World, step: &Step) -> Result<Outcome, AllocError>
-    requires { IsTrue (in_range step.now) }
-    ensures ok { IfOk result (λ o. StepsTo (performed world.old.plain step.now) world.new.plain o) }
-    ensures err { OnErr result (world.new.plain ≡ world.old.plain) }
-    ensures opened { world.new.opened ≡ world.old.opened + 1 }
-{
     world.know();
     let mut live = Live::open(world);
     let outcome = run_step(alloc, &mut live, step)?;
     live.keep();
     Ok(outcome)
-}
-
-/// Nothing was run.
-pub fn refused(alloc: Global, refusal: Refusal, world: World) -> Partial
-    ensures { (result.refusal ≡ refusal) × (result.world ≡ world) × (result.outcomes.items ≡ []) × (result.count ≡ 0) }
-{
-    Partial {
-        refusal,
-        world,
-        outcomes: Vec::new(alloc),
-        count: 0,
-    }
 }

@@ -1,11 +1,11 @@
 //! One step over a view of a world.
 ghost use Rattle.std.specs.Prelude.{◌≡◌, ◌<◌, ◌^◌, pos, IfOk, OnOk, IsTrue, Some, option_map, length};
-ghost use Rattle.moo_spec.specs.World.{object_at};
-ghost use Rattle.moo_spec.specs.Table.{at};
-ghost use Rattle.moo_spec.specs.Step.{in_range, event_in_range, run_event as event_run, run_line as line_run, run_person as person_run, run_word as word_run, run_verb as verb_run};
+ghost use Rattle.spec_world.specs.World.{object_at};
+ghost use Rattle.spec_value.specs.Table.{at};
+ghost use Rattle.spec_task.specs.Step.{in_range, event_in_range, play1, performed, run_event as event_run, run_line as line_run, run_person as person_run, run_word as word_run, run_verb as verb_run};
 ghost use Rattle.task_step.specs.StepView.{event_of};
 ghost use Rattle.view.specs.Law.{Goes, AreSound};
-ghost use Rattle.task_run.specs.Performed.{performed, StepsTo};
+ghost use Rattle.task_run.specs.Performed.{StepsTo};
 
 use crate::command::run_verb;
 use crate::ending::{not_understood, nothing, without_task};
@@ -17,10 +17,9 @@ use std::alloc::{AllocError, Global};
 use task_step::outcome::{Ending, Outcome};
 use task_step::step::{Event, Step};
 use view::law::View;
-use view::readers::{read_ending, read_header, read_link, read_verbs};
+use view::readers::{raise_next, read_ending, read_header, read_link, read_verbs};
 
-/// Runs a step over the view. After an error the view is to be undone or dropped. That the world's next number is one more than the step's is
-/// left to the caller, as the view has no such number.
+/// Runs a step over the view. After an error the view is to be undone or dropped.
 pub fn run_step<V: View>(alloc: Global, view: &mut V, step: &Step) -> Result<Outcome, AllocError>
     requires range { IsTrue (in_range step.now) }
     requires home { V.holds view.old (V.home view.old) }
@@ -30,12 +29,28 @@ pub fn run_step<V: View>(alloc: Global, view: &mut V, step: &Step) -> Result<Out
     ensures stays { OnOk result (V.holds view.new (V.home view.new)) }
     ensures sound { OnOk result (AreSound V.holds V.now view.new) }
     ensures played { IfOk result (λ o. Goes V.holds V.now view.old view.new
-        (λ before after. StepsTo (performed before step.now) after o)) }
+        (λ before after. StepsTo (play1 before step.now) after o)) }
+{
+    let _raised = raise_next(view, u64::from(step.number) + 1)?;
+    perform(alloc, view, &step.event)
+}
+
+// What happens in a step, unless the server is about to end.
+fn perform<V: View>(alloc: Global, view: &mut V, event: &Event) -> Result<Outcome, AllocError>
+    requires range { IsTrue (event_in_range (event_of event.now)) }
+    requires home { V.holds view.old (V.home view.old) }
+    requires sound { AreSound V.holds V.now view.old }
+    ensures anchor { V.anchor view.new ≡ V.anchor view.old }
+    ensures home { V.home view.new ≡ V.home view.old }
+    ensures stays { OnOk result (V.holds view.new (V.home view.new)) }
+    ensures sound { OnOk result (AreSound V.holds V.now view.new) }
+    ensures played { IfOk result (λ o. Goes V.holds V.now view.old view.new
+        (λ before after. StepsTo (performed before (event_of event.now)) after o)) }
 {
     if read_ending(view)? {
         return without_task(alloc, Ending::Ended);
     }
-    run_event(alloc, view, &step.event)
+    run_event(alloc, view, event)
 }
 
 // What happens in a step.

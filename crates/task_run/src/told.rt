@@ -1,7 +1,7 @@
 //! What a task's end tells its player.
 ghost use Rattle.std.specs.Prelude.{◌≡◌, ◌∷◌, ◌++◌, [], pos, IfOk, OnOk, codes, string_bytes};
-ghost use Rattle.moo_spec.specs.Step.{called_from, told as told_of, verb_spelled};
-ghost use Rattle.moo_spec.specs.Turn.{Traced as Meant};
+ghost use Rattle.spec_task.specs.Step.{called_from, told as told_of, verb_spelled};
+ghost use Rattle.spec_task.specs.Turn.{Traced as Meant};
 ghost use Rattle.task_step.specs.OutcomeView.{lines_of};
 
 use machine::stop::Traced;

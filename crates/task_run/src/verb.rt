@@ -1,7 +1,7 @@
 //! The verb that a word names.
 ghost use Rattle.std.specs.Prelude.{◌≡◌, option_map};
-ghost use Rattle.moo_spec.specs.Datum.{same_text, fold_case};
-ghost use Rattle.moo_spec.specs.Commands.{verb_named};
+ghost use Rattle.spec_value.specs.Datum.{same_text, fold_case};
+ghost use Rattle.spec_task.specs.Commands.{verb_named};
 
 use footprint::verb::Verb;
 use moo_value::text::Text;

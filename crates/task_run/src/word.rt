@@ -1,7 +1,7 @@
 //! The word of a command line.
 ghost use Rattle.std.specs.Prelude.{◌≡◌, ◌<◌, ◌++◌, ◌∷◌, [], IfOk, OnOk, IsTrue, string_bytes};
-ghost use Rattle.moo_spec.specs.Datum.{is_text};
-ghost use Rattle.moo_spec.specs.Commands.{unspaced};
+ghost use Rattle.spec_value.specs.Datum.{is_text};
+ghost use Rattle.spec_task.specs.Commands.{unspaced};
 
 use moo_value::text::Text;
 use std::alloc::{AllocError, Global};

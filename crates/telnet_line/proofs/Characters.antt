@@ -5,9 +5,9 @@ use Rattle.std.specs.List.{list_all}
 use Rattle.std.proofs.Math.Seq.{take-suc}
 use Rattle.std.proofs.lemmas.Bool.{cond-false, ltb-true, ltb-false}
 use Rattle.std.proofs.lemmas.Bool.Decides.{nat_tests}
-use Rattle.moo_spec.specs.Datum.{is_character}
-use Rattle.moo_spec.specs.Telnet.{max_line, Data, with_data}
-use Rattle.moo_spec.specs.TelnetReading.{Nothing, Reading}
+use Rattle.spec_value.specs.Datum.{is_character}
+use Rattle.telnet_line.specs.Telnet.{max_line, Data, with_data}
+use Rattle.telnet_line.specs.TelnetReading.{Nothing, Reading}
 use Rattle.telnet_line.specs.TelnetSteps.{Step, takes, step_data, reading_after, events_after, with_all}
 use Rattle.telnet_line.specs.declared.draft.Draft.{Draft}
 use Rattle.telnet_line.specs.Events.{events_given}

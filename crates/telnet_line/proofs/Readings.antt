@@ -2,9 +2,9 @@
 use Rattle.std.proofs.Common.{◌≡◌, ℕ, Bool, true, false, cond, List, [], ◌∷◌, ◌++◌, refl, sym, ap, ◌∙◌, subst, append_assoc, append-nil}
 use Rattle.std.specs.Prelude.{◌==◌, nat_lt}
 use Rattle.std.specs.List.{AllByRecursion}
-use Rattle.moo_spec.specs.Telnet.{NUL, LF, CR, SE, SB, WILL, WONT, DO, DONT, IAC, StreamUnit, Data, Command, Negotiation, Event, Spells, IsText, IsEvent, line_after, brought, line_of, events_of}
-use Rattle.moo_spec.specs.TelnetReading as reading
-use Rattle.moo_spec.specs.TelnetReading.{Begun, HasBegun, Reading, HasRead}
+use Rattle.telnet_line.specs.Telnet.{NUL, LF, CR, SE, SB, WILL, WONT, DO, DONT, IAC, StreamUnit, Data, Command, Negotiation, Event, Spells, IsText, IsEvent, line_after, brought, line_of, events_of}
+use Rattle.telnet_line.specs.TelnetReading as reading
+use Rattle.telnet_line.specs.TelnetReading.{Begun, HasBegun, Reading, HasRead}
 use Rattle.telnet_line.specs.TelnetSteps.{fresh, Step, takes, step_data, step_return, step_iac, step_by, step, reading_after, events_after}
 use Rattle.telnet_line.proofs.Cutter.{Cutter, Nothing, Return, Iac, Negotiating, Parameters, Parameters_iac, bytes_of, Fits, Cut, whole, cut_data, cut_return, cut_iac, cut_byte, run, cut_is, left_fits}
 use Rattle.telnet_line.proofs.Texts.{texts}

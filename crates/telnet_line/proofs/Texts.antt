@@ -5,8 +5,8 @@ use Rattle.std.specs.List.{list_all, AllByRecursion}
 use Rattle.std.specs.Str.{IsAscii}
 use Rattle.std.proofs.lemmas.Bool.{cond_both, ltb-true}
 use Rattle.std.proofs.lemmas.Bool.Decides.{nat_tests}
-use Rattle.moo_spec.specs.Datum.{is_character}
-use Rattle.moo_spec.specs.Telnet.{AYT, EC, EL, Will, Wont, Do, Dont, StreamUnit, Data, Data_iac, Line_feed, Return_line_feed, Command, Negotiation, Event, Reply, max_line, IsText, IsEvent, with_data, line_after, yes, brought, line_of, events_of}
+use Rattle.spec_value.specs.Datum.{is_character}
+use Rattle.telnet_line.specs.Telnet.{AYT, EC, EL, Will, Wont, Do, Dont, StreamUnit, Data, Data_iac, Line_feed, Return_line_feed, Command, Negotiation, Event, Reply, max_line, IsText, IsEvent, with_data, line_after, yes, brought, line_of, events_of}
 use Rattle.telnet_line.specs.TelnetSteps.{with_all}
 
 pub and_true : (a b : Bool) → (a && b) ≡ true → (a ≡ true) × (b ≡ true)

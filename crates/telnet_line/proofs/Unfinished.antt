@@ -3,7 +3,7 @@ use Rattle.std.proofs.Common.{◌≡◌, ◌≢◌, ℕ, true, cond, List, [], �
 use Rattle.std.specs.Prelude.{◌==◌, nat_lt}
 use Rattle.std.specs.List.{AllByRecursion, flat_map}
 use Rattle.std.proofs.lemmas.Bool.{cond-true, cond-false, ne_eqb, le-ltb, lt-ltb}
-use Rattle.moo_spec.specs.Telnet.{NUL, LF, CR, SE, SB, WILL, WONT, DO, DONT, IAC, Will, Wont, Do, Dont, Parameter, Plain, After_iac, IsParameter, parameter_bytes, StreamUnit, Data, Data_iac, Line_feed, Return_line_feed, Return_null, Lone_return, Lone_iac, Command, Negotiation, Subnegotiation, IsUnit, spelling, MayPrecede, IsCut, rest, unit}
+use Rattle.telnet_line.specs.Telnet.{NUL, LF, CR, SE, SB, WILL, WONT, DO, DONT, IAC, Will, Wont, Do, Dont, Parameter, Plain, After_iac, IsParameter, parameter_bytes, StreamUnit, Data, Data_iac, Line_feed, Return_line_feed, Return_null, Lone_return, Lone_iac, Command, Negotiation, Subnegotiation, IsUnit, spelling, MayPrecede, IsCut, rest, unit}
 use Rattle.telnet_line.proofs.Cutter.{Cutter, Nothing, Return, Iac, Negotiating, Parameters, Parameters_iac, bytes_of, Fits, Cut, holds, whole, before, cut_data, cut_return, cut_iac, cut_byte, joined, run, cut_is}
 
 other : {A : Type 0} (b n : ℕ) (x y : A) → b ≢ n → cond (b == n) x y ≡ y

@@ -5,8 +5,8 @@ use Rattle.telnet_line.specs.declared.draft.Verb.TheVariants as heard
 use Rattle.telnet_line.specs.declared.draft.Begun.{Begun as Kept}
 use Rattle.telnet_line.specs.declared.draft.Begun.TheVariants as kept
 use Rattle.telnet_line.specs.declared.draft.Draft.{Draft}
-use Rattle.moo_spec.specs.Telnet.{Verb, Will, Wont, Do, Dont}
-use Rattle.moo_spec.specs.TelnetReading.{Begun, Nothing, Return, Iac, Negotiating, Parameters, Parameters_iac, Reading}
+use Rattle.telnet_line.specs.Telnet.{Verb, Will, Wont, Do, Dont}
+use Rattle.telnet_line.specs.TelnetReading.{Begun, Nothing, Return, Iac, Negotiating, Parameters, Parameters_iac, Reading}
 use Rattle.telnet_line.specs.TelnetSteps.{Step, reading_after, events_after}
 use Rattle.telnet_line.specs.Events.{events_given}
 

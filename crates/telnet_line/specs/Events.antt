@@ -3,7 +3,7 @@ use Rattle.std.specs.Prelude.{List, map}
 use Rattle.std.specs.String.{string_bytes}
 use Rattle.telnet_line.specs.declared.event.Event.{Event as Given}
 use Rattle.telnet_line.specs.declared.event.Event.TheVariants as given
-use Rattle.moo_spec.specs.Telnet.{Event, Line, Reply}
+use Rattle.telnet_line.specs.Telnet.{Event, Line, Reply}
 
 abbrev pub event_of : Given → Event
 event_of (given.Line text) = Line (string_bytes text)

@@ -1,7 +1,7 @@
 -- A reader of a Telnet stream, a byte at a time.
 use Rattle.std.specs.Prelude.{ℕ, ◌==◌, nat_lt, if◌then◌else◌, List, [], ◌∷◌, ◌++◌, ◌-◌, length, take}
-use Rattle.moo_spec.specs.Telnet.{NUL, LF, CR, SE, SB, WILL, WONT, DO, DONT, IAC, Will, Wont, Do, Dont, StreamUnit, Data, Return_line_feed, Line_feed, Command, Negotiation, Event, Reply, max_line, line_after, brought}
-use Rattle.moo_spec.specs.TelnetReading.{Begun, Nothing, Return, Iac, Negotiating, Parameters, Parameters_iac, Reading}
+use Rattle.telnet_line.specs.Telnet.{NUL, LF, CR, SE, SB, WILL, WONT, DO, DONT, IAC, Will, Wont, Do, Dont, StreamUnit, Data, Return_line_feed, Line_feed, Command, Negotiation, Event, Reply, max_line, line_after, brought}
+use Rattle.telnet_line.specs.TelnetReading.{Begun, Nothing, Return, Iac, Negotiating, Parameters, Parameters_iac, Reading}
 
 -- a reader that has read nothing
 abbrev pub fresh : Reading

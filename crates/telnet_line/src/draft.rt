@@ -2,9 +2,9 @@
 
 ghost use Rattle.std.specs.Prelude.{◌≡◌, ◌++◌, ◌<◌, ◌≤◌, ℕ, true, List, [], length, take, OnOk, IfOk, OnErr};
 ghost use Rattle.std.specs.List.{list_all};
-ghost use Rattle.moo_spec.specs.Datum as datum;
-ghost use Rattle.moo_spec.specs.Telnet as telnet;
-ghost use Rattle.moo_spec.specs.TelnetReading as reading;
+ghost use Rattle.spec_value.specs.Datum as datum;
+ghost use Rattle.telnet_line.specs.Telnet as telnet;
+ghost use Rattle.telnet_line.specs.TelnetReading as reading;
 ghost use Rattle.telnet_line.specs.TelnetSteps.{takes, holds, replies, step_data, step_return, step_iac, step_by, step};
 ghost use Rattle.telnet_line.specs.Drafts.{verb_of, begun_of, reading_of, Stepped, ReadsUpTo, ReadsAll};
 

@@ -2,8 +2,8 @@
 
 ghost use Rattle.std.specs.Prelude.{◌≡◌, ℕ, List, []};
 ghost use Rattle.std.specs.List.{AllByRecursion};
-ghost use Rattle.moo_spec.specs.Telnet.{StreamUnit, IsCut, Event, Spells, IsText, IsEvent};
-ghost use Rattle.moo_spec.specs.TelnetReading.{Reading, HasRead};
+ghost use Rattle.telnet_line.specs.Telnet.{StreamUnit, IsCut, Event, Spells, IsText, IsEvent};
+ghost use Rattle.telnet_line.specs.TelnetReading.{Reading, HasRead};
 ghost use Rattle.telnet_line.specs.TelnetSteps.{fresh, reading_after, events_after};
 
 /// Every stream is cut in units in one way, up to a rest that is no whole unit.

@@ -3,9 +3,9 @@
 ghost use Rattle.std.specs.Prelude.{◌≡◌, ◌≤◌, true, [], length, take, IfOk, OnOk, OnErr};
 ghost use Rattle.std.specs.List.{list_all};
 ghost use Rattle.std.specs.String.{string_bytes};
-ghost use Rattle.moo_spec.specs.Datum as datum;
-ghost use Rattle.moo_spec.specs.Telnet as telnet;
-ghost use Rattle.moo_spec.specs.Telnet.{with_data, without_last};
+ghost use Rattle.spec_value.specs.Datum as datum;
+ghost use Rattle.telnet_line.specs.Telnet as telnet;
+ghost use Rattle.telnet_line.specs.Telnet.{with_data, without_last};
 ghost use Rattle.telnet_line.specs.TelnetSteps.{with_all};
 
 use std::alloc::{AllocError, Global};
@@ -22,7 +22,7 @@ pub struct LineBuffer {
 
 impl Model for LineBuffer {
     ghost use Rattle.std.specs.Prelude.{ℕ, List};
-    ghost use Rattle.moo_spec.specs.Telnet.{IsText};
+    ghost use Rattle.telnet_line.specs.Telnet.{IsText};
 
     ghost Value = { List ℕ };
 

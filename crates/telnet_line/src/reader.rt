@@ -2,8 +2,8 @@
 
 ghost use Rattle.std.specs.Prelude.{◌≡◌, ◌++◌, ℕ, List, [], IfOk, OnErr};
 ghost use Rattle.std.specs.List.{AllByRecursion};
-ghost use Rattle.moo_spec.specs.Telnet as telnet;
-ghost use Rattle.moo_spec.specs.TelnetReading.{HasRead};
+ghost use Rattle.telnet_line.specs.Telnet as telnet;
+ghost use Rattle.telnet_line.specs.TelnetReading.{HasRead};
 ghost use Rattle.telnet_line.specs.Events.{events_given};
 
 use crate::draft::{Begun, Draft};
@@ -24,7 +24,7 @@ pub struct Reader {
 }
 
 impl Model for Reader {
-    ghost use Rattle.moo_spec.specs.TelnetReading.{Reading};
+    ghost use Rattle.telnet_line.specs.TelnetReading.{Reading};
 
     ghost Value = { Reading };
 

@@ -37,15 +37,19 @@ const ROWS: [(&str, &[Operand], Option<usize>); 50] = [
     ),
     (
         "x[a..b]",
-        &[Letters(65_536), Number(1), Number(65_536)],
-        None,
+        &[Letters(65_537), Number(1), Number(65_536)],
+        Some(65_537),
     ),
     (
         "x[a..b]",
         &[Zeros(65_535), Number(1), Number(65_535)],
         Some(65_536),
     ),
-    ("x[a..b]", &[Zeros(65_536), Number(1), Number(65_536)], None),
+    (
+        "x[a..b]",
+        &[Zeros(65_536), Number(1), Number(65_536)],
+        Some(65_537),
+    ),
     (
         "x[i] = v",
         &[Letters(65_535), Number(1), Letters(1)],

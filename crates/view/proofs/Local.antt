@@ -1,15 +1,15 @@
 -- What an answer becomes by changes follows from the answer before them.
-use Rattle.std.proofs.Common.{◌≡◌, ℤ, Bool, true, false, cond, ◌&&◌, List, [], ◌∷◌, Option, Some, None, option_map, refl, sym, ◌∙◌, ap}
+use Rattle.std.proofs.Common.{◌≡◌, ℤ, Bool, true, false, cond, ◌&&◌, List, [], ◌∷◌, Option, Some, None, option_map, max, min, refl, sym, ◌∙◌, ap}
 use Rattle.std.specs.Ordering.{nat_cmp, int_cmp, eq_by_cmp}
 use Rattle.std.specs.Cmp.{int_cmp_total, Equal-is}
 use Rattle.std.specs.Cmp.Lexicographic.{slice_cmp, nat_list_cmp_total}
 use Rattle.std.specs.FinMap.{int_cmp-IsAntisymmetric, slice_cmp-IsAntisymmetric, nat_cmp-IsAntisymmetric}
 use Rattle.std.specs.FinMap.Entries.{find-put}
-use Rattle.moo_spec.specs.Datum.{Datum, Text, fold_case}
-use Rattle.moo_spec.specs.Table.{named, with_name}
-use Rattle.moo_spec.specs.World.{World, Object, Slot, object_at, with_object}
-use Rattle.moo_spec.specs.Inherit.{slot_of, slot_at, put_slot, with_slot}
-use Rattle.moo_spec.specs.Questions.{header, Question, about_header, about_slot, about_verbs, about_link, about_ending, Answer, the_header, the_slot, the_verbs, ask, Change, new_value, put_value, apply, apply_all}
+use Rattle.spec_value.specs.Datum.{Datum, Text, fold_case}
+use Rattle.spec_value.specs.Table.{named, with_name}
+use Rattle.spec_world.specs.World.{World, Object, Slot, object_at, with_object}
+use Rattle.spec_world.specs.Inherit.{slot_of, slot_at, put_slot, with_slot}
+use Rattle.spec_world.specs.Questions.{Question, about_header, about_slot, about_verbs, about_link, about_ending, Answer, the_header, the_slot, the_verbs, ask, Change, new_value, new_next, put_value, apply, apply_all}
 
 abbrev same_number : ℤ → ℤ → Bool
 same_number = eq_by_cmp int_cmp
@@ -104,7 +104,7 @@ slot_after w o q p r v x s is at_p =
 -- where there was one
 something_after : (w : World) (o : ℤ) (p : Text) (v : Datum) (x : Object) (s : Slot) → object_at w o ≡ Some x → named x.slots (fold_case p) ≡ Some s
     → (q : Question) → ask (with_object w o (revalued x p (filled s v))) q ≡ after (new_value o p v) q (ask w q)
-something_after w o p v x s is at_p (about_header q) = ap the_header (facet_stays header w o q x (revalued x p (filled s v)) is refl)
+something_after w o p v x s is at_p (about_header q) = ap the_header (facet_stays (λ z. z.header) w o q x (revalued x p (filled s v)) is refl)
 something_after w o p v x s is at_p (about_slot q r) = ap the_slot (slot_after w o q p r v x s is at_p)
 something_after w o p v x s is at_p (about_verbs q) = ap the_verbs (facet_stays (λ z. z.verbs) w o q x (revalued x p (filled s v)) is refl)
 something_after w o p v x s is at_p (about_link c) = refl
@@ -121,6 +121,14 @@ one_after (new_value o p v) w q = by_slot (slot_at w o p) refl
     by_slot : (s : Option Slot) → slot_at w o p ≡ s → ask (put_value w o p v s) q ≡ after (new_value o p v) q (ask w q)
     by_slot None e = nothing_after w o p v e q
     by_slot (Some s) e = by_object s (object_at w o) refl e
+one_after (new_next n) w q = untouched q
+  where
+    untouched : (q : Question) → ask (record w { next = max (min n 33554432) w.next }) q ≡ after (new_next n) q (ask w q)
+    untouched (about_header o) = refl
+    untouched (about_slot o p) = refl
+    untouched (about_verbs o) = refl
+    untouched (about_link c) = refl
+    untouched about_ending = refl
 
 -- worlds that answer a question alike still do after changes
 pub alike_after : (cs : List Change) (w v : World) (q : Question) → ask w q ≡ ask v q → ask (apply_all cs w) q ≡ ask (apply_all cs v) q

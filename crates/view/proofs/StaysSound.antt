@@ -1,7 +1,7 @@
 -- The world now stays sound.
 use Rattle.std.proofs.Common.{◌≡◌, Result, Ok, Err, OnOk, sym, subst}
-use Rattle.moo_spec.specs.World.{World}
-use Rattle.moo_spec.specs.Questions.{Change, apply}
+use Rattle.spec_world.specs.World.{World}
+use Rattle.spec_world.specs.Questions.{Change, apply}
 use Rattle.world.specs.Sound.{IsSound}
 use Rattle.world.proofs.SoundKeeps.{sound_applied}
 use Rattle.view.specs.Law.{Goes, StaysSound}

@@ -1,3 +1,2 @@
 pub mod Law
-pub mod Live
 pub mod Trace

@@ -1,9 +1,9 @@
 //! What a view promises.
 ghost use Rattle.std.specs.Prelude.{◌≡◌, ℕ, IfOk, OnOk};
-ghost use Rattle.moo_spec.specs.World.{World};
-ghost use Rattle.moo_spec.specs.Questions.{ask, apply};
+ghost use Rattle.spec_world.specs.World.{World};
+ghost use Rattle.spec_world.specs.Questions.{ask, apply};
 ghost use Rattle.footprint.specs.Meanings.{question_of, answer_of, change_of};
-ghost use Rattle.view.specs.Law.{Goes, Keeps};
+ghost use Rattle.view.specs.Law.{Goes, Keeps, Lasts, Tells};
 
 use footprint::change::Change;
 use footprint::question::{Answer, Question};
@@ -28,12 +28,9 @@ pub trait View {
 
     /// The answer to a question. After an `Err` the view is only to be dropped or undone.
     fn get(&mut self, question: &Question) -> Result<Answer, AllocError>
-        ensures anchor { anchor self.new ≡ anchor self.old }
-        ensures home { home self.new ≡ home self.old }
-        ensures stays { OnOk result (holds self.new (home self.new)) }
+        ensures lasts { Lasts holds home anchor self.old self.new result }
         ensures answer { IfOk result (λ a. answer_of a ≡ ask (now self.old (home self.old)) (question_of question.now)) }
-        ensures left { IfOk result (λ a. Goes holds now self.old self.new
-            (λ before after. (after ≡ before) × (ask before (question_of question.now) ≡ answer_of a))) }
+        ensures left { IfOk result (λ a. Tells holds now self.old self.new (λ w. ask w (question_of question.now) ≡ answer_of a)) }
 
         // A start that gives the home's answer, at its start and now, stays.
         ensures kept { IfOk result (λ a. (w : World) → holds self.old w →
@@ -42,9 +39,7 @@ pub trait View {
 
     /// A change. After an `Err` the view is only to be dropped or undone.
     fn put(&mut self, change: Change) -> Result<(), AllocError>
-        ensures anchor { anchor self.new ≡ anchor self.old }
-        ensures home { home self.new ≡ home self.old }
-        ensures stays { OnOk result (holds self.new (home self.new)) }
+        ensures lasts { Lasts holds home anchor self.old self.new result }
         ensures left { OnOk result (Goes holds now self.old self.new (λ before after. after ≡ apply (change_of change) before)) }
         ensures kept { OnOk result (Keeps holds self.old self.new) };
 }

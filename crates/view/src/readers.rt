@@ -1,10 +1,10 @@
 //! What is read of a view and written to it, question by question.
 ghost use Rattle.std.specs.Prelude.{◌≡◌, IfOk, OnOk};
-ghost use Rattle.moo_spec.specs.Table.{at};
-ghost use Rattle.moo_spec.specs.Inherit.{slot_at};
-ghost use Rattle.moo_spec.specs.Questions.{header_at, verbs_at, apply, new_value};
+ghost use Rattle.spec_value.specs.Table.{at};
+ghost use Rattle.spec_world.specs.Inherit.{slot_at};
+ghost use Rattle.spec_world.specs.Questions.{header_at, verbs_at, apply, new_value, new_next};
 ghost use Rattle.footprint.specs.Meanings.{change_of};
-ghost use Rattle.view.specs.Law.{Goes, Keeps, StaysSound};
+ghost use Rattle.view.specs.Law.{Goes, Keeps, Lasts, StaysSound, Tells};
 
 use crate::law::View;
 use footprint::change::Change;
@@ -19,11 +19,8 @@ use std::alloc::AllocError;
 
 /// An object's header, or None where there is no such object.
 pub fn read_header<V: View>(view: &mut V, object: i32) -> Result<Option<Header>, AllocError>
-    ensures anchor { V.anchor view.new ≡ V.anchor view.old }
-    ensures home { V.home view.new ≡ V.home view.old }
-    ensures stays { OnOk result (V.holds view.new (V.home view.new)) }
-    ensures left { IfOk result (λ h. Goes V.holds V.now view.old view.new
-        (λ before after. (after ≡ before) × (header_at before object ≡ h))) }
+    ensures lasts { Lasts V.holds V.home V.anchor view.old view.new result }
+    ensures left { IfOk result (λ h. Tells V.holds V.now view.old view.new (λ w. header_at w object ≡ h)) }
     ensures sound { OnOk result (StaysSound V.home V.now view.old view.new) }
 {
     match view.get(&Question::Header(object))? {
@@ -38,11 +35,8 @@ pub fn read_slot<V: View>(
     object: i32,
     name: &Text,
 ) -> Result<Option<Slot>, AllocError>
-    ensures anchor { V.anchor view.new ≡ V.anchor view.old }
-    ensures home { V.home view.new ≡ V.home view.old }
-    ensures stays { OnOk result (V.holds view.new (V.home view.new)) }
-    ensures left { IfOk result (λ s. Goes V.holds V.now view.old view.new
-        (λ before after. (after ≡ before) × (slot_at before object name.now ≡ s))) }
+    ensures lasts { Lasts V.holds V.home V.anchor view.old view.new result }
+    ensures left { IfOk result (λ s. Tells V.holds V.now view.old view.new (λ w. slot_at w object name.now ≡ s)) }
     ensures sound { OnOk result (StaysSound V.home V.now view.old view.new) }
 {
     match view.get(&Question::Slot(object, name.clone()?))? {
@@ -53,11 +47,8 @@ pub fn read_slot<V: View>(
 
 /// An object's own verbs, or None where there is no such object.
 pub fn read_verbs<V: View>(view: &mut V, object: i32) -> Result<Option<Verbs>, AllocError>
-    ensures anchor { V.anchor view.new ≡ V.anchor view.old }
-    ensures home { V.home view.new ≡ V.home view.old }
-    ensures stays { OnOk result (V.holds view.new (V.home view.new)) }
-    ensures left { IfOk result (λ vs. Goes V.holds V.now view.old view.new
-        (λ before after. (after ≡ before) × (verbs_at before object ≡ vs))) }
+    ensures lasts { Lasts V.holds V.home V.anchor view.old view.new result }
+    ensures left { IfOk result (λ vs. Tells V.holds V.now view.old view.new (λ w. verbs_at w object ≡ vs)) }
     ensures sound { OnOk result (StaysSound V.home V.now view.old view.new) }
 {
     match view.get(&Question::Verbs(object))? {
@@ -68,11 +59,8 @@ pub fn read_verbs<V: View>(view: &mut V, object: i32) -> Result<Option<Verbs>, A
 
 /// The link of a number, or None where it is not open.
 pub fn read_link<V: View>(view: &mut V, number: i32) -> Result<Option<Link>, AllocError>
-    ensures anchor { V.anchor view.new ≡ V.anchor view.old }
-    ensures home { V.home view.new ≡ V.home view.old }
-    ensures stays { OnOk result (V.holds view.new (V.home view.new)) }
-    ensures left { IfOk result (λ k. Goes V.holds V.now view.old view.new
-        (λ before after. (after ≡ before) × (at before.links number ≡ k))) }
+    ensures lasts { Lasts V.holds V.home V.anchor view.old view.new result }
+    ensures left { IfOk result (λ k. Tells V.holds V.now view.old view.new (λ w. at w.links number ≡ k)) }
     ensures sound { OnOk result (StaysSound V.home V.now view.old view.new) }
 {
     match view.get(&Question::Link(number))? {
@@ -83,11 +71,8 @@ pub fn read_link<V: View>(view: &mut V, number: i32) -> Result<Option<Link>, All
 
 /// Whether the server is about to end.
 pub fn read_ending<V: View>(view: &mut V) -> Result<bool, AllocError>
-    ensures anchor { V.anchor view.new ≡ V.anchor view.old }
-    ensures home { V.home view.new ≡ V.home view.old }
-    ensures stays { OnOk result (V.holds view.new (V.home view.new)) }
-    ensures left { IfOk result (λ b. Goes V.holds V.now view.old view.new
-        (λ before after. (after ≡ before) × (before.ending ≡ b))) }
+    ensures lasts { Lasts V.holds V.home V.anchor view.old view.new result }
+    ensures left { IfOk result (λ b. Tells V.holds V.now view.old view.new (λ w. w.ending ≡ b)) }
     ensures sound { OnOk result (StaysSound V.home V.now view.old view.new) }
 {
     match view.get(&Question::Ending)? {
@@ -103,15 +88,23 @@ pub fn write_value<V: View>(
     name: &Text,
     value: Value,
 ) -> Result<(), AllocError>
-    ensures anchor { V.anchor view.new ≡ V.anchor view.old }
-    ensures home { V.home view.new ≡ V.home view.old }
-    ensures stays { OnOk result (V.holds view.new (V.home view.new)) }
+    ensures lasts { Lasts V.holds V.home V.anchor view.old view.new result }
     ensures left { OnOk result (Goes V.holds V.now view.old view.new (λ before after. after ≡ apply (new_value object name.now value) before)) }
     ensures kept { OnOk result (Keeps V.holds view.old view.new) }
     ensures sound { OnOk result (StaysSound V.home V.now view.old view.new) }
 {
     let change = new_value_of(object, name, value)?;
     view.put(change)
+}
+
+/// The next step has at least this number.
+pub fn raise_next<V: View>(view: &mut V, next: u64) -> Result<(), AllocError>
+    ensures lasts { Lasts V.holds V.home V.anchor view.old view.new result }
+    ensures left { OnOk result (Goes V.holds V.now view.old view.new (λ before after. after ≡ apply (new_next next) before)) }
+    ensures kept { OnOk result (Keeps V.holds view.old view.new) }
+    ensures sound { OnOk result (StaysSound V.home V.now view.old view.new) }
+{
+    view.put(Change::Next(next))
 }
 
 fn new_value_of(object: i32, name: &Text, value: Value) -> Result<Change, AllocError>

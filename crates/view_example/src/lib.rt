@@ -5,11 +5,11 @@
 #![tactic(auto)]
 
 ghost use Rattle.std.specs.Prelude.{◌≡◌, is_some, IfOk, OnOk, OnErr};
-ghost use Rattle.moo_spec.specs.World.{World as Plain};
-ghost use Rattle.moo_spec.specs.Inherit.{slot_at};
-ghost use Rattle.moo_spec.specs.Questions.{Agrees, apply, apply_all, new_value};
+ghost use Rattle.spec_world.specs.World.{World as Plain};
+ghost use Rattle.spec_world.specs.Inherit.{slot_at};
+ghost use Rattle.spec_world.specs.Questions.{Agrees, apply, apply_all, new_value};
 ghost use Rattle.world.specs.Sound.{IsSound};
-ghost use Rattle.view.specs.Law.{Goes, StaysSound};
+ghost use Rattle.view.specs.Law.{Goes, Lasts, StaysSound};
 
 use footprint::reads::{Changes, Reads};
 use moo_value::text::Text;
@@ -28,9 +28,7 @@ pub fn set<V: View>(
     name: &Text,
     value: Value,
 ) -> Result<bool, AllocError>
-    ensures anchor { V.anchor view.new ≡ V.anchor view.old }
-    ensures home { V.home view.new ≡ V.home view.old }
-    ensures stays { OnOk result (V.holds view.new (V.home view.new)) }
+    ensures lasts { Lasts V.holds V.home V.anchor view.old view.new result }
     ensures left { IfOk result (λ found. Goes V.holds V.now view.old view.new
         (λ before after. (after ≡ apply (new_value object name.now value) before) × (is_some (slot_at before object name.now) ≡ found))) }
     ensures sound { OnOk result (StaysSound V.home V.now view.old view.new) }

@@ -6,15 +6,15 @@ use Rattle.std.specs.List.{list_all}
 use Rattle.std.specs.Cmp.{int_cmp_total}
 use Rattle.std.specs.FinMap.{int_cmp-IsAntisymmetric}
 use Rattle.std.specs.FinMap.Entries.{find-put}
-use Rattle.moo_spec.specs.Datum.{Text}
-use Rattle.moo_spec.specs.Commands.{nowhere}
-use Rattle.moo_spec.specs.World.{World, Object, Verb, Link, object_at}
-use Rattle.moo_spec.specs.Inherit.{line, line_onto, line_bound, ancestors, slot_of, content_of}
-use Rattle.moo_spec.specs.WellFormed.{IsWellFormed, OfEachObject, comes_out, ends_above, is_nowhere, lists, passes, on_object, number_fits, children_agree, parent_agrees, contents_agree, location_agrees, folded_names, defined_on, has_name, names_once, slot_names, line_names_once, slots_agree, slots_in_order, definers_filled, is_connection, link_fits, once}
-use Rattle.moo_spec.specs.Turn.{is_wizard, wizardly}
-use Rattle.moo_spec.proofs.Entries.{first_holds, second_holds, both_hold}
-use Rattle.moo_spec.proofs.Keys.{still_sorted}
-use Rattle.moo_spec.proofs.SlotChanges.{find-put_same, find-put_other}
+use Rattle.spec_value.specs.Datum.{Text}
+use Rattle.spec_task.specs.Commands.{nowhere}
+use Rattle.spec_world.specs.World.{World, Object, Verb, Link, object_at}
+use Rattle.spec_world.specs.Inherit.{line, line_onto, line_bound, ancestors, slot_of, content_of}
+use Rattle.spec_world.specs.WellFormed.{IsWellFormed, OfEachObject, comes_out, ends_above, is_nowhere, lists, passes, on_object, number_fits, children_agree, parent_agrees, contents_agree, location_agrees, folded_names, defined_on, has_name, names_once, slot_names, line_names_once, slots_agree, slots_in_order, definers_filled, is_connection, link_fits, once}
+use Rattle.spec_task.specs.Turn.{is_wizard, wizardly}
+use Rattle.spec_value.proofs.Entries.{first_holds, second_holds, both_hold}
+use Rattle.spec_value.proofs.Keys.{still_sorted}
+use Rattle.spec_world.proofs.SlotChanges.{find-put_same, find-put_other}
 use Rattle.world.specs.Sound.{IsSimple, IsSound, verb_covered, verbs_covered, slots_own, is_covered}
 use Rattle.world.specs.Objects.{next_object, with_next_object, alone, AddingKeeps}
 
@@ -186,8 +186,8 @@ module _ (w : World) (x : Object) (h : IsWellFormed w) where
   -- ---- the names on a line
 
   -- a parent is no new object
-  parent_stays : (q : ℤ) (y : Object) → object_at w q ≡ Some y → object_at after y.parent ≡ object_at w y.parent
-  parent_stays q y is = stays y.parent (λ e. no_parent (subst (λ o. IsTrue (is_nowhere o || on_object w o (λ z. lists z.children q))) e (h.parents q y is)))
+  parent_stays : (q : ℤ) (y : Object) → object_at w q ≡ Some y → object_at after y.header.parent ≡ object_at w y.header.parent
+  parent_stays q y is = stays y.header.parent (λ e. no_parent (subst (λ o. IsTrue (is_nowhere o || on_object w o (λ z. lists z.children q))) e (h.parents q y is)))
     where
       no_parent : IsTrue (is_nowhere new || on_object w new (λ z. lists z.children q)) → ⊥
       no_parent t = let clash : false ≡ true = sym (λ i. next_after.is_somewhere i || passes (free i) (λ z. lists z.children q)) ∙ t in absurd (cc (clash))
@@ -195,18 +195,18 @@ module _ (w : World) (x : Object) (h : IsWellFormed w) where
   abbrev names : ℕ → World → ℤ → List Text
   names n v q = defined_on v (line n v q)
 
-  old_names : (n : ℕ) (q : ℤ) → object_at after q ≡ object_at w q → IsTrue (comes_out (λ y. y.parent) n w q) → names (suc n) after q ≡ names n w q
+  old_names : (n : ℕ) (q : ℤ) → object_at after q ≡ object_at w q → IsTrue (comes_out (λ y. y.header.parent) n w q) → names (suc n) after q ≡ names n w q
   unfolding line comes_out defined_on
   old_names zero q same t = ap (λ o. defined_on after (line_onto (line zero after) q o)) (same ∙ none_there (object_at w q) t)
   old_names (suc n) q same t = go (old_names n) (object_at w q) refl t
     where
-      go : ((p : ℤ) → object_at after p ≡ object_at w p → IsTrue (comes_out (λ y. y.parent) n w p) → names (suc n) after p ≡ names n w p)
-          → (o : Option Object) → object_at w q ≡ o → IsTrue (ends_above (comes_out (λ y. y.parent) n w) (λ y. y.parent) o)
+      go : ((p : ℤ) → object_at after p ≡ object_at w p → IsTrue (comes_out (λ y. y.header.parent) n w p) → names (suc n) after p ≡ names n w p)
+          → (o : Option Object) → object_at w q ≡ o → IsTrue (ends_above (comes_out (λ y. y.header.parent) n w) (λ y. y.header.parent) o)
           → defined_on after (line_onto (line (suc n) after) q (object_at after q)) ≡ defined_on w (line_onto (line n w) q (object_at w q))
       go above None e k = ap (λ o. defined_on after (line_onto (line (suc n) after) q o)) (same ∙ e) ∙ sym (ap (λ o. defined_on w (line_onto (line n w) q o)) e)
       go above (Some y) e k =
           ap (λ o. defined_on after (line_onto (line (suc n) after) q o)) (same ∙ e)
-          ∙ (λ i. folded_names (same i) ++ above y.parent (parent_stays q y e) k i)
+          ∙ (λ i. folded_names (same i) ++ above y.header.parent (parent_stays q y e) k i)
           ∙ sym (ap (λ o. defined_on w (line_onto (line n w) q o)) e)
 
   pub names_stay : (q : ℤ) (y : Object) → object_at w q ≡ Some y → defined_on after (ancestors after q) ≡ defined_on w (ancestors w q)
@@ -233,17 +233,17 @@ module _ (w : World) (x : Object) (h : IsWellFormed w) where
   children_still : OfEachObject after children_agree
   unfolding once
   children_still =
-      each children_agree (λ q y is t. both_hold (once y.children) _ (first_holds (once y.children) _ t) (all_still (λ z. int_eq z.parent q) y.children (second_holds (once y.children) _ t))) refl h.children
+      each children_agree (λ q y is t. both_hold (once y.children) _ (first_holds (once y.children) _ t) (all_still (λ z. int_eq z.header.parent q) y.children (second_holds (once y.children) _ t))) refl h.children
 
   contents_still : OfEachObject after contents_agree
   unfolding once
   contents_still =
-      each contents_agree (λ q y is t. both_hold (once y.contents) _ (first_holds (once y.contents) _ t) (all_still (λ z. int_eq z.location q) y.contents (second_holds (once y.contents) _ t))) refl h.contents
+      each contents_agree (λ q y is t. both_hold (once y.contents) _ (first_holds (once y.contents) _ t) (all_still (λ z. int_eq z.header.location q) y.contents (second_holds (once y.contents) _ t))) refl h.contents
 
   links_still : (c : ℤ) (k : Link) → IsTrue (link_fits w c k) → IsTrue (link_fits after c k)
   links_still c k t =
       both_hold (is_connection c) _ (first_holds (is_connection c) _ t)
-      (either_more _ _ _ (on_still (λ z. z.is_player) k.person) (second_holds (is_connection c) _ t))
+      (either_more _ _ _ (on_still (λ z. z.header.is_player) k.person) (second_holds (is_connection c) _ t))
 
   definers_still : (q : ℤ) (y : Object) → object_at w q ≡ Some y → IsTrue (definers_filled w q y) → IsTrue (definers_filled after q y)
   definers_still q y is t = ap (λ o. list_all (λ p. is_some (content_of (slot_of o p))) y.defines) (stays q (is_old q y is)) ∙ t
@@ -258,12 +258,12 @@ module _ (w : World) (x : Object) (h : IsWellFormed w) where
         greatest_in_range = both_hold (int_le (neg_ℤ (pos 1)) new) (int_le new (pos 999999)) next_after.in_range room;
         next_in_range = h.next_in_range;
         numbers = each number_fits (λ q y is t. later q w.greatest t) next_after.valid h.numbers;
-        parents_end = ends (λ y. y.parent) refl h.parents_end;
-        locations_end = ends (λ y. y.location) refl h.locations_end;
+        parents_end = ends (λ y. y.header.parent) refl h.parents_end;
+        locations_end = ends (λ y. y.header.location) refl h.locations_end;
         children = children_still;
-        parents = each parent_agrees (λ q y is t. either_more (is_nowhere y.parent) _ _ (on_still (λ z. lists z.children q) y.parent) t) refl h.parents;
+        parents = each parent_agrees (λ q y is t. either_more (is_nowhere y.header.parent) _ _ (on_still (λ z. lists z.children q) y.header.parent) t) refl h.parents;
         contents = contents_still;
-        locations = each location_agrees (λ q y is t. either_more (is_nowhere y.location) _ _ (on_still (λ z. lists z.contents q) y.location) t) refl h.locations;
+        locations = each location_agrees (λ q y is t. either_more (is_nowhere y.header.location) _ _ (on_still (λ z. lists z.contents q) y.header.location) t) refl h.locations;
         names_on_a_line = each line_names_once (λ q y is t. ap names_once (names_stay q y is) ∙ t) (ap names_once no_names) h.names_on_a_line;
         slot_order = each slots_in_order (λ q y is t. t) refl h.slot_order;
         slots = each slots_agree (λ q y is t. ap (λ ns. agreeing ns y) (names_stay q y is) ∙ t) (ap (λ ns. agreeing ns (alone x)) no_names) h.slots;

@@ -1,10 +1,10 @@
 -- What a change does to a world's objects.
 use Rattle.std.proofs.Common.{◌≡◌, ℕ, ℤ, Option, Some, None, refl, sym, ◌∙◌, ap, subst, option_map}
-use Rattle.moo_spec.specs.Datum.{Datum, Text, fold_case}
-use Rattle.moo_spec.specs.Table.{named, with_name}
-use Rattle.moo_spec.specs.World.{World, Object, Slot, object_at, with_object}
-use Rattle.moo_spec.specs.Inherit.{slot_of, slot_at, put_slot, with_slot}
-use Rattle.moo_spec.specs.Questions.{apply, new_value, put_value}
+use Rattle.spec_value.specs.Datum.{Datum, Text, fold_case}
+use Rattle.spec_value.specs.Table.{named, with_name}
+use Rattle.spec_world.specs.World.{World, Object, Slot, object_at, with_object}
+use Rattle.spec_world.specs.Inherit.{slot_of, slot_at, put_slot, with_slot}
+use Rattle.spec_world.specs.Questions.{apply, new_value, put_value}
 
 -- an object with another value in a slot, where it has that slot
 abbrev pub revalued : Object → Text → Datum → Option Object

@@ -47,7 +47,7 @@ step_send p member-Count = has_of knot.frame send (knot.step p) member-Count (pa
 goals : All (one_law the_members send) (rows knot.frame knot.tied)
 goals = tied_goals knot.frame knot.step knot.sizes (one_law the_members send) (λ p _ i. step_send p i)
 
-count_send : IsSend count.the_row
+pub count_send : IsSend count.the_row
 count_send = goals member-Count
 
 pub world_send : IsSend world.the_row

@@ -3,9 +3,6 @@ pub mod Maps
 pub mod Applied
 pub mod Settled
 pub mod Changed
-pub mod FixtureIsSimple
 pub mod SoundKeeps
 pub mod Walks
-pub mod RoomsAreSound
 pub mod Adding
-pub mod ObjectsAreSound

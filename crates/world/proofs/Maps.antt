@@ -8,7 +8,7 @@ use Rattle.std.specs.Cmp.{unsigned_tied}
 use borrow.Author.Tests.{eqb-true}
 use Rattle.std.specs.FinMap.{find, put, is_sorted}
 use Rattle.std.specs.FinMap.Entries.{by_order}
-use Rattle.moo_spec.specs.Table.{Numbered, at, with}
+use Rattle.spec_value.specs.Table.{Numbered, at, with}
 use Rattle.world.specs.Numbered.{numbered}
 
 pub positive_cmp : (a b : ℕ) → int_cmp (pos a) (pos b) ≡ nat_cmp a b

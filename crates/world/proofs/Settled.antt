@@ -1,15 +1,15 @@
 -- The empty world, and a world with another next number or another ending flag.
-use Rattle.std.proofs.Common.{◌≡◌, ℕ, zero, suc, ◌≤◌, ℤ, pos, negsuc, List, [], ◌∷◌, ◌++◌, map, length, max, Option, Some, None, Bool, true, false, IsTrue, nat_le, ◌&&◌, refl, sym, ◌∙◌, ap, subst, arith}
+use Rattle.std.proofs.Common.{◌≡◌, ℕ, zero, suc, ◌≤◌, ℤ, negsuc, List, [], ◌∷◌, ◌++◌, Option, Some, None, Bool, false, IsTrue, nat_le, ◌&&◌, refl, sym, ◌∙◌, ap, arith}
 use Rattle.std.proofs.lemmas.Bool.Decides.{nat_tests}
 use Rattle.std.proofs.lemmas.Bool.{and_parts}
 use borrow.Author.Tests.{leb-true}
 use Rattle.std.specs.List.{list_all}
-use Rattle.moo_spec.specs.Datum.{Text}
-use Rattle.moo_spec.specs.Table.{at}
-use Rattle.moo_spec.specs.World.{World, Object, Task, object_at}
-use Rattle.moo_spec.specs.Inherit.{line, line_onto, line_bound, ancestors}
-use Rattle.moo_spec.specs.WellFormed.{IsWellFormed, OfEachTask, TaskStands, once, comes_out, ends_above, defined_on, folded_names, names_once, has_name, slot_names, links_read}
-use Rattle.world.specs.Sound.{IsSound, IsSimple}
+use Rattle.spec_value.specs.Datum.{Text}
+use Rattle.spec_value.specs.Table.{at}
+use Rattle.spec_world.specs.World.{World, Object, Task, object_at}
+use Rattle.spec_world.specs.Inherit.{line, line_onto, line_bound, ancestors}
+use Rattle.spec_world.specs.WellFormed.{IsWellFormed, once, comes_out, ends_above, defined_on, folded_names, names_once, has_name, slot_names, links_read}
+use Rattle.world.specs.Sound.{IsSound}
 
 abbrev pub empty_world : World
 empty_world = record { objects = []; tasks = []; links = []; greatest = negsuc 0; next = 1; ending = false }
@@ -61,7 +61,7 @@ comes_out_settled up (suc k) w n b o = same_end _ _ up (object_at w o) (comes_ou
 
 same_line : (f g : ℤ → List ℤ) (o : ℤ) (x : Option Object) → ((p : ℤ) → f p ≡ g p) → line_onto f o x ≡ line_onto g o x
 same_line f g o None same = refl
-same_line f g o (Some x) same = ap (λ os. o ∷ os) (same x.parent)
+same_line f g o (Some x) same = ap (λ os. o ∷ os) (same x.header.parent)
 
 line_settled : (k : ℕ) (w : World) (n : ℕ) (b : Bool) (o : ℤ) → line k (settled w n b) o ≡ line k w o
 unfolding line
@@ -88,8 +88,8 @@ settled_is_well_formed w n b none from up_to h = record {
   greatest_in_range = h.greatest_in_range;
   next_in_range = grind (arith, nat_tests);
   numbers = h.numbers;
-  parents_end = λ o x e. comes_out_settled (λ y. y.parent) (line_bound w) w n b o ∙ h.parents_end o x e;
-  locations_end = λ o x e. comes_out_settled (λ y. y.location) (line_bound w) w n b o ∙ h.locations_end o x e;
+  parents_end = λ o x e. comes_out_settled (λ y. y.header.parent) (line_bound w) w n b o ∙ h.parents_end o x e;
+  locations_end = λ o x e. comes_out_settled (λ y. y.header.location) (line_bound w) w n b o ∙ h.locations_end o x e;
   children = h.children;
   parents = h.parents;
   contents = h.contents;
@@ -122,9 +122,6 @@ test_of n h =
 -- the next number of a well-formed world
 pub next_within : (w : World) → IsSound w → (1 ≤ w.next) × (w.next ≤ 33554432)
 next_within w h = test_of w.next h.well_formed.next_in_range
-
-pub raised_is_sound : (w : World) (n : ℕ) → w.tasks ≡ [] → n ≤ 33554432 → IsSound w → IsSound (record w { next = max n w.next })
-raised_is_sound w n none up_to h = let in_range = next_within w h in settled_is_sound w (max n w.next) w.ending none (omega arith) (omega arith) h
 
 pub reopened_is_sound : (w : World) → w.tasks ≡ [] → IsSound w → IsSound (record w { ending = false })
 reopened_is_sound w none h = let in_range = next_within w h in settled_is_sound w w.next false none (omega arith) (omega arith) h

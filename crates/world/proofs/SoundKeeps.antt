@@ -1,23 +1,23 @@
 -- A slot that is there takes another value, and the world stays as it has to be.
-use Rattle.std.proofs.Common.{◌≡◌, ◌≢◌, ℕ, ℤ, Bool, true, false, List, [], ◌∷◌, map, Option, Some, None, refl, sym, ap, ◌∙◌, subst, IsTrue, is_some, ◌&&◌, int_cmp, is_eq, Ordering, Less, Equal, Greater}
-use Rattle.std.specs.Prelude.{option_map, pos}
+use Rattle.std.proofs.Common.{◌≡◌, ◌≢◌, ℕ, ℤ, Bool, true, false, List, [], ◌∷◌, map, Option, Some, None, refl, sym, ap, ◌∙◌, subst, IsTrue, is_some, ◌&&◌, int_cmp, is_eq, arith, if◌then◌else◌, Ordering, Less, Equal, Greater}
+use Rattle.std.specs.Prelude.{option_map, pos, max, min}
 use Rattle.std.specs.List.{list_all}
 use Rattle.std.specs.FinMap.{int_cmp-IsAntisymmetric}
-use Rattle.moo_spec.specs.Datum.{Datum, Text, fold_case}
-use Rattle.moo_spec.specs.Table.{named, with_name}
-use Rattle.moo_spec.specs.World.{World, Object, Slot, Verb, object_at}
-use Rattle.moo_spec.specs.Inherit.{slot_of, slot_at, with_slot}
-use Rattle.moo_spec.specs.WellFormed.{IsWellFormed, OfEachObject, has_name, slot_names}
-use Rattle.moo_spec.specs.Turn.{is_wizard, wizardly}
-use Rattle.moo_spec.specs.Turn.{Pending}
-use Rattle.moo_spec.specs.Segment.{segment}
-use Rattle.moo_spec.specs.Step.{Event, run_event}
-use Rattle.moo_spec.specs.Questions.{Change, new_value, put_value, apply}
-use Rattle.moo_spec.proofs.StepKeeps.{segment_holds, event_holds}
-use Rattle.moo_spec.proofs.SlotChanges.{itself, names_total, object_stays, other_objects_stay, world_stays}
-use Rattle.moo_spec.proofs.SlotKeeps.{slot_keeps}
-use Rattle.moo_spec.proofs.Keys.{keys_put}
-use Rattle.moo_spec.proofs.Shapes.{Shape, shape, Alike, carried, by_shape}
+use Rattle.spec_value.specs.Datum.{Datum, Text, fold_case}
+use Rattle.spec_value.specs.Table.{named, with_name}
+use Rattle.spec_world.specs.World.{World, Object, Slot, Verb, object_at}
+use Rattle.spec_world.specs.Inherit.{slot_of, slot_at, with_slot}
+use Rattle.spec_world.specs.WellFormed.{IsWellFormed, has_name}
+use Rattle.spec_task.specs.Turn.{is_wizard, wizardly}
+use Rattle.spec_task.specs.Turn.{Pending}
+use Rattle.spec_task.specs.Segment.{segment}
+use Rattle.spec_task.specs.Step.{Event, Step, in_range, Outcome, plain, ended, run_event, numbered, performed, play1}
+use Rattle.spec_world.specs.Questions.{Change, new_value, new_next, put_value, apply, apply_all}
+use Rattle.spec_task.proofs.StepKeeps.{segment_holds, event_holds, renumbered, next_small, numbered_keeps}
+use Rattle.spec_world.proofs.SlotChanges.{itself, names_total, object_stays, other_objects_stay}
+use Rattle.spec_world.proofs.SlotKeeps.{slot_keeps}
+use Rattle.spec_value.proofs.Keys.{keys_put}
+use Rattle.spec_world.proofs.Shapes.{Shape, shape, Alike, carried, by_shape}
 use Rattle.world.specs.Sound.{IsSimple, IsSound, verbs_covered, is_covered}
 use Rattle.std.specs.Ordering.{int_eq}
 use Rattle.std.specs.Cmp.{int_cmp_total}
@@ -30,7 +30,7 @@ module _ (w u : World) (alike : Alike w u) where
     where
       of_shape : Option Shape → Bool
       of_shape None = false
-      of_shape (Some z) = (z.0).is_wizard
+      of_shape (Some z) = (z.0).header.is_wizard
 
       same : (x : Option Object) → wizardly x ≡ of_shape (option_map shape x)
       same None = refl
@@ -100,6 +100,15 @@ sound_applied (new_value o p v) w h = go (slot_at w o p) refl
     go : (s : Option Slot) → slot_at w o p ≡ s → IsSound (put_value w o p v s)
     go None e = h
     go (Some s) e = sound_slot w o p s v h e
+sound_applied (new_next n) w h =
+    record {
+      well_formed = renumbered w (max (min n 33554432) w.next) (omega arith) (omega (arith, next_small w h.well_formed)) h.well_formed;
+      simple = record { verbs = h.simple.verbs; slots = h.simple.slots };
+    }
+
+pub sound_changes : (cs : List Change) (w : World) → IsSound w → IsSound (apply_all cs w)
+sound_changes [] w h = h
+sound_changes (c ∷ cs) w h = sound_changes cs (apply c w) (sound_applied c w h)
 
 pub sound_segment : (t : ℕ) (w : World) (p : Pending) → IsSound w → IsSound (segment t w p).world
 sound_segment = segment_holds IsSound (λ w o p s v e h. sound_slot w o p s v h e)
@@ -107,6 +116,15 @@ sound_segment = segment_holds IsSound (λ w o p s v e h. sound_slot w o p s v h 
 pub sound_event : (w : World) (e : Event) → IsSound w → IsSound (run_event w e).0
 sound_event = event_holds IsSound (λ w o p s v e h. sound_slot w o p s v h e)
 
--- a step's event leaves the world's next number
-pub next_stays : (w : World) (e : Event) → ((run_event w e).0).next ≡ w.next
-next_stays w e = event_holds (λ u. u.next ≡ w.next) (λ u o p s v found h. ap (λ (z : World). z.next) (world_stays u o p (record s { content = Some v })) ∙ h) w e refl
+pub sound_performed : (w : World) (e : Event) → IsSound w → IsSound (performed w e).0
+sound_performed w e h = go w.ending
+  where
+    go : (b : Bool) → (let r : World × Outcome = if b then (w, plain ended []) else run_event w e in IsSound (r.0))
+    go true = h
+    go false = sound_event w e h
+
+pub sound_step : (w : World) (s : Step) → IsSound w → IsTrue (in_range s) → IsSound (play1 w s).0
+unfolding play1
+sound_step w s h is =
+    sound_performed (numbered s.number w) s.event
+    (record { well_formed = numbered_keeps w s h.well_formed is; simple = record { verbs = h.simple.verbs; slots = h.simple.slots } })

@@ -6,7 +6,7 @@ use Rattle.std.specs.Ordering.{nat_cmp, is_lt}
 use Rattle.std.specs.FinMap.{is_sorted}
 use Rattle.std.specs.FinMap.Entries.{below_all}
 use Rattle.world_table.specs.Entries.{first_from}
-use Rattle.moo_spec.specs.Table.{Numbered}
+use Rattle.spec_value.specs.Table.{Numbered}
 use Rattle.world.specs.Numbered.{numbered}
 
 -- the entries at this key or above it

@@ -1,8 +1,8 @@
 -- A world with the number of the views that were opened on it to change it.
 use Rattle.std.specs.Prelude.{ℕ, refl}
 use Rattle.std.specs.Coded.{Coded, code_by, coded×, coded_ℕ}
-use Rattle.moo_spec.specs.World as meant
-use Rattle.moo_spec.specs.WorldCode.{world_code}
+use Rattle.spec_world.specs.World as meant
+use Rattle.spec_world.specs.WorldCode.{world_code}
 
 pub record Counted : Type 0 where
   pub plain : meant.World

@@ -2,5 +2,6 @@ pub mod Counted
 pub mod Counts
 pub mod Numbered
 pub mod Sound
-pub mod Rooms
+pub mod Ready
+pub mod Forks
 pub mod Objects

@@ -2,11 +2,11 @@
 use Rattle.std.specs.Prelude.{ℤ, pos, Bool, true, false, ◌&&◌, List, map}
 use Rattle.std.specs.Ordering.{int_eq}
 use Rattle.std.specs.List.{list_all}
-use Rattle.moo_spec.specs.Datum.{Datum, integer, text, fold_case}
-use Rattle.moo_spec.specs.Tree.{Expr, literal, variable, binary, plus, property, assignment, Target, to_property, Statement, evaluate, give, give_zero, Program, the_end, seq}
-use Rattle.moo_spec.specs.World.{World, Object, Verb}
-use Rattle.moo_spec.specs.WellFormed.{IsWellFormed, OfEachObject, has_name, slot_names}
-use Rattle.moo_spec.specs.Turn.{is_wizard}
+use Rattle.spec_value.specs.Datum.{Datum, integer, text, fold_case}
+use Rattle.spec_program.specs.Tree.{Expr, literal, variable, binary, property, assignment, Target, to_property, Statement, evaluate, give, give_zero, Program, the_end, seq}
+use Rattle.spec_world.specs.World.{World, Object, Verb}
+use Rattle.spec_world.specs.WellFormed.{IsWellFormed, OfEachObject, has_name, slot_names}
+use Rattle.spec_task.specs.Turn.{is_wizard}
 
 -- ---- the language so far
 
@@ -19,7 +19,7 @@ unfoldable mutual
   pub reads : Expr → Bool
   reads (literal v) = is_simple v
   reads (variable x) = true
-  reads (binary plus a b) = reads a && reads b
+  reads (binary op a b) = reads a && reads b
   reads (property o p) = reads o && reads p
   reads (assignment t e) = aims t && reads e
   reads _ = false

@@ -6,7 +6,7 @@ use std::snapshot::Snapshot;
 
 /// How often something happened. Nothing is counted when the program runs.
 #[derive(Drop)]
-pub(crate) struct Count {
+pub struct Count {
     before: Option<Snapshot<Count>>,
 }
 
@@ -23,14 +23,14 @@ impl Model for Count {
 
 impl Count {
     /// It has not happened yet.
-    pub(crate) fn zero() -> Count
+    pub fn zero() -> Count
         ensures { result ≡ 0 }
     {
         Count { before: None }
     }
 
     /// It happens once more.
-    pub(crate) fn tick(&mut self)
+    pub fn tick(&mut self)
         ensures { self.new ≡ self.old + 1 }
     {
         let next = Count {

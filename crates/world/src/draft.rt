@@ -1,9 +1,9 @@
 //! A world between two changes.
 ghost use Rattle.std.specs.Prelude.{◌≡◌, ◌↔◌, ◌<◌, ℕ, ℤ, pos, negsuc, false, [], max, IfOk, OnOk, OnErr, IsTrue, is_some, option_map, MatchOption};
-ghost use Rattle.moo_spec.specs.Table.{at, with};
-ghost use Rattle.moo_spec.specs.World.{object_at, with_object};
-ghost use Rattle.moo_spec.specs.Inherit.{slot_at};
-ghost use Rattle.moo_spec.specs.Questions.{header_at, verbs_at, ask, Agrees, apply, apply_all, new_value};
+ghost use Rattle.spec_value.specs.Table.{at, with};
+ghost use Rattle.spec_world.specs.World.{object_at, with_object};
+ghost use Rattle.spec_world.specs.Inherit.{slot_at};
+ghost use Rattle.spec_world.specs.Questions.{header_at, verbs_at, ask, Agrees, apply, apply_all, new_value, new_next};
 ghost use Rattle.footprint.specs.Meanings.{question_of, answer_of, change_of};
 ghost use Rattle.world.specs.Numbered.{numbered};
 
@@ -22,6 +22,9 @@ use std::alloc::{AllocError, Global};
 use std::marker::Model;
 use world_table::Table;
 
+// No step has this number.
+const LAST_NEXT: u64 = 33554432;
+
 /// A world that may be between two changes: nothing is promised of it. Its records are shared with the world that it came from.
 #[derive(Drop)]
 pub struct Draft {
@@ -35,8 +38,8 @@ pub struct Draft {
 
 impl Model for Draft {
     ghost use Rattle.std.specs.Prelude.{[]};
-    ghost use Rattle.moo_spec.specs.World.{World as Meant};
-    ghost use Rattle.moo_spec.specs.WorldCode.{world_code};
+    ghost use Rattle.spec_world.specs.World.{World as Meant};
+    ghost use Rattle.spec_world.specs.WorldCode.{world_code};
     ghost use Rattle.world.specs.Numbered.{numbered};
 
     ghost Value = { Meant };
@@ -95,11 +98,11 @@ impl Draft {
         self.greatest = greatest;
     }
 
-    /// The next step has at least this number.
-    pub(crate) fn raise(&mut self, next: u64)
-        ensures next { self.new ≡ record (self.old) { next = max next self.old.next } }
-        ensures no_tasks { self.old.tasks ≡ [] }
+    // The next step has at least this number.
+    fn raise(&mut self, next: u64)
+        ensures { self.new ≡ apply (new_next next) self.old }
     {
+        let next = next.min(LAST_NEXT);
         if self.next < next {
             self.next = next;
         }
@@ -171,8 +174,8 @@ impl Draft {
         }
     }
 
-    /// Whether a question has this answer. It takes no memory.
-    pub fn answers(&self, question: &Question, answer: &Answer) -> bool
+    // Whether a question has this answer. It takes no memory.
+    fn answers(&self, question: &Question, answer: &Answer) -> bool
         ensures { IsTrue result ↔ ask self.now (question_of question.now) ≡ answer_of answer.now }
     {
         match question {
@@ -185,7 +188,7 @@ impl Draft {
     }
 
     /// Whether each question that was asked has the answer that was read. It takes no memory.
-    pub fn agrees(&self, reads: &Reads) -> bool
+    pub(crate) fn agrees(&self, reads: &Reads) -> bool
         ensures { IsTrue result ↔ Agrees self.now reads.now }
     {
         for read in reads.as_slice() {
@@ -197,7 +200,7 @@ impl Draft {
     }
 
     /// Whether two worlds are the same. It takes no memory.
-    pub fn same(&self, other: &Draft) -> bool
+    pub(crate) fn same(&self, other: &Draft) -> bool
         ensures { IsTrue result ↔ self.now ≡ other.now }
     {
         same_records(&self.objects, &other.objects)
@@ -214,6 +217,10 @@ impl Draft {
     {
         match change {
             Change::Value(object, name, value) => self.put_value(object, &name, value),
+            Change::Next(next) => {
+                self.raise(next);
+                Ok(())
+            }
         }
     }
 

@@ -1,7 +1,7 @@
 //! Sound worlds stay sound.
 ghost use Rattle.std.specs.Prelude.{◌≡◌};
-ghost use Rattle.moo_spec.specs.World.{World};
-ghost use Rattle.moo_spec.specs.Questions.{Change, apply};
+ghost use Rattle.spec_world.specs.World.{World};
+ghost use Rattle.spec_world.specs.Questions.{Change, apply};
 ghost use Rattle.world.specs.Sound.{IsSound};
 ghost use Rattle.world.specs.Objects.{AddingKeeps};
 

@@ -4,13 +4,10 @@
 //! the plain world of the definitions, and the number of views that were opened to change it.
 #![tactic(auto)]
 
-mod count;
+pub mod count;
 pub mod draft;
-pub mod fixture;
-mod fixture_verbs;
+pub mod fork;
 pub mod keeping;
-pub mod objects;
+pub mod prepared;
 mod records;
-mod room_verbs;
-pub mod rooms;
 pub mod worlds;

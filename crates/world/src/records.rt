@@ -1,15 +1,12 @@
 //! Tables of records, by the numbers of objects and links.
 ghost use Rattle.std.specs.Prelude.{◌≡◌, ◌↔◌, ◌<◌, ◌^◌, ℕ, ℤ, pos, negsuc, OnOk, OnErr, IsTrue, is_some, None, option_map, MatchOption};
-ghost use Rattle.moo_spec.specs.Table.{at, with};
+ghost use Rattle.spec_value.specs.Table.{at, with};
 ghost use Rattle.world.specs.Numbered.{numbered};
 
 use footprint::link::Link;
 use footprint::object::Object;
 use std::alloc::AllocError;
 use world_table::Table;
-
-/// Records by numbers from 0 to 1,048,575.
-pub(crate) type Records<R> = Table<R, 4>;
 
 /// The record of a number.
 #[tactic(auto, using(crate::proofs::Maps::at_positive, crate::proofs::Maps::at_negative))]

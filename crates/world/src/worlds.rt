@@ -1,15 +1,17 @@
 //! Worlds and snapshots.
 ghost use Rattle.std.specs.Prelude.{◌≡◌, ◌↔◌, ◌+◌, ◌≤◌, ℕ, negsuc, false, [], max, IfOk, OnOk, OnErr, IsTrue};
-ghost use Rattle.moo_spec.specs.Questions.{ask, Agrees, apply_all};
+ghost use Rattle.spec_world.specs.Questions.{ask, Agrees, apply_all};
 ghost use Rattle.footprint.specs.Meanings.{question_of, answer_of};
 ghost use Rattle.world.specs.Sound.{IsSound};
 
 use crate::count::Count;
 use crate::draft::Draft;
+use crate::prepared::Prepared;
 use footprint::question::{Answer, Question};
 use footprint::reads::{Changes, Reads};
 use std::alloc::{AllocError, Global};
 use std::marker::Model;
+use std::snapshot::Snapshot as Remembered;
 
 /// A world. It is well formed.
 #[derive(Drop)]
@@ -38,8 +40,8 @@ pub struct Snapshot {
 }
 
 impl Model for Snapshot {
-    ghost use Rattle.moo_spec.specs.World.{World as Meant};
-    ghost use Rattle.moo_spec.specs.WorldCode.{world_code};
+    ghost use Rattle.spec_world.specs.World.{World as Meant};
+    ghost use Rattle.spec_world.specs.WorldCode.{world_code};
     ghost use Rattle.world.specs.Sound.{IsSound};
 
     ghost Value = { Meant };
@@ -114,8 +116,18 @@ impl World {
     }
 
     /// The world with changes, made ready.
+    pub fn prepare(&self, changes: &Changes) -> Result<Prepared, AllocError>
+        ensures { IfOk result (λ p. p ≡ record { before = self.now.plain; after = apply_all changes.now self.now.plain }) }
+    {
+        let draft = self.changed(changes)?;
+        Ok(Prepared {
+            before: Remembered::of(&self.draft),
+            draft,
+        })
+    }
+
     #[tactic(auto, using(crate::proofs::Changed::rest_applied, crate::proofs::Changed::all_applied))]
-    pub fn prepare(&self, changes: &Changes) -> Result<Draft, AllocError>
+    fn changed(&self, changes: &Changes) -> Result<Draft, AllocError>
         ensures { IfOk result (λ d. d ≡ apply_all changes.now self.now.plain) }
     {
         let mut draft = self.draft.share()?;
@@ -125,22 +137,23 @@ impl World {
         Ok(draft)
     }
 
-    /// The world becomes what was made ready.
-    pub fn commit(&mut self, draft: Draft)
+    /// The world, which is as it was when they were made ready, has the changes. It takes no memory.
+    pub fn commit(&mut self, prepared: Prepared)
+        requires { prepared.before ≡ self.old.plain }
+        ensures plain { self.new.plain ≡ prepared.after }
+        ensures opened { self.new.opened ≡ self.old.opened }
+    {
+        let Prepared { before: _, draft } = prepared;
+        self.replace(draft);
+    }
+
+    /// Other records for the world.
+    pub(crate) fn replace(&mut self, draft: Draft)
         requires { IsSound draft }
         ensures plain { self.new.plain ≡ draft }
         ensures opened { self.new.opened ≡ self.old.opened }
     {
         self.draft = draft;
-    }
-
-    /// A step of this number has ended: the next one has a greater number.
-    pub fn raise(&mut self, number: u64)
-        requires { number + 1 ≤ 33554432 }
-        ensures plain { self.new.plain ≡ record (self.old.plain) { next = max (number + 1) self.old.plain.next } }
-        ensures opened { self.new.opened ≡ self.old.opened }
-    {
-        self.draft.raise(number + 1);
     }
 
     /// The world is not about to end any more.
@@ -151,8 +164,8 @@ impl World {
         self.draft.reopen();
     }
 
-    /// A view was opened to change the world.
-    pub fn open(&mut self)
+    /// A fork was opened to change the world.
+    pub(crate) fn open(&mut self)
         ensures plain { self.new.plain ≡ self.old.plain }
         ensures opened { self.new.opened ≡ self.old.opened + 1 }
     {
@@ -160,7 +173,7 @@ impl World {
     }
 
     /// The records of the world, with one more owner.
-    pub fn share(&self) -> Result<Draft, AllocError>
+    pub(crate) fn share(&self) -> Result<Draft, AllocError>
         ensures { IfOk result (λ d. d ≡ self.now.plain) }
     {
         self.draft.share()

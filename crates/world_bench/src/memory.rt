@@ -7,8 +7,8 @@ use std::io;
 use std::rt::Files;
 use task_run::list::play_step;
 use task_step::step::{Event, Step, in_range};
-use world::rooms::fixture_with_rooms;
 use world::worlds::{Snapshot, World};
+use world_fixture::rooms::fixture_with_rooms;
 
 /// Prints the bytes of a snapshot where the world has not changed since the one before.
 pub fn of_snapshots<R: Print + Files + AllocGlobal>(rt: &R, mode: Mode) -> io::Result<()> {

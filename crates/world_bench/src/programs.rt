@@ -6,7 +6,7 @@ use moo_syntax::parse::parse;
 use std::alloc::Global;
 use std::io;
 use std::rt::Clock;
-use world::rooms::fixture_with_rooms;
+use world_fixture::rooms::fixture_with_rooms;
 
 /// How many statements a program has.
 const STATEMENTS: usize = 10_000;

@@ -5,8 +5,8 @@ use moo_value::text::Text;
 use std::alloc::AllocError;
 use std::io;
 use std::rt::Clock;
-use world::objects::fixture_with_objects;
 use world::worlds::World;
+use world_fixture::objects::fixture_with_objects;
 
 /// How many objects the world has besides the eight of the fixture.
 const OBJECTS: u32 = 9_992;

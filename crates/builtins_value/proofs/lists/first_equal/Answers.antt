@@ -1,5 +1,5 @@
 use Rattle.std.proofs.Common.{◌∙◌, sym, ap}
-use Rattle.moo_spec.specs.Datum.{same}
+use Rattle.spec_value.specs.Datum.{same}
 use Rattle.moo_arith.proofs.Finding.{found_here, found_further, found_first}
 use Rattle.builtins_value.proofs.lists.first_equal.Goals as goal
 

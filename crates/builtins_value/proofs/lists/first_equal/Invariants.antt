@@ -1,6 +1,6 @@
 use Rattle.std.proofs.Common.{◌≡◌}
-use Rattle.moo_spec.specs.Datum.{of_list, same}
-use Rattle.moo_spec.specs.Operators.{first_place}
+use Rattle.spec_value.specs.Datum.{of_list, same}
+use Rattle.spec_value.specs.Operators.{first_place}
 use Rattle.moo_arith.proofs.Finding.{further}
 use Rattle.builtins_value.proofs.lists.first_equal.Given as goal
 

@@ -1,5 +1,5 @@
 use Rattle.std.proofs.Common.{◌≡◌, drop}
-use Rattle.moo_spec.specs.PureBuiltins.{all_spaces}
+use Rattle.spec_value.specs.PureBuiltins.{all_spaces}
 use Rattle.builtins_value.proofs.numbers.all_spaces.Given as goal
 
 abbrev pub invariant-loop-byte : goal.invariant-loop-byte

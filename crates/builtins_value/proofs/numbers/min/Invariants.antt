@@ -1,6 +1,6 @@
 use Rattle.std.proofs.Common.{◌≡◌, drop}
 use Rattle.std.specs.Int.{int_min}
-use Rattle.moo_spec.specs.PureBuiltins.{chosen, best}
+use Rattle.spec_value.specs.PureBuiltins.{chosen, best}
 use Rattle.builtins_value.proofs.numbers.min.Given as goal
 
 abbrev pub invariant-loop-value : goal.invariant-loop-value

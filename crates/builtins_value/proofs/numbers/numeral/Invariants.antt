@@ -1,5 +1,5 @@
 use Rattle.std.proofs.Common.{◌≡◌, ◌≤◌, ◌^◌, length}
-use Rattle.moo_spec.specs.PureBuiltins.{digits_value}
+use Rattle.spec_value.specs.PureBuiltins.{digits_value}
 use Rattle.builtins_value.proofs.Rows.{capped}
 use Rattle.builtins_value.proofs.numbers.numeral.Given as goal
 

@@ -1,5 +1,5 @@
 use Rattle.std.proofs.Common.{◌≡◌, length}
-use Rattle.moo_spec.specs.PureBuiltins.{without_spaces}
+use Rattle.spec_value.specs.PureBuiltins.{without_spaces}
 use Rattle.builtins_value.proofs.numbers.without_spaces.Given as goal
 
 abbrev pub invariant-spaces : goal.invariant-spaces

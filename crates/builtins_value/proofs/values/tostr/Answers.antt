@@ -1,6 +1,6 @@
 use Rattle.std.proofs.Common.{◌++◌, ap, sym, ◌∙◌, append_assoc, string_bytes, drop, ◌+◌}
-use Rattle.moo_spec.specs.Literal.{to_text}
-use Rattle.moo_spec.specs.PureBuiltins.{joined_texts}
+use Rattle.spec_value.specs.Literal.{to_text}
+use Rattle.spec_value.specs.PureBuiltins.{joined_texts}
 use Rattle.moo_value.proofs.Characters.{is_text-append}
 use Rattle.moo_value.proofs.Written.{text_shown}
 use Rattle.builtins_value.proofs.Rows.{joined_on}

@@ -1,6 +1,6 @@
 use Rattle.std.proofs.Common.{◌≡◌, ◌++◌, drop, IsTrue, string_bytes}
-use Rattle.moo_spec.specs.Datum.{is_text}
-use Rattle.moo_spec.specs.PureBuiltins.{joined_texts}
+use Rattle.spec_value.specs.Datum.{is_text}
+use Rattle.spec_value.specs.PureBuiltins.{joined_texts}
 use Rattle.builtins_value.proofs.values.tostr.Given as goal
 
 abbrev pub invariant-loop-value : goal.invariant-loop-value

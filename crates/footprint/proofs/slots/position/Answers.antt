@@ -1,6 +1,6 @@
 use Rattle.std.proofs.Common.{◌≡◌, ◌<◌, length, sym, ◌∙◌, arith, true, false}
 use mathlib.Core.Bool.{true≢false}
-use Rattle.moo_spec.specs.Datum.{fold_case}
+use Rattle.spec_value.specs.Datum.{fold_case}
 use Rattle.footprint.proofs.Named.{found_there, found_behind}
 use Rattle.footprint.proofs.slots.position.Goals as goal
 

@@ -1,6 +1,6 @@
 use Rattle.std.proofs.Common.{◌≡◌, drop}
-use Rattle.moo_spec.specs.Datum.{fold_case}
-use Rattle.moo_spec.specs.Table.{named}
+use Rattle.spec_value.specs.Datum.{fold_case}
+use Rattle.spec_value.specs.Table.{named}
 use Rattle.footprint.proofs.slots.position.Given as goal
 
 abbrev pub invariant-loop-index : goal.invariant-loop-index

@@ -1,6 +1,6 @@
 use Rattle.std.proofs.Common.{◌∙◌, sym, ap}
 use Rattle.std.proofs.lemmas.Bool.{false≢true}
-use Rattle.moo_spec.specs.Datum.{is_text}
+use Rattle.spec_value.specs.Datum.{is_text}
 use Rattle.moo_value.specs.Errors.{code_of}
 use Rattle.machine.proofs.Messages.{message_is_text}
 use Rattle.machine.proofs.run.message_of.Goals as goal

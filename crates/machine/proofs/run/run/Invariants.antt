@@ -1,5 +1,5 @@
 use Rattle.std.proofs.Common.{◌≡◌, ◌-◌, length}
-use Rattle.moo_spec.specs.World.{World}
+use Rattle.spec_world.specs.World.{World}
 use Rattle.machine.specs.Answers.{AreReadable}
 use Rattle.machine.specs.Stands.{Verb, Standing, StandsFor, Comes}
 use Rattle.machine.proofs.run.run.Given as goal

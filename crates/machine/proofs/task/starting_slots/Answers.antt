@@ -1,5 +1,5 @@
 use Rattle.std.proofs.Common.{◌++◌, [], ◌∷◌, None, ap, ◌∙◌, w32, to_z, of_z}
-use Rattle.moo_spec.specs.Datum.{of_list}
+use Rattle.spec_value.specs.Datum.{of_list}
 use Rattle.machine.specs.Stands.{starting_values}
 use Rattle.machine.proofs.Beginning.{one_more}
 use Rattle.machine.proofs.task.starting_slots.Goals as goal

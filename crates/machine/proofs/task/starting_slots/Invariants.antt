@@ -1,6 +1,6 @@
 use Rattle.std.proofs.Common.{◌≡◌, ◌++◌, None}
 use Rattle.std.specs.Prelude.{replicate}
-use Rattle.moo_spec.specs.Datum.{of_list}
+use Rattle.spec_value.specs.Datum.{of_list}
 use Rattle.machine.specs.Stands.{starting_values}
 use Rattle.machine.proofs.task.starting_slots.Given as goal
 

@@ -1,7 +1,7 @@
 use Rattle.std.proofs.Common.{ap, rules}
 use Rattle.std.proofs.lemmas.Int.{wraps}
-use Rattle.moo_spec.specs.Datum.{integer}
-use Rattle.moo_spec.specs.Answer.{gives}
+use Rattle.spec_value.specs.Datum.{integer}
+use Rattle.spec_value.specs.Answer.{gives}
 use Rattle.moo_arith.proofs.arithmetic.negate.Goals as goal
 
 pub returns-in-Integer : goal.returns-in-Integer

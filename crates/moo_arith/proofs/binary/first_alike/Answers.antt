@@ -1,5 +1,5 @@
 use Rattle.std.proofs.Common.{◌∙◌, sym, ap}
-use Rattle.moo_spec.specs.Operators.{alike}
+use Rattle.spec_value.specs.Operators.{alike}
 use Rattle.moo_arith.proofs.Finding.{found_here, found_further, found_first}
 use Rattle.moo_arith.proofs.binary.first_alike.Goals as goal
 

@@ -1,6 +1,6 @@
 use Rattle.std.proofs.Common.{◌≡◌}
-use Rattle.moo_spec.specs.Datum.{of_list}
-use Rattle.moo_spec.specs.Operators.{alike, first_place}
+use Rattle.spec_value.specs.Datum.{of_list}
+use Rattle.spec_value.specs.Operators.{alike, first_place}
 use Rattle.moo_arith.proofs.Finding.{further}
 use Rattle.moo_arith.proofs.binary.first_alike.Given as goal
 

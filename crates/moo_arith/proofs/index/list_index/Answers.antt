@@ -1,6 +1,6 @@
 use Rattle.std.proofs.Common.{◌∙◌, ap, w32}
 use Rattle.std.proofs.lemmas.Int.{to_z-of_z}
-use Rattle.moo_spec.specs.Answer.{gives}
+use Rattle.spec_value.specs.Answer.{gives}
 use Rattle.moo_arith.proofs.Parts.{no_index_of_list, index_of_list}
 use Rattle.moo_arith.proofs.index.list_index.Goals as goal
 

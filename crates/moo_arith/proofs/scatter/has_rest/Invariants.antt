@@ -1,5 +1,5 @@
 use Rattle.std.proofs.Common.{◌≡◌, drop, map}
-use Rattle.moo_spec.specs.Scatter.{has_rest}
+use Rattle.spec_value.specs.Scatter.{has_rest}
 use Rattle.moo_arith.specs.Targets.{kind_of}
 use Rattle.moo_arith.proofs.scatter.has_rest.Given as goal
 

@@ -1,5 +1,5 @@
 use Rattle.std.proofs.Common.{◌≡◌, ◌+◌, ◌≤◌, drop, map}
-use Rattle.moo_spec.specs.Scatter.{required_count}
+use Rattle.spec_value.specs.Scatter.{required_count}
 use Rattle.moo_arith.specs.Targets.{kind_of}
 use Rattle.moo_arith.proofs.scatter.required_count.Given as goal
 

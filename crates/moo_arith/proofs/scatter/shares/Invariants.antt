@@ -1,6 +1,6 @@
 use Rattle.std.proofs.Common.{◌≡◌, ◌++◌, drop, map}
-use Rattle.moo_spec.specs.Datum.{of_list}
-use Rattle.moo_spec.specs.Scatter.{shares}
+use Rattle.spec_value.specs.Datum.{of_list}
+use Rattle.spec_value.specs.Scatter.{shares}
 use Rattle.moo_arith.specs.Targets.{kind_of}
 use Rattle.moo_arith.proofs.scatter.shares.Given as goal
 

@@ -1,5 +1,5 @@
 use Rattle.std.proofs.Common.{ap, ◌∙◌}
-use Rattle.moo_spec.specs.Datum.{is_text}
+use Rattle.spec_value.specs.Datum.{is_text}
 use Rattle.moo_syntax.proofs.Texts.{fold_text}
 use Rattle.moo_syntax.proofs.text.folded_text.Goals as goal
 

@@ -1,6 +1,6 @@
 use Rattle.std.proofs.Common.{◌≡◌, ◌≤◌, ◌-◌, ◌++◌, drop, length, IsTrue, string_bytes}
-use Rattle.moo_spec.specs.Datum.{is_text}
-use Rattle.moo_spec.specs.TextSearch.{replaced}
+use Rattle.spec_value.specs.Datum.{is_text}
+use Rattle.spec_value.specs.TextSearch.{replaced}
 use Rattle.moo_text.proofs.replace.substitute_text.Given as goal
 
 abbrev pub invariant-places : goal.invariant-places

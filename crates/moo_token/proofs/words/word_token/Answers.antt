@@ -1,5 +1,5 @@
 use Rattle.std.proofs.Common.{sym, ap, ◌∙◌}
-use Rattle.moo_spec.specs.Datum.{fold_case}
+use Rattle.spec_value.specs.Datum.{fold_case}
 use Rattle.moo_token.specs.Tokens.{keyword_of, error_of}
 use Rattle.moo_token.proofs.ReservedWords.{keyword_is, error_is, identifier_is}
 use Rattle.moo_token.proofs.words.word_token.Goals as goal

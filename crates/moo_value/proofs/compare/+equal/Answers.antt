@@ -1,5 +1,5 @@
 use Rattle.std.proofs.Common.{◌≤◌, arith}
-use Rattle.moo_spec.specs.Datum.{of_list}
+use Rattle.spec_value.specs.Datum.{of_list}
 use Rattle.moo_value.specs.Depth.{depth, data_depth}
 use Rattle.moo_value.proofs.Listing.{depth_item, same_lists}
 use Rattle.moo_value.proofs.compare.+equal.Goals as goal

@@ -1,7 +1,7 @@
 use Rattle.std.proofs.Common.{◌≡◌, ◌+◌, ◌*◌, take, map}
-use Rattle.moo_spec.specs.Datum.{of_list}
+use Rattle.spec_value.specs.Datum.{of_list}
 use Rattle.moo_value.specs.Depth.{depth, data_depth}
-use Rattle.moo_spec.specs.Datum.{folded}
+use Rattle.spec_value.specs.Datum.{folded}
 use Rattle.moo_value.proofs.compare.+same.Given as goal
 
 abbrev pub decreases-same : goal.decreases-same

@@ -1,5 +1,5 @@
 use Rattle.std.proofs.Common.{IsTrue, take}
-use Rattle.moo_spec.specs.Datum.{of_list, are_values}
+use Rattle.spec_value.specs.Datum.{of_list, are_values}
 use Rattle.moo_value.proofs.items.know_all.Given as goal
 
 abbrev pub invariant-loop-item : goal.invariant-loop-item

@@ -1,5 +1,5 @@
 use Rattle.std.proofs.Common.{remove, ap, ◌∙◌, sym, Some}
-use Rattle.moo_spec.specs.Datum.{of_list}
+use Rattle.spec_value.specs.Datum.{of_list}
 use Rattle.moo_value.proofs.Listing.{same_items, of_list-remove, item_at-of_list}
 use Rattle.moo_value.proofs.items.remove.Goals as goal
 

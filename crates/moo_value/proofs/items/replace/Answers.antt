@@ -1,6 +1,6 @@
 use Rattle.std.proofs.Common.{ap, ◌∙◌, sym, Some}
 use Rattle.std.proofs.Math.ListN.{set}
-use Rattle.moo_spec.specs.Datum.{of_list}
+use Rattle.spec_value.specs.Datum.{of_list}
 use Rattle.moo_value.proofs.Listing.{same_items, of_list-set, item_at-of_list}
 use Rattle.moo_value.proofs.items.replace.Goals as goal
 

@@ -1,5 +1,5 @@
 use Rattle.std.proofs.Common.{◌≡◌, ◌+◌, ◌-◌, ◌^◌, ◌<◌, min, drop}
-use Rattle.moo_spec.specs.Datum.{of_list, data_weight}
+use Rattle.spec_value.specs.Datum.{of_list, data_weight}
 use Rattle.moo_value.proofs.items.weight.Given as goal
 
 abbrev pub invariant-loop-item : goal.invariant-loop-item

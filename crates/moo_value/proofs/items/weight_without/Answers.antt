@@ -1,6 +1,6 @@
 use Rattle.std.proofs.Common.{◌≡◌, ◌+◌, arith, get_or}
-use Rattle.moo_spec.specs.Datum.{of_list, weight, data_weight}
-use Rattle.moo_spec.specs.Places.{without}
+use Rattle.spec_value.specs.Datum.{of_list, weight, data_weight}
+use Rattle.spec_value.specs.Places.{without}
 use Rattle.moo_value.proofs.Listing.{data_weight-without, data_weight-around}
 use Rattle.moo_value.proofs.items.weight_without.Goals as goal
 

@@ -1,7 +1,7 @@
 use Rattle.std.proofs.Common.{◌≡◌, ◌∷◌, [], ◌++◌, List, ℕ, ◌<◌, IsTrue, IsFalse, Some, None, string_bytes, ap, sym, ◌∙◌, arith}
 use Rattle.std.proofs.lemmas.Str.Ascii.{encode_ascii}
-use Rattle.moo_spec.specs.Datum.{is_text}
-use Rattle.moo_spec.specs.Literal.{escaped}
+use Rattle.spec_value.specs.Datum.{is_text}
+use Rattle.spec_value.specs.Literal.{escaped}
 use Rattle.moo_value.proofs.EscapedTexts.{text_on, text_end, text_goes, first_same, second_same, not_both}
 use Rattle.moo_value.proofs.read.read_text.Goals as goal
 

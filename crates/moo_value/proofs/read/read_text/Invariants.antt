@@ -1,6 +1,6 @@
 use Rattle.std.proofs.Common.{◌≡◌, ℕ, ◌≤◌, List, ◌∷◌, ◌++◌, IsTrue, length, string_bytes}
-use Rattle.moo_spec.specs.Datum.{is_text}
-use Rattle.moo_spec.specs.Literal.{escaped}
+use Rattle.spec_value.specs.Datum.{is_text}
+use Rattle.spec_value.specs.Literal.{escaped}
 use Rattle.moo_value.proofs.read.read_text.Given as goal
 
 abbrev pub invariant-characters : goal.invariant-characters

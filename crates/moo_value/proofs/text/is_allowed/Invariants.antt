@@ -1,5 +1,5 @@
 use Rattle.std.proofs.Common.{◌≡◌, drop}
-use Rattle.moo_spec.specs.Datum.{is_text}
+use Rattle.spec_value.specs.Datum.{is_text}
 use Rattle.moo_value.proofs.text.is_allowed.Given as goal
 
 abbrev pub invariant-loop-c : goal.invariant-loop-c

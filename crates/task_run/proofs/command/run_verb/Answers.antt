@@ -1,5 +1,5 @@
 use Rattle.std.proofs.Common.{◌≡◌, pos, rules, w32, to_z, of_z}
-use Rattle.moo_spec.specs.Commands.{command}
+use Rattle.spec_task.specs.Commands.{command}
 use Rattle.task_run.proofs.Played.{for_its_task}
 use Rattle.task_run.proofs.command.run_verb.Goals as goal
 

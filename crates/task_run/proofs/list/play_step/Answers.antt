@@ -1,9 +1,15 @@
-use Rattle.std.proofs.Common.{ap, ◌∙◌}
-use Rattle.moo_spec.specs.Step.{Step}
-use Rattle.task_run.proofs.Playing.{played_once}
+use Rattle.std.proofs.Common.{refl, subst, ◌∙◌, rules}
+use Rattle.spec_world.specs.World.{World}
+use Rattle.spec_task.specs.Step.{play1}
+use Rattle.world.specs.Forks.{start_of, changed_in}
+use Rattle.task_run.specs.Performed.{StepsTo}
+use Rattle.task_run.proofs.Playing.{is_played}
 use Rattle.task_run.proofs.list.play_step.Goals as goal
 
 pub returns-clause-ok : goal.returns-clause-ok
 returns-clause-ok c =
-    played_once c.args.world.now.plain c.perform.new.world.plain c.raise.new.self.plain c.args.step.now c.from.result c.in_ok-outcome.outcome
-    c.in_ok-outcome.ensures.ok c.raise.ensures.plain (c.from.ensures ∙ ap (λ (s : Step). s.number) c.step.view_is)
+    let stepped : StepsTo (play1 c.args.world.now.plain c.args.step.now) (changed_in c.run_step.new.view) c.in_ok-outcome.outcome =
+    subst (λ (w : World). StepsTo (play1 w c.args.step.now) (changed_in c.run_step.new.view) c.in_ok-outcome.outcome) c.open-live.ensures.unchanged
+    (c.in_ok-outcome.ensures.played ((start_of c.run_step.new.view).plain) refl).1 in
+    let kept = c.keep.ensures.plain ∙ stepped.0 in
+    is_played _ _ _ (search (rules, kept), stepped.1)

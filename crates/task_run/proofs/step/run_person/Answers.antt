@@ -1,5 +1,5 @@
 use Rattle.std.proofs.Common.{◌≡◌, pos, ap, ◌∙◌, rules, w32, to_z, of_z}
-use Rattle.moo_spec.specs.Questions.{Header}
+use Rattle.spec_world.specs.World.{Header}
 use Rattle.task_run.proofs.LineRules.{person_goes_on}
 use Rattle.task_run.proofs.SoundSteps.{sound_after_read}
 use Rattle.task_run.proofs.step.run_person.Goals as goal

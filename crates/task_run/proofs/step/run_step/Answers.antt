@@ -1,18 +1,22 @@
-use Rattle.std.proofs.Common.{◌≡◌, false, ap}
-use Rattle.moo_spec.specs.Step.{Step, run_event as event_run}
+use Rattle.std.proofs.Common.{◌≡◌, ◌+◌, ap, ◌∙◌}
+use Rattle.spec_world.specs.Questions.{new_next}
+use Rattle.spec_task.specs.Step.{Step}
+use Rattle.spec_task.proofs.StepKeeps.{number_small}
 use Rattle.task_step.specs.StepView.{event_of}
-use Rattle.task_run.specs.Performed.{performed}
-use Rattle.task_run.proofs.Stepping.{went_on}
-use Rattle.task_run.proofs.LineRules.{step_of_event}
-use Rattle.task_run.proofs.SoundSteps.{sound_after_step}
+use Rattle.task_run.proofs.Stepping.{raised_first}
+use Rattle.task_run.proofs.SoundSteps.{sound_after_change}
 use Rattle.task_run.proofs.step.run_step.Goals as goal
 
-pub returns-clause-sound : goal.returns-clause-sound
-returns-clause-sound g c =
+pub perform-requires-clause-sound : goal.perform-requires-clause-sound
+perform-requires-clause-sound g c =
+    let view = g.V.View in
+    sound_after_change view.holds view.now c.args.view.now c.raise_next.new.view (new_next (c.from.result + 1)) c.requires.sound c.in_ok-_raised.ensures.left
+
+pub returns-clause-played : goal.returns-clause-played
+returns-clause-played g c =
     let view = g.V.View in
     let event : event_of (c.step.inside).event ≡ (c.args.step.now).event = ap (λ (s : Step). s.event) c.step.view_is in
-    let left = rw c.if-branch.false at c.in_ok-read_ending.ensures.left in
-    let rest = rw event at c.run_event.ensures.played in
-    sound_after_step view.holds view.now c.args.view.now c.run_event.new.view c.args.step.now c.run_event.result c.requires.sound
-    (went_on view.holds view.now c.args.view.now c.read_ending.new.view c.run_event.new.view (λ w. w.ending ≡ false) (λ w. performed w c.args.step.now)
-    (λ w. event_run w (c.args.step.now).event) c.run_event.result left rest (λ w e. step_of_event w c.args.step.now e))
+    let number : c.from.result + 1 ≡ (c.args.step.now).number + 1 = ap (λ n. n + 1) (c.from.ensures ∙ ap (λ (s : Step). s.number) c.step.view_is) in
+    let rest = rw event at c.perform.ensures.played in
+    raised_first view.holds view.now c.args.view.now c.raise_next.new.view c.perform.new.view c.args.step.now (c.from.result + 1) c.perform.result (number_small c.args.step.now c.requires.range) number
+    c.in_ok-_raised.ensures.left rest

@@ -1,5 +1,5 @@
 use Rattle.std.proofs.Common.{◌≡◌, List, ℕ, ◌++◌, ◌∙◌, ap, sym, rules, w32, to_z, of_z}
-use Rattle.moo_spec.specs.Step.{verb_spelled}
+use Rattle.spec_task.specs.Step.{verb_spelled}
 use Rattle.task_run.proofs.told.caller_text.Goals as goal
 
 pub returns : goal.returns

@@ -1,6 +1,6 @@
 use Rattle.std.proofs.Common.{◌≡◌, ◌∙◌, List, ℕ, [], ◌∷◌, ◌++◌, pos, ap, sym, rules, w32, to_z, of_z}
 use Rattle.std.proofs.lemmas.Result.{IfOk-equal}
-use Rattle.moo_spec.specs.Turn.{Traced}
+use Rattle.spec_task.specs.Turn.{Traced}
 use Rattle.task_step.specs.OutcomeView.{lines_of}
 use Rattle.task_run.proofs.told.push_caller.Goals as goal
 

@@ -1,5 +1,5 @@
 use Rattle.std.proofs.Common.{◌≡◌, ◌++◌, drop, pos}
-use Rattle.moo_spec.specs.Step.{called_from}
+use Rattle.spec_task.specs.Step.{called_from}
 use Rattle.task_step.specs.OutcomeView.{lines_of}
 use Rattle.task_run.proofs.told.push_callers.Given as goal
 

@@ -1,5 +1,5 @@
 use Rattle.std.proofs.Common.{◌≡◌, drop}
-use Rattle.moo_spec.specs.Commands.{verb_named}
+use Rattle.spec_task.specs.Commands.{verb_named}
 use Rattle.task_run.proofs.verb.find_verb.Given as goal
 
 abbrev pub invariant-loop-verb : goal.invariant-loop-verb

@@ -1,6 +1,6 @@
 use Rattle.std.proofs.Common.{◌≡◌, IsTrue, length}
-use Rattle.moo_spec.specs.Datum.{is_text}
-use Rattle.moo_spec.specs.Commands.{unspaced}
+use Rattle.spec_value.specs.Datum.{is_text}
+use Rattle.spec_task.specs.Commands.{unspaced}
 use Rattle.task_run.proofs.word.skip_spaces.Given as goal
 
 abbrev pub invariant-loop-first : goal.invariant-loop-first

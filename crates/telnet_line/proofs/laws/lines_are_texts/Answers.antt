@@ -1,6 +1,6 @@
 use Rattle.std.proofs.Common.{[], refl, sym, subst, arith}
 use Rattle.std.specs.List.{AllByRecursion}
-use Rattle.moo_spec.specs.Telnet.{IsText, IsEvent}
+use Rattle.telnet_line.specs.Telnet.{IsText, IsEvent}
 use Rattle.telnet_line.proofs.Texts.{texts, text_of}
 use Rattle.telnet_line.proofs.laws.lines_are_texts.Goals as goal
 

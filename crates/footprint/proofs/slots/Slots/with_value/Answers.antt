@@ -1,7 +1,7 @@
 use Rattle.std.proofs.Common.{◌≡◌, List, subst, ◌∙◌, Some, option_map}
-use Rattle.moo_spec.specs.Datum.{Text, fold_case}
-use Rattle.moo_spec.specs.World.{Slot}
-use Rattle.moo_spec.specs.Table.{named, with_name}
+use Rattle.spec_value.specs.Datum.{Text, fold_case}
+use Rattle.spec_world.specs.World.{Slot}
+use Rattle.spec_value.specs.Table.{named, with_name}
 use Rattle.footprint.proofs.Filled.{Stands, Fills, filled, filled_order, with_content}
 use Rattle.footprint.proofs.slots.Slots.with_value.Goals as goal
 

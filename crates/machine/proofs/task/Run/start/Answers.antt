@@ -1,8 +1,8 @@
 use Rattle.std.proofs.Common.{◌++◌, length, None, refl, sym, ap, ◌∙◌, subst, w32}
 use Rattle.std.specs.Prelude.{replicate}
 use Rattle.std.proofs.lemmas.Int.{to_z-of_z}
-use Rattle.moo_spec.specs.Datum.{of_list}
-use Rattle.moo_spec.specs.Commands.{starting}
+use Rattle.spec_value.specs.Datum.{of_list}
+use Rattle.spec_task.specs.Commands.{starting}
 use Rattle.moo_compiler.specs.Names.{names_of}
 use Rattle.machine.specs.Stands.{HasVariables, starting_values}
 use Rattle.machine.proofs.Beginning.{begins}

@@ -1,4 +1,4 @@
-use Rattle.moo_spec.specs.Datum.{of_list}
+use Rattle.spec_value.specs.Datum.{of_list}
 use Rattle.moo_value.proofs.Listing.{sound-append}
 use Rattle.moo_value.proofs.value.Value.push.Goals as goal
 

@@ -1,7 +1,7 @@
 use Rattle.std.proofs.Common.{◌≡◌, ℕ, ◌-◌, List, ◌++◌, length, take, sym, ap, ◌∙◌, subst, arith}
 use Rattle.std.specs.Prelude.{min}
 use Rattle.std.proofs.lemmas.List.{take_min}
-use Rattle.moo_spec.specs.Telnet.{max_line, IsText}
+use Rattle.telnet_line.specs.Telnet.{max_line, IsText}
 use Rattle.telnet_line.specs.TelnetSteps.{with_all}
 use Rattle.telnet_line.proofs.Texts.{text_all}
 use Rattle.telnet_line.proofs.line_buffer.LineBuffer.push_all.Goals as goal

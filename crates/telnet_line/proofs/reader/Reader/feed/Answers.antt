@@ -1,5 +1,5 @@
 use Rattle.std.proofs.Common.{ℕ, List, sym, ap, ◌∙◌, subst}
-use Rattle.moo_spec.specs.Telnet.{IsText}
+use Rattle.telnet_line.specs.Telnet.{IsText}
 use Rattle.telnet_line.specs.Events.{events_given}
 use Rattle.telnet_line.specs.Drafts.{begun_of}
 use Rattle.telnet_line.proofs.Readings.{fed, fed_texts}

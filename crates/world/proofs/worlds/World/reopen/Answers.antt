@@ -1,5 +1,5 @@
 use Rattle.std.proofs.Common.{sym, subst}
-use Rattle.moo_spec.specs.World.{World}
+use Rattle.spec_world.specs.World.{World}
 use Rattle.world.specs.Sound.{IsSound}
 use Rattle.world.proofs.Settled.{reopened_is_sound}
 use Rattle.world.proofs.worlds.World.reopen.Goals as goal

@@ -1,0 +1,3 @@
+pub mod Plays
+pub mod Told
+pub mod Writing

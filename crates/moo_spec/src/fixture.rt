@@ -1,9 +1,0 @@
-//! The small world of the worked rows.
-ghost use Rattle.moo_spec.specs.Fixture.{fixture};
-ghost use Rattle.moo_spec.specs.WellFormed.{IsWellFormed};
-
-/// The fixture is a well-formed world.
-#[tactic(auto, using(crate::proofs::FixtureFits::fixture_fits))]
-pub fn fits()
-    ensures { IsWellFormed fixture }
-{}

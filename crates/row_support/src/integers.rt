@@ -1,0 +1,16 @@
+//! The integers in values and properties.
+use footprint::slot::Slot;
+use moo_value::value::{Shown, Value};
+
+/// The integer that a value is.
+pub fn integer(value: &Value) -> Option<i32> {
+    match value.shown() {
+        Shown::Integer(number) => Some(number),
+        _ => None,
+    }
+}
+
+/// The integer that a property has.
+pub fn integer_in(slot: Option<Slot>) -> Option<i32> {
+    integer(&slot?.content?)
+}

@@ -1,0 +1,110 @@
+//! Worlds before and after a run.
+use crate::row::{KEY, TWO_COUNTED, TWO_COUNTS, play, script};
+use footprint::question::{Answer, Question};
+use moo_value::text::Text;
+use row_support::integers::integer_in;
+use speculate::gate::Free;
+use std::alloc::{AllocError, Global};
+use std::sync::Wait;
+use std::test::Fail;
+use std::thread::Threads;
+use world::worlds::World;
+use world_fixture::fixture::fixture;
+
+/// The room of the fixture.
+const ROOM: i32 = 3;
+
+// The number that the room has counted to.
+fn counted(alloc: Global, world: &World) -> Result<Option<i32>, AllocError> {
+    let counter = Text::from_str(alloc, "n")?;
+    let Answer::Slot(slot) = world.ask(&Question::Slot(ROOM, counter))? else {
+        return Ok(None);
+    };
+    Ok(integer_in(slot))
+}
+
+/// Lines, the counter and the next step after them, and what they print.
+type Script = (&'static [u8], i32, u64, &'static str);
+
+const AFTER: [Script; 3] = [
+    (b"", 0, 1, ""),
+    (
+        b"line 3 count\nline 2 count\n",
+        1,
+        3,
+        "step 1 none ticks 0\nstep 2 value 1 ticks 5\n",
+    ),
+    (TWO_COUNTS, 2, 3, TWO_COUNTED),
+];
+
+// Whether a run left a world with this counter and this next step.
+fn is_left(
+    alloc: Global,
+    world: &Option<World>,
+    count: i32,
+    next: u64,
+) -> Result<bool, AllocError> {
+    match world {
+        Some(world) => Ok(world.next() == next && counted(alloc, world)? == Some(count)),
+        None => Ok(false),
+    }
+}
+
+// What lines print or answer otherwise on a world, and the world after them.
+fn played_on<R: Threads + Wait + Sync + AllocGlobal>(
+    rt: &R,
+    world: World,
+    lines: &[u8],
+    out: &str,
+) -> Result<(String, Option<World>), AllocError> {
+    let alloc = rt.alloc();
+    let lines = script(alloc, KEY, lines)?;
+    let played = play(rt, &Free, "1", Ok(world), Ok(lines));
+    let text = played.others(alloc, out, "", 0)?;
+    Ok((text, played.world))
+}
+
+// What a script prints, answers or leaves otherwise.
+fn others_of<R: Threads + Wait + Sync + AllocGlobal>(
+    rt: &R,
+    row: &Script,
+) -> Result<String, AllocError> {
+    let alloc = rt.alloc();
+    let (lines, count, next, out) = row;
+    let (mut text, world) = played_on(rt, fixture(alloc)?, lines, out)?;
+    if !is_left(alloc, &world, *count, *next)? {
+        text.push_str("another world; ")?;
+    }
+    Ok(text)
+}
+
+// What some scripts print, answer or leave otherwise.
+fn others<R: Threads + Wait + Sync + AllocGlobal>(
+    rt: &R,
+    scripts: &[Script],
+) -> Result<String, AllocError> {
+    let mut text = String::new(rt.alloc());
+    for script in scripts {
+        text.push_str(others_of(rt, script)?.as_str())?;
+    }
+    Ok(text)
+}
+
+#[test]
+fn worlds_at_the_end(rt: HostRuntime) -> Result<(), Fail> {
+    assert_eq!(rt; others(&rt, &AFTER)?.as_str(), "");
+    Ok(())
+}
+
+// A run goes on where the world stands: with its counter and its next step.
+#[test]
+fn a_second_run(rt: HostRuntime) -> Result<(), Fail> {
+    let (others, world) = played_on(&rt, fixture(rt.alloc())?, TWO_COUNTS, TWO_COUNTED)?;
+    assert_eq!(rt; others.as_str(), "");
+    let world = world.ok_or("no world")?;
+    let out = "step 3 value 3 ticks 5\nstep 4 value 4 ticks 5\n";
+    let (others, world) = played_on(&rt, world, TWO_COUNTS, out)?;
+    assert_eq!(rt; others.as_str(), "");
+    assert!(rt; world.is_some());
+    Ok(())
+}

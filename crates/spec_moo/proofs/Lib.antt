@@ -1,0 +1,9 @@
+pub mod Weights
+pub mod EffectTests
+pub mod Suits
+pub mod Lighter
+pub mod Sizes
+pub mod Stages
+pub mod TurnsStay
+pub mod Courses
+pub mod NativeStages

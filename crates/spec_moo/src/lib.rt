@@ -1,0 +1,4 @@
+//! The meaning of the whole language: turns, segments and built-in functions, by definitions alone.
+#![tactic(auto)]
+
+pub mod segments;

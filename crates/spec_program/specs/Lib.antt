@@ -1,0 +1,10 @@
+pub mod Tree
+pub mod TreeCode
+pub mod Construct
+pub mod Place
+pub mod Names
+pub mod Spelling
+pub mod Tokens
+pub mod Reading
+pub mod ReadExpressions
+pub mod ReadPrograms

@@ -1,0 +1,2 @@
+//! The meaning of programs: source trees, and the parts of their constructs, by definitions alone.
+#![tactic(auto)]

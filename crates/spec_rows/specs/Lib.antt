@@ -1,0 +1,10 @@
+pub mod Fixture
+pub mod Opened
+pub mod PlaceRows
+pub mod Rows
+pub mod LineRows
+pub mod PermissionRows
+pub mod FamilyRows
+pub mod TextRows
+pub mod Told
+pub mod WorldRows

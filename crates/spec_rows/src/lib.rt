@@ -1,0 +1,11 @@
+//! Worked rows of the definitions, on the small world of the fixture.
+#![tactic(auto)]
+
+pub mod families;
+pub mod fixture;
+pub mod lines;
+pub mod permissions;
+pub mod places;
+pub mod rows;
+pub mod texts;
+pub mod worlds;

@@ -1,0 +1,13 @@
+pub mod Datum
+pub mod DatumCode
+pub mod Operators
+pub mod Table
+pub mod Answer
+pub mod Literal
+pub mod Order
+pub mod Places
+pub mod Indexing
+pub mod TextSearch
+pub mod Scatter
+pub mod PureBuiltins
+pub mod Laws

@@ -1,0 +1,5 @@
+//! The meaning of worlds: objects, tasks and links, inheritance, well-formedness, questions and changes, by definitions alone.
+#![tactic(auto)]
+
+pub mod inheritance;
+pub mod slots;

@@ -1,0 +1,3 @@
+mod FixtureIsSimple
+mod RoomsAreSound
+mod ObjectsAreSound

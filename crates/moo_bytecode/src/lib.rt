@@ -7,5 +7,6 @@
 
 pub mod around;
 pub mod draft;
+mod draft_expression;
 pub mod laws;
 pub mod operation;

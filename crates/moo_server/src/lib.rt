@@ -6,6 +6,4 @@ pub mod given;
 mod parts;
 pub mod play;
 pub mod printing;
-#[cfg(test)]
-mod tests;
 pub mod words;

@@ -9,8 +9,6 @@ pub mod error;
 mod items;
 pub mod operator;
 pub mod read;
-#[cfg(test)]
-mod tests;
 pub mod text;
 pub mod value;
 pub mod write;

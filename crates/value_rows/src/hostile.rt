@@ -1,11 +1,11 @@
 //! Hostile values: deep, shared and long ones.
-use crate::answer::limited;
-use crate::compare::{equal, order, same};
-use crate::error::MooError;
-use crate::read::{NESTING_LIMIT, from_literal};
-use crate::text::Text;
-use crate::value::{Shown, Value};
-use crate::write::{to_literal, to_str};
+use moo_value::answer::limited;
+use moo_value::compare::{equal, order, same};
+use moo_value::error::MooError;
+use moo_value::read::{NESTING_LIMIT, from_literal};
+use moo_value::text::Text;
+use moo_value::value::{Shown, Value};
+use moo_value::write::{to_literal, to_str};
 use std::alloc::{AllocError, Global};
 use std::cmp::Ordering;
 use std::test::Fail;

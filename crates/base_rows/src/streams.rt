@@ -1,8 +1,8 @@
 //! Streams with the events that RFC 854 and the rules of the line give them, cut in pieces.
 
-use crate::{Event, Reader};
 use std::alloc::{AllocError, Global};
 use std::test::Fail;
+use telnet_line::{Event, Reader};
 
 /// Streams, each with its events as they print.
 const STREAMS: [(&[u8], &str); 28] = [

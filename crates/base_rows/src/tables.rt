@@ -1,8 +1,8 @@
 //! What no clause says: that calls with ample memory succeed, and how many blocks they build.
-use crate::Table;
 use std::alloc::{AllocError, Global};
 use std::process::Abort;
 use std::test::Fail;
+use world_table::Table;
 
 fn crosses<T: Send + Sync>(_: &T) {}
 

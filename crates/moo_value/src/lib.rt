@@ -6,7 +6,7 @@
 pub mod answer;
 pub mod compare;
 pub mod error;
-mod items;
+pub mod items;
 pub mod operator;
 pub mod read;
 pub mod text;

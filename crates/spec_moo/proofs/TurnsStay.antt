@@ -149,7 +149,7 @@ caught_stays s p q ps e k h o = effected_stays s p q.construct ps e k h o
 passing_stays : (s : Scene) (p : Pending) (l : Leaving) (q : Piece) (ps : List Piece) (r : Option Effect) → SuitsSome q.construct r
     → Linked q.construct ps (root p) → FramesStand p.outer → StandsStill (passing s p l q ps r)
 unfolding SuitsSome
-passing_stays s p l q ps None k h o = to_stays s p (leave (passed_by q.construct l)) ps (q.construct, h) o
+passing_stays s p l q ps None k h o = to_stays s p (leave (passed_by q.construct q.part l)) ps (q.construct, h) o
 passing_stays s p l q ps (Some e) k h o = caught_stays s p q ps e k h o
 
 native_back : (s : Scene) (p : Pending) (n : Native) (v : Datum) (es : List Entry) → FramesStand es → StandsStill (back_in_native s p n v es)

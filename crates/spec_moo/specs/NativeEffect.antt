@@ -3,16 +3,16 @@ use Rattle.std.specs.Prelude.{ℤ, List}
 use Rattle.spec_value.specs.Datum.{Data, ErrorCode}
 use Rattle.spec_value.specs.Answer.{Answer, raises}
 use Rattle.spec_program.specs.Tree.{Program}
-use Rattle.spec_world.specs.World.{Call, Start, Entry, Native, Waiting}
+use Rattle.spec_world.specs.World.{Call, Start, Native, Waiting}
 use Rattle.spec_moo.specs.Scene.{Scene}
 use Rattle.spec_moo.specs.Leaving.{Failure}
 
--- the task that calls it, and the verb that does: `outer` are the verbs and built-ins that wait for this verb, the innermost first
+-- the task that calls it, and the verb that does: `callers` are the verbs that wait for this verb, the innermost first
 pub record Caller : Type 0 where
   pub player : ℤ
   pub call : Call
   pub start : Start
-  pub outer : List Entry
+  pub callers : List Call
 
 -- `begins` calls a verb, or runs a program, with these arguments, and waits for its value as this stage
 pub data NativeEffect : Type 0 where

@@ -130,8 +130,8 @@ catches s (of_statement (finished p q)) (suc zero) held l = finally_catches l
 catches s c n held l = None
 
 -- and as what
-abbrev pub passed_by : Construct → Leaving → Leaving
-passed_by (of_statement (for_each x e p)) l = out_of_loop l
-passed_by (of_statement (for_range x a b p)) l = out_of_loop l
-passed_by (of_statement (repeat x c p)) l = out_of_loop l
-passed_by c l = l
+abbrev pub passed_by : Construct → ℕ → Leaving → Leaving
+passed_by (of_statement (for_each x e p)) (suc (suc zero)) l = out_of_loop l
+passed_by (of_statement (for_range x a b p)) (suc (suc (suc zero))) l = out_of_loop l
+passed_by (of_statement (repeat x c p)) (suc (suc zero)) l = out_of_loop l
+passed_by c n l = l

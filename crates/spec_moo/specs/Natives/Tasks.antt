@@ -1,11 +1,11 @@
 -- Built-in functions over tasks, links and the server (Programmer's Manual, "Operations on Tasks" and "Operations on Network Connections"): `notify` to `shutdown`.
-use Rattle.std.specs.Prelude.{ℕ, zero, suc, ◌+◌, ◌%◌, ℤ, pos, negsuc, neg_ℤ, Bool, true, false, ◌&&◌, ◌||◌, List, [], ◌∷◌, is_some, is_none, if◌then◌else◌, Option, Some, None, codes}
+use Rattle.std.specs.Prelude.{ℕ, zero, suc, ◌+◌, ◌%◌, ℤ, pos, negsuc, neg_ℤ, Bool, true, false, ◌||◌, List, [], ◌∷◌, is_some, is_none, if◌then◌else◌, Option, Some, None, codes}
 use Rattle.std.specs.Ordering.{int_eq}
 use Rattle.rand_chacha.specs.ChaCha.{word_at, key_of}
 use Rattle.spec_value.specs.Datum.{Datum, integer, object, text, Text, invalid_argument, limit_exceeded}
 use Rattle.spec_value.specs.Literal.{to_text}
 use Rattle.spec_value.specs.Table.{at, with, without}
-use Rattle.spec_world.specs.World.{World, Object, Call, Entry, frame_entry, native_entry, Task, Waiting, forked, timed, idle, reading_on, object_at}
+use Rattle.spec_world.specs.World.{World, Object, Call, Entry, frame_entry, native_entry, Task, Waiting, forked, timed, idle, reading_on}
 use Rattle.spec_world.specs.Permissions.{is_wizard, act_as, control_task, administer}
 use Rattle.spec_world.specs.Links.{connection_of, reader_of}
 use Rattle.spec_moo.specs.Scene.{Scene, in_world, with_own_id, moment_after}
@@ -47,6 +47,10 @@ abbrev pub innermost : List Entry → Option Call
 innermost [] = None
 innermost (frame_entry f ∷ es) = Some f.call
 innermost (native_entry n ∷ es) = innermost es
+
+abbrev pub first_of : List Call → Option Call
+first_of [] = None
+first_of (c ∷ cs) = Some c
 
 abbrev pub programmer_of : Option Call → ℤ
 programmer_of None = neg_ℤ (pos 1)
@@ -143,7 +147,7 @@ set_task_perms_row s c _ = of_other_kinds s
 
 -- of the verb that called this one
 abbrev pub caller_perms_row : Scene → Caller → List Datum → NativeEffect
-caller_perms_row s c args = answers_with s (object (programmer_of (innermost c.outer)))
+caller_perms_row s c args = answers_with s (object (programmer_of (first_of c.callers)))
 
 -- ---- `random`: the words of ChaCha20 under the step's key, in the stream of its number
 

@@ -1,0 +1,6 @@
+pub mod Instruction
+pub mod Layout
+pub mod Names
+pub mod Performing
+pub mod Machine
+pub mod Stands

@@ -1,14 +1,13 @@
 //! From a tree to its code.
 ghost use Rattle.std.specs.Prelude.{◌≡◌, ◌++◌, [], ◌∷◌, IfOk, OnOk};
 ghost use Rattle.spec_program.specs.Tree.{Program};
-ghost use Rattle.moo_tree.specs.ExpressionView.{target_place};
 ghost use Rattle.moo_tree.specs.StatementView.{program_of};
 ghost use Rattle.moo_compiler.specs.Names.{expr_names, target_names, statement_names, program_names, names_of};
 ghost use Rattle.moo_compiler.specs.Code.{expr_code, statement_code, program_code, code_of};
 
 use crate::code::{Code, Instruction};
 use crate::names::Names;
-use moo_tree::expression::{Expression, ExpressionNode, Target};
+use moo_tree::expression::{Expression, ExpressionNode, TargetNode};
 use moo_tree::statement::{Statement, StatementNode, Tree};
 use std::alloc::{AllocError, Global};
 
@@ -39,7 +38,7 @@ fn name_statement<'a>(names: &mut Names<'a>, statement: &'a Statement) -> Result
     match &statement.node {
         StatementNode::Evaluate(value) => name_expression(names, value),
         StatementNode::Return(Some(value)) => name_expression(names, value),
-        StatementNode::Return(None) => Ok(()),
+        _ => Ok(()),
     }
 }
 
@@ -48,7 +47,6 @@ fn name_expression<'a>(names: &mut Names<'a>, expression: &'a Expression) -> Res
     ensures { OnOk result (names.new ≡ expr_names expression.now names.old) }
 {
     match &expression.node {
-        ExpressionNode::Literal(_) => Ok(()),
         ExpressionNode::Variable(name) => names.mention(name),
         ExpressionNode::Binary(_, left, right) => {
             name_expression(names, left)?;
@@ -58,11 +56,14 @@ fn name_expression<'a>(names: &mut Names<'a>, expression: &'a Expression) -> Res
             name_expression(names, object)?;
             name_expression(names, name)
         }
-        ExpressionNode::Assignment(Target::Property(object, name), value) => {
-            name_expression(names, object)?;
-            name_expression(names, name)?;
+        ExpressionNode::Assignment(target, value) => {
+            if let TargetNode::Property(object, name) = &target.node {
+                name_expression(names, object)?;
+                name_expression(names, name)?;
+            }
             name_expression(names, value)
         }
+        _ => Ok(()),
     }
 }
 
@@ -84,6 +85,7 @@ fn emit_statement(
             put(code, Instruction::Return)
         }
         StatementNode::Return(None) => put(code, Instruction::ReturnZero),
+        _ => put(code, Instruction::Missing),
     }
 }
 
@@ -115,12 +117,16 @@ fn emit_expression(
             emit_expression(code, names, name)?;
             put(code, Instruction::ReadProperty)
         }
-        ExpressionNode::Assignment(Target::Property(object, name), value) => {
-            emit_expression(code, names, object)?;
-            emit_expression(code, names, name)?;
-            emit_expression(code, names, value)?;
-            put(code, Instruction::WriteProperty)
-        }
+        ExpressionNode::Assignment(target, value) => match &target.node {
+            TargetNode::Property(object, name) => {
+                emit_expression(code, names, object)?;
+                emit_expression(code, names, name)?;
+                emit_expression(code, names, value)?;
+                put(code, Instruction::WriteProperty)
+            }
+            _ => put(code, Instruction::Missing),
+        },
+        _ => put(code, Instruction::Missing),
     }
 }
 

@@ -6,7 +6,7 @@ ghost use Rattle.moo_compiler.specs.Places.{numbered, expr_places, assignment_pl
 ghost use Rattle.spec_program.specs.Tree.{to_property};
 
 use crate::program::Program;
-use moo_tree::expression::{Expression, ExpressionNode, Target};
+use moo_tree::expression::{Expression, ExpressionNode, TargetNode};
 use moo_tree::statement::{Statement, StatementNode};
 use std::alloc::{AllocError, Global};
 
@@ -80,7 +80,7 @@ fn count_statement(statement: &Statement) -> usize
 {
     match &statement.node {
         StatementNode::Evaluate(value) | StatementNode::Return(Some(value)) => count(value) + 1,
-        StatementNode::Return(None) => 1,
+        _ => 1,
     }
 }
 
@@ -94,9 +94,10 @@ fn count(expression: &Expression) -> usize
             left,
         ) + count(right)
             + 1,
-        ExpressionNode::Assignment(Target::Property(object, name), value) => {
-            count(object) + count(name) + count(value) + 1
-        }
+        ExpressionNode::Assignment(target, value) => match &target.node {
+            TargetNode::Property(object, name) => count(object) + count(name) + count(value) + 1,
+            _ => 1,
+        },
         _ => 1,
     }
 }
@@ -116,7 +117,7 @@ fn find_in_statement(
         StatementNode::Evaluate(value) | StatementNode::Return(Some(value)) => {
             find_in_one(value, index, place)
         }
-        StatementNode::Return(None) => Ok(()),
+        _ => Ok(()),
     }
 }
 
@@ -145,9 +146,12 @@ fn find(expression: &Expression, index: usize, place: &mut Vec<usize>) -> Result
     match &expression.node {
         ExpressionNode::Binary(_, left, right) | ExpressionNode::Property(left, right) =>
             find_in_two(left, right, index, place),
-        ExpressionNode::Assignment(Target::Property(object, name), value) => {
-            find_in_assignment(object, name, value, index, place)
-        }
+        ExpressionNode::Assignment(target, value) => match &target.node {
+            TargetNode::Property(object, name) => {
+                find_in_assignment(object, name, value, index, place)
+            }
+            _ => Ok(()),
+        },
         _ => Ok(()),
     }
 }
@@ -220,7 +224,7 @@ fn index_in_statement(statement: &Statement, place: &[usize]) -> Option<usize>
         StatementNode::Evaluate(value) | StatementNode::Return(Some(value)) => {
             index_in_one(value, part, rest)
         }
-        StatementNode::Return(None) => None,
+        _ => None,
     }
 }
 
@@ -249,9 +253,12 @@ fn index_in(expression: &Expression, place: &[usize]) -> Option<usize>
     match &expression.node {
         ExpressionNode::Binary(_, left, right) | ExpressionNode::Property(left, right) =>
             index_in_two(left, right, part, rest),
-        ExpressionNode::Assignment(Target::Property(object, name), value) => {
-            index_in_assignment(object, name, value, part, rest)
-        }
+        ExpressionNode::Assignment(target, value) => match &target.node {
+            TargetNode::Property(object, name) => {
+                index_in_assignment(object, name, value, part, rest)
+            }
+            _ => None,
+        },
         _ => None,
     }
 }

@@ -1,7 +1,6 @@
 -- What the builder keeps, without where it lies in memory.
 use Rattle.std.specs.Prelude.{◌≡◌, List, [], ◌∷◌, map, Option, Some, None, Result, Ok, Err}
 use Rattle.spec_program.specs.Tree.{Statement}
-use Rattle.moo_tree.specs.ExpressionView.{target_place}
 use Rattle.moo_grammar.specs.Load.{Value, of_expr, of_target, Loaded}
 use Rattle.moo_syntax.specs.declared.build.Part.{Part}
 use Rattle.moo_syntax.specs.declared.build.Part.TheVariants as part
@@ -11,7 +10,7 @@ use Rattle.moo_syntax.specs.declared.build.BuildError.TheVariants as error
 
 abbrev pub value_of : Part → Value
 value_of (part.Expression e) = of_expr e
-value_of (part.Target t) = of_target (target_place t)
+value_of (part.Target t) = of_target t
 
 abbrev pub values_of : List Part → List Value
 values_of ps = map value_of ps

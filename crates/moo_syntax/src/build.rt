@@ -10,7 +10,7 @@ ghost use Rattle.moo_value.specs.Operators.{binary_of};
 ghost use Rattle.moo_syntax.specs.declared.build.BuildError.TheVariants.{Memory};
 
 use crate::put::{Op, Put};
-use moo_tree::expression::{Expression, ExpressionNode, Target};
+use moo_tree::expression::{Expression, ExpressionNode, Target, TargetNode};
 use moo_tree::statement::{Statement, StatementNode};
 use moo_value::operator::BinaryOperator;
 use std::alloc::{AllocError, AllocFailed, Global};
@@ -127,8 +127,8 @@ impl Builder {
         };
         let object = Box::new(alloc, object)?;
         let name = Box::new(alloc, name)?;
-        self.parts
-            .push_front(Part::Target(Target::Property(object, name)))?;
+        let node = TargetNode::Property(object, name);
+        self.parts.push_front(Part::Target(Target { node }))?;
         Ok(())
     }
 

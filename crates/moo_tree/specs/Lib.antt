@@ -1,4 +1,5 @@
 pub mod Depth
 pub mod ExpressionFalls
 pub mod ExpressionView
+pub mod StatementFalls
 pub mod StatementView

@@ -7,7 +7,7 @@ ghost use Rattle.spec_rows.specs.Fixture as meant;
 use crate::fixture::WIZARD;
 use footprint::verb::{ObjectPart, PrepositionPart, Verb, Verbs};
 use moo_compiler::program::Program;
-use moo_tree::expression::{Expression, ExpressionNode, Target};
+use moo_tree::expression::{Expression, ExpressionNode, Target, TargetNode};
 use moo_tree::statement::{Statement, StatementNode, Tree};
 use moo_value::operator::BinaryOperator;
 use moo_value::text::Text;
@@ -113,10 +113,12 @@ fn count_tree(alloc: Global) -> Result<Tree, AllocError>
             Box::new(alloc, one())?,
         ),
     };
-    let target = Target::Property(
-        Box::new(alloc, this(alloc)?)?,
-        Box::new(alloc, name_n(alloc)?)?,
-    );
+    let target = Target {
+        node: TargetNode::Property(
+            Box::new(alloc, this(alloc)?)?,
+            Box::new(alloc, name_n(alloc)?)?,
+        ),
+    };
     let assignment = Expression {
         node: ExpressionNode::Assignment(target, Box::new(alloc, sum)?),
     };

@@ -2,4 +2,5 @@
 #![tactic(auto)]
 
 pub mod inheritance;
+pub mod objects;
 pub mod slots;

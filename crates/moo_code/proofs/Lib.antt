@@ -3,3 +3,8 @@ pub mod Handled
 pub mod Fits
 pub mod Stacks
 pub mod Points
+pub mod Waiting
+pub mod Surroundings
+pub mod Doing
+pub mod Calling
+pub mod Holding

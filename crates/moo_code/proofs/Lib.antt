@@ -8,3 +8,4 @@ pub mod Surroundings
 pub mod Doing
 pub mod Calling
 pub mod Holding
+pub mod Follow

@@ -3,28 +3,27 @@ use Rattle.std.proofs.Common.{◌≡◌, ℕ, zero, suc, ◌+◌, ◌≤◌, ◌
 use Rattle.std.proofs.lemmas.List.{append-nil}
 use Rattle.std.proofs.lemmas.Option.{slice_get_past}
 use Rattle.std.specs.Prelude.{ℤ, slice_get, pos}
-use Rattle.spec_value.specs.Datum.{Datum, Data, integer, object, text, error, list, no_data, append, joined, type_mismatch}
+use Rattle.spec_value.specs.Datum.{Datum, integer, list, no_data, type_mismatch}
 use Rattle.spec_value.specs.Table.{Named}
-use Rattle.spec_program.specs.Tree.{Expr, Target, Program, listing, call}
+use Rattle.spec_program.specs.Tree.{Expr, Program}
 use Rattle.spec_program.specs.Construct.{Construct, of_expr, of_target, of_default, of_statement, of_program, Piece}
-use Rattle.spec_program.specs.Place.{Part, parts, part_at, nth, tree_of, arity as target_arity, held_count, Linked}
-use Rattle.spec_world.specs.World.{Frame, Entry, frame_entry, native_entry}
+use Rattle.spec_program.specs.Place.{Part, parts, part_at, nth, tree_of, held_count, Linked}
 use Rattle.spec_moo.specs.Scene.{Scene, with_ticks}
-use Rattle.spec_moo.specs.Leaving.{Leaving, returned, failed, broken, continued, traced, failure}
-use Rattle.spec_moo.specs.Held.{Way, beside, before_list, listed, spliced, way_at, held_at_first, in_last, with_items, held_with}
-use Rattle.spec_moo.specs.Pending.{Focus, begin, hand, aim, operate, next, leave, Pending, Turned, out_of_ticks, trace}
-use Rattle.spec_moo.specs.Tables.{has_step, effect, step_ticks}
+use Rattle.spec_moo.specs.Leaving.{returned, traced, failure}
+use Rattle.spec_moo.specs.Held.{Way, beside, way_at, held_at_first, held_with}
+use Rattle.spec_moo.specs.Pending.{Focus, begin, hand, aim, operate, next, leave, Pending, out_of_ticks, trace}
+use Rattle.spec_moo.specs.Tables.{effect, step_ticks}
 use Rattle.spec_moo.specs.Effect.{Effect}
-use Rattle.spec_moo.specs.Turn.{ticks_of, piece, value_among, completed, on_tree, on_part, at_point, reach, receiving, effected, turn_on, turn}
-use Rattle.spec_moo.specs.Segment.{stopped, Course, runs, stops, led, paying, after}
-use Rattle.moo_code.specs.Instruction.{Operation, Unraised, Instruction, open_list, receive, perform, arity, unraised, placed}
-use Rattle.moo_code.specs.Layout.{Around, within, Reception, straight, received, Link, Layout, stop, own, inner, gap, front, reception_size, size, rest, reached, entry, opens, layout, code_of, handlers_of}
-use Rattle.moo_code.specs.Performing.{onto, performed, price}
+use Rattle.spec_moo.specs.Turn.{ticks_of, piece, value_among, completed, on_tree, on_part, at_point, reach, receiving, turn_on, turn}
+use Rattle.spec_moo.specs.Segment.{stopped, runs, stops, led, paying, after}
+use Rattle.moo_code.specs.Instruction.{Operation, Unraised, open_list, perform, arity, unraised, placed}
+use Rattle.moo_code.specs.Layout.{Around, within, Reception, straight, received, Link, Layout, stop, own, inner, gap, front, reception_size, size, rest, reached, entry, opens, layout, code_of}
+use Rattle.moo_code.specs.Performing.{onto, performed}
 use Rattle.moo_code.specs.Machine as M
 use Rattle.moo_code.specs.Machine.{Kept, Outer, Step, on, halts, seen, place_for, with_operands, handlers_at, charged, out_of, step}
-use Rattle.moo_code.specs.Stands.{outcome, part_count, Counted, first_size, operands, around, body, start, target, marks, Begins, Done, HasBegun, Operates, Means, Verb, pending, kept, AllWait, Follows}
+use Rattle.moo_code.specs.Stands.{outcome, part_count, Counted, first_size, operands, around, body, start, target, Begins, Done, HasBegun, Operates, Means, Verb, pending, kept, AllWait, Follows}
 use Rattle.moo_code.proofs.Places.{whole_size, entry_is, code_size}
-use Rattle.moo_code.proofs.Fits.{Fits, FitsOn, PartFits, TreeFits, Receives, Does, after_count, Sees, Falls, IsInner, AllFit}
+use Rattle.moo_code.proofs.Fits.{Fits, PartFits, Receives, Does, after_count, Sees, Falls, IsInner, AllFit}
 use Rattle.moo_code.proofs.Stacks.{onto_append, operands_taken}
 use Rattle.moo_code.proofs.Points as points
 use Rattle.moo_code.proofs.Points.{start_is, ends_at, operation_there, opening_there, receiving_there, handled_at_operation, handled_at_reception}
@@ -46,7 +45,6 @@ rest_next (suc n) stop = refl
 rest_next (suc n) (own op ns l) = rest_next (suc n) l
 rest_next (suc n) (inner k a l) = rest_next n l
 rest_next (suc n) (gap l) = rest_next n l
-
 
 -- a step is paid for before it is taken
 paid : (player : ℤ) (k t : ℕ) (s : Scene) (p seen_by : Pending) → trace p ≡ trace seen_by → (go : ℕ → Scene → Step) → ((left : ℕ) (u : Scene) → Follows player (led left (turn u p)) (go left u)) → Follows player (paying k t s p) (charged seen_by k t s go)
@@ -147,7 +145,9 @@ module _ (fit : AllFit) (f : Verb) (ks : List Outer) (waiting_are : AllWait f.ou
   back q ps d h linked counted vs pc st many at is =
       let r = points.piece fit ps q d h in
       record {
-        linked = linked; counted = counted.1; begun = begun_at q d h;
+        linked = linked;
+        counted = counted.1;
+        begun = begun_at q d h;
         fits_here =
             subst (λ n. Fits (around ps) q.construct q.part n (drop q.part (parts q.construct)) (rest q.part (body ps q.construct)))
             (ap (λ n. after_count r.link.reception n (outcome d)) (sym counted.0) ∙ sym many) r.fits_after;
@@ -163,7 +163,7 @@ module _ (fit : AllFit) (f : Verb) (ks : List Outer) (waiting_are : AllWait f.ou
       by straight k = refl
       by (received w n u) k = absurd k.3
 
-  ended : Ended fit f ks waiting_are outs
+  pub ended : Ended fit f ks waiting_are outs
   ended vars q ps p linked counted g qs t s pc at =
       let r = straight_only q ps p linked.0 in
       let many : length q.held ≡ after_count (points.piece fit ps q (of_program p) linked.0).link.reception (length q.held) 0 = plus_none (length q.held) ∙ ap (λ z. after_count z (length q.held) 0) (sym r) in
@@ -184,13 +184,13 @@ module _ (fit : AllFit) (f : Verb) (ks : List Outer) (waiting_are : AllWait f.ou
   falls : (c : Construct) (n : ℕ) (ps : List Piece) (op : Operation) (ns : List ℕ) (l : Layout) (pc : ℕ) → rest n (body ps c) ≡ own op ns l → pc ≡ start ps + reached n (body ps c) → Falls n l (suc pc) (target ps c)
   falls c n ps op ns l pc e at = (
     (λ z.
-      let a = whole_size n (body ps c) in
-      let b : size (rest n (body ps c)) ≡ suc (size l) = ap size e in
-      omega (arith, a, b, z, at)),
+        let a = whole_size n (body ps c) in
+        let b : size (rest n (body ps c)) ≡ suc (size l) = ap size e in
+        omega (arith, a, b, z, at)),
     (λ z.
-      let a = entry_is n (body ps c) in
-      let b : entry (suc zero) (rest n (body ps c)) ≡ 1 = ap (entry (suc zero)) e ∙ first l z in
-      omega (arith, a, b, at)),
+        let a = entry_is n (body ps c) in
+        let b : entry (suc zero) (rest n (body ps c)) ≡ 1 = ap (entry (suc zero)) e ∙ first l z in
+        omega (arith, a, b, at)),
   )
     where
       first : (l : Layout) → IsInner l → entry (suc zero) (own op ns l) ≡ 1
@@ -215,8 +215,8 @@ module _ (fit : AllFit) (f : Verb) (ks : List Outer) (waiting_are : AllWait f.ou
       let go : List Datum → List Datum → Step = λ us below. M.performs f.player s k ks op (place_for (suc pc) places) t us below in
       let there : slice_get (code_of f.whole) pc ≡ Some (perform op places) = operation_there fit f.whole c ps n pc op h.parts_led_to l h.linked h.there h.place in
       let e : Machine vars s pc st t ≡ charged (seen f.player k ks) (step_ticks c n vs) t s (λ left u. doing_it left u (performed u (seen f.player k ks) (operands ps) op vs)) =
-          ap (M.act f.player s k ks t) there ∙ ap (λ x. with_operands (arity op) [] x go) h.stack ∙ operands_taken (arity op) vs (operands ps) go h.count
-          ∙ ap (λ x. charged (seen f.player k ks) x t s (λ left u. doing_it left u (performed u (seen f.player k ks) (operands ps) op vs))) (row s).1 in
+      ap (M.act f.player s k ks t) there ∙ ap (λ x. with_operands (arity op) [] x go) h.stack ∙ operands_taken (arity op) vs (operands ps) go h.count
+      ∙ ap (λ x. charged (seen f.player k ks) x t s (λ left u. doing_it left u (performed u (seen f.player k ks) (operands ps) op vs))) (row s).1 in
       let traces : trace p ≡ trace (seen f.player k ks) = ap (λ z. traced f.player f.call ∷ z) (same_trace f.player f.outer ks waiting_are) in
       let handled = handled_at_operation fit f.whole c ps n pc op h.parts_led_to l h.linked h.there h.place in
       subst (Follows f.player (runs t s p)) (sym e)
@@ -314,7 +314,7 @@ module _ (fit : AllFit) (f : Verb) (ks : List Outer) (waiting_are : AllWait f.ou
       let go_on : List Datum → List Datum → Step = λ held below. M.receives f.player s k' ks t u end_ below (held_with w held v) in
       let all : List Datum → Step = λ x. with_operands 1 [] x (λ us z. with_operands n [] z (λ held below. M.receives f.player s k' ks t u end_ below (held_with w held (value_among us)))) in
       let m : Machine vars s pc st t ≡ go_on q.held (operands ps) =
-          ap (M.act f.player s k' ks t) there ∙ ap all d.stack ∙ operands_taken n q.held (operands ps) go_on n_is in
+      ap (M.act f.player s k' ks t) there ∙ ap all d.stack ∙ operands_taken n q.held (operands ps) go_on n_is in
       one_turn f t s vars (hand v) (q ∷ ps) _ refl
       (subst (λ y. Follows f.player (led t (receiving s (pending f vars (hand v) (q ∷ ps)) q ps (held_with y q.held v))) (Machine vars s pc st t)) (sym h.0)
       (subst (Follows f.player (led t (receiving s (pending f vars (hand v) (q ∷ ps)) q ps (held_with w q.held v)))) (sym m) (got sized n_is (held_with w q.held v) refl)))

@@ -9,3 +9,4 @@ pub mod Doing
 pub mod Calling
 pub mod Holding
 pub mod Follow
+pub mod Out

@@ -10,3 +10,5 @@ pub mod Calling
 pub mod Holding
 pub mod Follow
 pub mod Out
+pub mod Suiting
+pub mod Rows

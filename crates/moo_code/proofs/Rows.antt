@@ -1,0 +1,4 @@
+-- One row for each construct.
+pub mod Expressions
+pub mod Targets
+pub mod Lists

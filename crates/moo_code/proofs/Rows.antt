@@ -2,3 +2,4 @@
 pub mod Expressions
 pub mod Targets
 pub mod Lists
+pub mod Statements

@@ -1,5 +1,7 @@
 -- One row for each construct.
+pub mod Numbers
 pub mod Expressions
 pub mod Targets
 pub mod Lists
 pub mod Statements
+pub mod Branches

@@ -5,3 +5,4 @@ pub mod Targets
 pub mod Lists
 pub mod Statements
 pub mod Branches
+pub mod Scatter

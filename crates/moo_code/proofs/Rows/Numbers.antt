@@ -34,3 +34,18 @@ place_fallen after to m (n ∷ ns) e = by (n == m) refl (place_fallen after to m
     by : (z : Bool) → (n == m) ≡ z → place_for after (placed to ns) m ≡ to m → cond z (to n) (place_for after (placed to ns) m) ≡ to m
     by true h r = ap to (eqb-true n m h)
     by false h r = r
+
+-- ---- a place that is among those that are known
+
+abbrev pub Placed : List ℕ → ℕ → Type 0
+Placed ns i = (after : ℕ) (to : ℕ → ℕ) → place_for after (placed to ns) i ≡ to i
+
+pub placed_here : (n i : ℕ) (ns : List ℕ) → n ≡ i → Placed (n ∷ ns) i
+placed_here n i ns e after to = ap (λ b. cond b (to n) (place_for after (placed to ns) i)) (eq-eqb n i e) ∙ ap to e
+
+pub placed_later : (n i : ℕ) (ns : List ℕ) → Placed ns i → Placed (n ∷ ns) i
+placed_later n i ns h after to = by (n == i) refl
+  where
+    by : (z : Bool) → (n == i) ≡ z → cond z (to n) (place_for after (placed to ns) i) ≡ to i
+    by true e = ap to (eqb-true n i e)
+    by false e = h after to

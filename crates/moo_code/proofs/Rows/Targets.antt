@@ -75,7 +75,7 @@ range_target_fits t i j x =
       ),
     )
 
-same_one : (s : Scene) (f g : Datum → Effect) → ((v : Datum) → f v ≡ g v) → (vs : List Datum) → on_one s f vs ≡ on_one s g vs
+pub same_one : (s : Scene) (f g : Datum → Effect) → ((v : Datum) → f v ≡ g v) → (vs : List Datum) → on_one s f vs ≡ on_one s g vs
 same_one s f g e [] = refl
 same_one s f g e (v ∷ []) = e v
 same_one s f g e (v ∷ u ∷ vs) = refl

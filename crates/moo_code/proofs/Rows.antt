@@ -6,3 +6,4 @@ pub mod Lists
 pub mod Statements
 pub mod Branches
 pub mod Scatter
+pub mod Catching

@@ -7,3 +7,5 @@ pub mod Statements
 pub mod Branches
 pub mod Scatter
 pub mod Catching
+pub mod Guarded
+pub mod Every

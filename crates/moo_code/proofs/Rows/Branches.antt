@@ -1,18 +1,18 @@
 -- The row of `if`: its conditions and programs in turn.
-use Rattle.std.proofs.Common.{◌≡◌, ℕ, zero, suc, ◌==◌, List, [], ◌∷◌, ◌++◌, length, Bool, true, false, not, ◌&&◌, cond, Option, Some, None, if◌then◌else◌, refl, sym, ap, ◌∙◌, subst, drop, arith}
+use Rattle.std.proofs.Common.{◌≡◌, ℕ, suc, List, [], ◌∷◌, ◌++◌, Bool, true, false, not, ◌&&◌, cond, Some, None, if◌then◌else◌, refl, sym, ap, ◌∙◌, subst, drop, arith}
 use Rattle.std.specs.Prelude.{is_none}
 use Rattle.spec_value.specs.Datum.{Datum, is_true}
-use Rattle.spec_program.specs.Tree.{Expr, branch, Branches, no_branches, on, Otherwise, no_else, else_do, Program}
+use Rattle.spec_program.specs.Tree.{branch, Branches, no_branches, on, Otherwise, no_else, else_do, Program}
 use Rattle.spec_program.specs.Construct.{Construct, of_expr, of_statement, of_program}
 use Rattle.spec_program.specs.Place.{Part, part, nth, branch_parts, otherwise_parts, statement_parts}
 use Rattle.spec_moo.specs.Scene.{Scene}
 use Rattle.spec_moo.specs.Pending.{Pending}
-use Rattle.spec_moo.specs.Effect.{Effect, takes, ends, on_one}
+use Rattle.spec_moo.specs.Effect.{takes, ends, on_one}
 use Rattle.spec_moo.specs.Effects.Branches.{is_odd, is_positive, part_or_end}
 use Rattle.spec_moo.specs.Tables.{effect, once_at, has_step}
-use Rattle.moo_code.specs.Instruction.{Operation, as_value, test, test_last, finish}
-use Rattle.moo_code.specs.Layout.{Around, Layout, stop, own, inner, plain, above, expr_layout, program_layout, otherwise_layout, branches_layout, testing}
-use Rattle.moo_code.specs.Performing.{performed, chosen_by}
+use Rattle.moo_code.specs.Instruction.{as_value, test, test_last, finish}
+use Rattle.moo_code.specs.Layout.{Around, Layout, own, inner, plain, above, program_layout, otherwise_layout, branches_layout, testing}
+use Rattle.moo_code.specs.Performing.{performed}
 use Rattle.moo_code.specs.Stands.{pending}
 use Rattle.moo_code.proofs.Fits.{HoldsIn, Fits, FitsOn, Does, IsInner}
 use Rattle.moo_code.proofs.Suiting.{Good, good_one, good_if}
@@ -57,11 +57,12 @@ module _ (bs0 : Branches) (q0 : Otherwise) (x : Around) where
   unfolding performed
   test_does n first p o l odd has there next holds priced f vars g ps ks st s vs to after sees count falls =
       let e = after_test s (pending f vars g ps) n vs odd ∙ ap (λ z. on_one s (λ v. if is_true v then takes (suc n) [] else part_or_end s (suc (suc n)) z) vs) next in (
-        sym e, priced,
+        sym e,
+        priced,
         subst (Good chain after to (suc (suc n) ∷ []) l as_value) (sym e)
-        (good_one chain after to (suc (suc n) ∷ []) l as_value s (λ v. if is_true v then takes (suc n) [] else takes (suc (suc n)) []) vs count
-        (λ v. good_if chain after to (suc (suc n) ∷ []) l as_value (is_true v) (takes (suc n) []) (takes (suc (suc n)) [])
-        (place_other after to (suc n) (suc (suc n)) (greater_number (suc (suc n)) (suc n) (omega arith)) ∙ falls.1 has, holds_there n p there) (place_same after to (suc (suc n)) [], holds))),
+            (good_one chain after to (suc (suc n) ∷ []) l as_value s (λ v. if is_true v then takes (suc n) [] else takes (suc (suc n)) []) vs count
+            (λ v. good_if chain after to (suc (suc n) ∷ []) l as_value (is_true v) (takes (suc n) []) (takes (suc (suc n)) [])
+            (place_other after to (suc n) (suc (suc n)) (greater_number (suc (suc n)) (suc n) (omega arith)) ∙ falls.1 has, holds_there n p there) (place_same after to (suc (suc n)) [], holds))),
       )
 
   last_does : (n : ℕ) (first : Bool) (p : Program) (l : Layout) → is_odd n ≡ true → IsInner l → nth all n ≡ Some (part (of_program p) []) → nth all (suc n) ≡ None → cond first 1 0 ≡ once_at 1 n
@@ -69,14 +70,15 @@ module _ (bs0 : Branches) (q0 : Otherwise) (x : Around) where
   unfolding performed
   last_does n first p l odd has there next priced f vars g ps ks st s vs to after sees count falls =
       let e = after_test s (pending f vars g ps) n vs odd ∙ ap (λ z. on_one s (λ v. if is_true v then takes (suc n) [] else part_or_end s (suc (suc n)) z) vs) next in (
-        sym e, priced,
+        sym e,
+        priced,
         subst (Good chain after to (0 ∷ []) l as_value) (sym e)
-        (good_one chain after to (0 ∷ []) l as_value s (λ v. if is_true v then takes (suc n) [] else ends s) vs count
-        (λ v. good_if chain after to (0 ∷ []) l as_value (is_true v) (takes (suc n) []) (ends s)
-        (place_other after to (suc n) 0 (smaller_number 0 (suc n) (omega arith)) ∙ falls.1 has, holds_there n p there) (refl, (refl, refl)))),
+            (good_one chain after to (0 ∷ []) l as_value s (λ v. if is_true v then takes (suc n) [] else ends s) vs count
+            (λ v. good_if chain after to (0 ∷ []) l as_value (is_true v) (takes (suc n) []) (ends s)
+            (place_other after to (suc n) 0 (smaller_number 0 (suc n) (omega arith)) ∙ falls.1 has, holds_there n p there) (refl, (refl, refl)))),
       )
 
-  finish_does : (n : ℕ) (l : Layout) → is_odd (suc (suc n)) ≡ false → Does x chain (suc (suc n)) finish (0 ∷ []) l
+  finish_does : (n : ℕ) (l : Layout) → is_odd (suc (suc n)) ≡ false → Does x chain (suc (suc n)) (finish 0) (0 ∷ []) l
   unfolding performed
   finish_does n l odd f vars g ps ks st s vs to after sees count falls =
       let e = after_program s (pending f vars g ps) (suc (suc n)) vs odd in
@@ -111,10 +113,16 @@ module _ (bs0 : Branches) (q0 : Otherwise) (x : Around) where
       let d2 : drop (suc (suc n)) all ≡ tail more q = drop_next (suc n) all (part (of_program p) []) (tail more q) d1 in
       let odd2 : is_odd (suc (suc n)) ≡ false = ap (λ b. not (not b)) odd in
       let below : Layout = branches_layout x false (suc (suc (suc n))) more q (otherwise_layout x q) in
-      let free : 0 ≡ once_at 1 (suc (suc (suc n))) = sym (ap (λ b. cond b 1 0) (greater_number (suc (suc (suc n))) 1 (omega arith))) in
-      (λ s h l. (refl, refl), (refl, refl, refl,
-      test_fits (suc n) first p more q (inner (plain (of_program p)) (program_layout (above x 0) p) (own finish (0 ∷ []) below)) (ap not odd) tt d1 priced
-      (λ s h l. (refl, refl), (refl, refl, refl, (step_even (suc n) odd2, refl, finish_does n below odd2, branches_on more q false (suc (suc n)) odd2 d2 free)))))
+      let free : 0 ≡ once_at 1 (suc (suc (suc n))) = sym (ap (λ b. cond b 1 0) (greater_number (suc (suc (suc n))) 1 (omega arith))) in (
+        λ s h l. (refl, refl),
+        (
+          refl,
+          refl,
+          refl,
+          test_fits (suc n) first p more q (inner (plain (of_program p)) (program_layout (above x 0) p) (own (finish 0) (0 ∷ []) below)) (ap not odd) tt d1 priced
+              (λ s h l. (refl, refl), (refl, refl, refl, (step_even (suc n) odd2, refl, finish_does n below odd2, branches_on more q false (suc (suc n)) odd2 d2 free))),
+        ),
+      )
 
 pub branch_fits : (bs : Branches) (q : Otherwise) → Row (of_statement (branch bs q))
 branch_fits no_branches no_else x = (refl, refl)

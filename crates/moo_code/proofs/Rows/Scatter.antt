@@ -1,24 +1,23 @@
 -- The row of scattering assignment: first the right side, then what is given, then the defaults of what is missing.
-use Rattle.std.proofs.Common.{◌≡◌, ℕ, zero, suc, ◌+◌, ◌==◌, List, [], ◌∷◌, ◌++◌, length, Bool, true, false, cond, Option, Some, None, if◌then◌else◌, refl, sym, ap, ◌∙◌, subst, drop, arith}
+use Rattle.std.proofs.Common.{◌≡◌, ℕ, zero, suc, ◌+◌, ◌==◌, List, [], ◌∷◌, ◌++◌, length, true, false, cond, Option, Some, None, if◌then◌else◌, refl, sym, ap, ◌∙◌, subst, arith}
 use Rattle.std.specs.Prelude.{option_map}
-use Rattle.spec_value.specs.Datum.{Datum, Text}
-use Rattle.spec_value.specs.Scatter.{Scattering, gets, refuses, scattered, TargetKind, required_target, optional_target, rest_target}
+use Rattle.spec_value.specs.Datum.{Datum}
+use Rattle.spec_value.specs.Scatter.{Scattering, gets, refuses, scattered, required_target, optional_target, rest_target}
 use Rattle.spec_program.specs.Tree.{Expr, scatter, Items, no_items, required, optional, remaining, defaulted}
 use Rattle.spec_program.specs.Construct.{Construct, of_expr, of_default}
 use Rattle.spec_program.specs.Place.{Part, part, nth, item_parts, any_list}
 use Rattle.spec_moo.specs.Scene.{Scene}
-use Rattle.spec_moo.specs.Effect.{Effect, takes, on_one}
+use Rattle.spec_moo.specs.Effect.{Effect, takes}
 use Rattle.spec_moo.specs.Effects.Scatter.{item_kinds, item_count, given, all_given, missing, default_or_end, assigned, defaults_after, scattered_effect}
-use Rattle.spec_moo.specs.Tables.{effect, once_at}
+use Rattle.spec_moo.specs.Tables.{effect}
 use Rattle.moo_code.specs.Instruction as code
 use Rattle.moo_code.specs.Instruction.{Slot, as_value, placed, scatter_on, store_default}
 use Rattle.moo_code.specs.Layout.{Around, Layout, stop, own, inner, plain, above, expr_layout, slots_of, default_parts, items_layout, layout}
 use Rattle.moo_code.specs.Performing.{performed, items_of}
 use Rattle.moo_code.specs.Machine.{place_for}
 use Rattle.moo_code.proofs.Fits.{HoldsIn, Fits, FitsOn, Does}
-use Rattle.moo_code.proofs.Suiting.{Good, good_one, good_if}
+use Rattle.moo_code.proofs.Suiting.{Good, good_one}
 use Rattle.moo_code.proofs.Rows.Expressions.{Row}
-use Rattle.moo_code.proofs.Rows.Lists.{nth_drop, drop_next}
 use Rattle.moo_code.proofs.Rows.Targets.{same_one}
 use Rattle.moo_code.proofs.Rows.Numbers.{same_number, smaller_number, place_same, place_fallen, Placed, placed_here, placed_later}
 
@@ -167,14 +166,14 @@ module _ (items : Items) (e0 : Expr) (x : Around) where
       let same : (suc n == suc (item_count items)) ≡ true = ap (λ z. suc z == suc (item_count items)) is ∙ same_number (suc (item_count items)) in
       let go : Datum → Effect = λ v. assigned s items v (scattered (item_kinds items) v) in
       let whole : (v : Datum) → scattered_effect s items (suc n) v ≡ go v =
-          λ v. ap (λ b. if b then go v else defaults_after s items (suc n) v (scattered (item_kinds items) v)) same in
+      λ v. ap (λ b. if b then go v else defaults_after s items (suc n) v (scattered (item_kinds items) v)) same in
       let plain_too : (v : Datum) → assigned s (items_of (slots_of items)) v (scattered (item_kinds (items_of (slots_of items))) v) ≡ go v =
-          λ v. assigned_same s items v (scattered (item_kinds (items_of (slots_of items))) v) ∙ ap (λ z. assigned s items v (scattered z v)) (kinds_same items) in
+      λ v. assigned_same s items v (scattered (item_kinds (items_of (slots_of items))) v) ∙ ap (λ z. assigned s items v (scattered z v)) (kinds_same items) in
       let e = same_one s (scattered_effect s items (suc n)) go whole vs in (
         same_one s _ go plain_too vs ∙ sym e,
         sym (ap (λ b. cond b 1 0) same),
         subst (Good c after to (default_parts 1 items) stop as_value) (sym e)
-        (good_one c after to (default_parts 1 items) stop as_value s go vs count (λ v. assigned_good after to s v (falls.0 refl) (scattered (item_kinds items) v))),
+            (good_one c after to (default_parts 1 items) stop as_value s go vs count (λ v. assigned_good after to s v (falls.0 refl) (scattered (item_kinds items) v))),
       )
 
   later_does : (n k : ℕ) (l : Layout) → n + suc k ≡ item_count items → Does x c (suc n) (scatter_on (slots_of items) (suc n)) (0 ∷ default_parts 1 items) l
@@ -183,14 +182,14 @@ module _ (items : Items) (e0 : Expr) (x : Around) where
       let other : (suc n == suc (item_count items)) ≡ false = smaller_number (suc n) (suc (item_count items)) (omega (arith, is)) in
       let go : Datum → Effect = λ v. defaults_after s items (suc n) v (scattered (item_kinds items) v) in
       let whole : (v : Datum) → scattered_effect s items (suc n) v ≡ go v =
-          λ v. ap (λ b. if b then assigned s items v (scattered (item_kinds items) v) else go v) other in
+      λ v. ap (λ b. if b then assigned s items v (scattered (item_kinds items) v) else go v) other in
       let plain_too : (v : Datum) → defaults_after s (items_of (slots_of items)) (suc n) v (scattered (item_kinds (items_of (slots_of items))) v) ≡ go v =
-          λ v. after_same s items (suc n) v (scattered (item_kinds (items_of (slots_of items))) v) ∙ ap (λ z. defaults_after s items (suc n) v (scattered z v)) (kinds_same items) in
+      λ v. after_same s items (suc n) v (scattered (item_kinds (items_of (slots_of items))) v) ∙ ap (λ z. defaults_after s items (suc n) v (scattered z v)) (kinds_same items) in
       let e = same_one s (scattered_effect s items (suc n)) go whole vs in (
         same_one s _ go plain_too vs ∙ sym e,
         sym (ap (λ b. cond b 1 0) other),
         subst (Good c after to (0 ∷ default_parts 1 items) l as_value) (sym e)
-        (good_one c after to (0 ∷ default_parts 1 items) l as_value s go vs count (λ v. later_good after to l s (suc n) v (scattered (item_kinds items) v))),
+            (good_one c after to (0 ∷ default_parts 1 items) l as_value s go vs count (λ v. later_good after to l s (suc n) v (scattered (item_kinds items) v))),
       )
 
   abbrev last : Layout
@@ -214,10 +213,16 @@ module _ (items : Items) (e0 : Expr) (x : Around) where
 
   pub scatter_fits_here : Fits x c 0 0 all (layout x c)
   unfolding performed effect
-  scatter_fits_here =
-      (refl, refl, (λ f vars g ps ks st s vs to after sees count falls. (
-        none_left vs count, sym (ap (λ b. cond b 1 0) (smaller_number 0 (suc (item_count items)) (omega arith))),
-        (place_same after to (suc (item_count items)) [], nth_last items))), items_on items 0 (omega arith))
+  scatter_fits_here = (
+    refl,
+    refl,
+    (λ f vars g ps ks st s vs to after sees count falls. (
+      none_left vs count,
+      sym (ap (λ b. cond b 1 0) (smaller_number 0 (suc (item_count items)) (omega arith))),
+      (place_same after to (suc (item_count items)) [], nth_last items),
+    )),
+    items_on items 0 (omega arith),
+  )
     where
       none_left : (vs : List Datum) → length vs ≡ 0 → takes (suc (item_count items)) (vs ++ []) ≡ takes (suc (item_count items)) []
       none_left [] n = refl

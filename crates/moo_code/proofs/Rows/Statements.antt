@@ -1,22 +1,22 @@
 -- Rows of statements without handlers, and of programs.
-use Rattle.std.proofs.Common.{◌≡◌, ℕ, zero, suc, ◌+◌, List, [], ◌∷◌, ◌++◌, length, Bool, true, false, cond, Option, Some, None, if◌then◌else◌, refl, sym, ap, ◌∙◌, subst, arith}
+use Rattle.std.proofs.Common.{◌≡◌, ℕ, zero, suc, List, [], ◌∷◌, ◌++◌, length, Bool, true, false, cond, Option, Some, None, if◌then◌else◌, refl, sym, ap, subst, arith}
 use Rattle.std.specs.Prelude.{ℤ, pos, negsuc, ◌+ℤ◌, int_le, option_map}
 use Rattle.spec_value.specs.Datum.{Datum, integer, object, text, error, list, Data, Text, is_true, type_mismatch, limit_exceeded}
-use Rattle.spec_program.specs.Tree.{Expr, Statement, evaluate, give, give_zero, for_each, for_range, repeat, fork, finished, leave_loop, next_turn, Program, the_end, seq}
+use Rattle.spec_program.specs.Tree.{Expr, evaluate, give, give_zero, for_each, for_range, repeat, fork, finished, leave_loop, next_turn, Program, the_end, seq}
 use Rattle.spec_program.specs.Construct.{Construct, of_statement, of_program}
 use Rattle.spec_program.specs.Place.{program_parts, part_at, tree_of}
 use Rattle.spec_value.specs.Places.{item_at}
 use Rattle.spec_moo.specs.Scene.{Scene, has_ids}
 use Rattle.spec_moo.specs.Leaving.{Leaving, returned, failed, broken, continued, BodyLeft, ended, left_by, read_left}
-use Rattle.spec_moo.specs.Effect.{Effect, takes, ends, leaves, erring}
+use Rattle.spec_moo.specs.Effect.{takes, ends, leaves, erring}
 use Rattle.spec_moo.specs.Pending.{Pending}
 use Rattle.moo_code.specs.Stands.{pending}
-use Rattle.spec_moo.specs.Effects.Loops.{Turn, turn_effect, list_turn, item_turn, list_loop_effect, are_bounds, range_turn, range_turn_at, first_turn, later_turn, range_loop_effect, loop_catches}
+use Rattle.spec_moo.specs.Effects.Loops.{Turn, turn_effect, list_turn, list_loop_effect, are_bounds, range_turn, range_turn_at, first_turn, later_turn, range_loop_effect, loop_catches}
 use Rattle.spec_moo.specs.Effects.Handlers.{go_on_leaving}
 use Rattle.spec_moo.specs.Effects.Forks.{fork_in, fork_after}
 use Rattle.spec_moo.specs.Tables.{effect}
-use Rattle.moo_code.specs.Instruction.{Operation, Unraised, as_value, skipped, in_loop, with_finally, placed, next_item, next_of_range, end_finally, begin_part}
-use Rattle.moo_code.specs.Layout.{Around, Layout, stop, own, inner, gap, plain, watched, layout, program_layout, above, in_body}
+use Rattle.moo_code.specs.Instruction.{as_value, skipped, in_loop, placed, next_item, next_of_range, begin_part}
+use Rattle.moo_code.specs.Layout.{Around, Layout, stop, own, inner, gap, watched, program_layout, in_body}
 use Rattle.moo_code.specs.Performing.{performed}
 use Rattle.moo_code.specs.Machine.{place_for}
 use Rattle.moo_code.proofs.Fits.{IsEmpty, HoldsIn, CaughtFits, Fits}
@@ -25,15 +25,53 @@ use Rattle.moo_code.proofs.Rows.Expressions.{Row}
 
 pub evaluate_fits : (e : Expr) → Row (of_statement (evaluate e))
 unfolding performed effect
-evaluate_fits e x =
-    (refl, refl, (λ s h l. (refl, refl), (refl, refl, refl, (refl, refl, (λ f vars g ps ks st s vs to after sees count falls. (refl, refl,
-      good_one (of_statement (evaluate e)) after to [] stop as_value s (λ v. ends s) vs count (λ v. (falls.0 refl, (refl, refl))))), tt))))
+evaluate_fits e x = (
+  refl,
+  refl,
+  (
+    λ s h l. (refl, refl),
+    (
+      refl,
+      refl,
+      refl,
+      (
+        refl,
+        refl,
+        (λ f vars g ps ks st s vs to after sees count falls. (
+          refl,
+          refl,
+          good_one (of_statement (evaluate e)) after to [] stop as_value s (λ v. ends s) vs count (λ v. (falls.0 refl, (refl, refl))),
+        )),
+        tt,
+      ),
+    ),
+  ),
+)
 
 pub give_fits : (e : Expr) → Row (of_statement (give e))
 unfolding performed effect
-give_fits e x =
-    (refl, refl, (λ s h l. (refl, refl), (refl, refl, refl, (refl, refl, (λ f vars g ps ks st s vs to after sees count falls. (refl, refl,
-      good_one (of_statement (give e)) after to [] stop as_value s (λ v. leaves (returned v)) vs count (λ v. tt))), tt))))
+give_fits e x = (
+  refl,
+  refl,
+  (
+    λ s h l. (refl, refl),
+    (
+      refl,
+      refl,
+      refl,
+      (
+        refl,
+        refl,
+        (λ f vars g ps ks st s vs to after sees count falls. (
+          refl,
+          refl,
+          good_one (of_statement (give e)) after to [] stop as_value s (λ v. leaves (returned v)) vs count (λ v. tt),
+        )),
+        tt,
+      ),
+    ),
+  ),
+)
 
 pub give_zero_fits : Row (of_statement give_zero)
 unfolding performed effect
@@ -67,13 +105,38 @@ pub while_fits : (y : Option Text) (c : Expr) (p : Program) → Row (of_statemen
 unfolding performed effect
 while_fits y c p x =
     let w = of_statement (repeat y c p) in
-    let l = inner (watched x 0 in_loop (of_program p)) (program_layout (in_body x 0 y) p) (own (begin_part 0 0 1 []) (1 ∷ []) stop) in
-    (refl, refl, (λ f vars g ps ks st s vs to after sees count falls. (none_left vs count 1, refl, (falls.1 tt, (refl, tt)))),
-    (λ s h l. (refl, refl), (refl, refl, refl, (refl, refl, (λ f vars g ps ks st s vs to after sees count falls. (refl, refl,
-      good_one w after to (0 ∷ []) l as_value s (λ v. if is_true v then takes 2 [] else ends s) vs count
-      (λ v. good_if w after to (0 ∷ []) l as_value (is_true v) (takes 2 []) (ends s) (falls.1 tt, (refl, tt)) (refl, (refl, refl))))),
-    ((refl, refl, λ s h l to n. (refl, refl, loop_caught w to 2 p refl (refl, refl) s l)), (refl, refl, refl,
-    (refl, refl, (λ f vars g ps ks st s vs to after sees count falls. (none_left vs count 1, refl, (refl, (refl, tt)))), tt)))))))
+    let l = inner (watched x 0 in_loop (of_program p)) (program_layout (in_body x 0 y) p) (own (begin_part 0 0 1 []) (1 ∷ []) stop) in (
+      refl,
+      refl,
+      (λ f vars g ps ks st s vs to after sees count falls. (none_left vs count 1, refl, (falls.1 tt, (refl, tt)))),
+      (
+        λ s h l. (refl, refl),
+        (
+          refl,
+          refl,
+          refl,
+          (
+            refl,
+            refl,
+            (λ f vars g ps ks st s vs to after sees count falls. (
+              refl,
+              refl,
+              good_one w after to (0 ∷ []) l as_value s (λ v. if is_true v then takes 2 [] else ends s) vs count
+                  (λ v. good_if w after to (0 ∷ []) l as_value (is_true v) (takes 2 []) (ends s) (falls.1 tt, (refl, tt)) (refl, (refl, refl))),
+            )),
+            (
+              (refl, refl, λ s h l to n. (refl, refl, loop_caught w to 2 p refl (refl, refl) s l)),
+              (
+                refl,
+                refl,
+                refl,
+                (refl, refl, (λ f vars g ps ks st s vs to after sees count falls. (none_left vs count 1, refl, (refl, (refl, tt)))), tt),
+              ),
+            ),
+          ),
+        ),
+      ),
+    )
 
 -- a turn holds two values
 abbrev HasTwo : Turn → Type 0
@@ -125,10 +188,32 @@ module _ (y : Text) (e : Expr) (p : Program) where
 
   pub each_fits : Row (of_statement (for_each y e p))
   unfolding performed effect
-  each_fits x =
-      (refl, refl, (λ s h l. (refl, refl), (refl, refl, refl, (refl, refl, (λ f vars g ps ks st s vs to after sees count falls. (refl, refl, item_good after to (0 ∷ []) (inner (watched x 2 in_loop (of_program p)) (program_layout (in_body x 2 (Some y)) p) (own (next_item y) (2 ∷ []) stop)) s refl (falls.1 tt) vs)),
-      ((refl, refl, λ s h l to n. (refl, refl, loop_caught each to 2 p refl (refl, refl) s l)), (refl, refl, refl,
-      (refl, refl, (λ f vars g ps ks st s vs to after sees count falls. (refl, refl, item_good after to (2 ∷ []) stop s (falls.0 refl) refl vs)), tt)))))))
+  each_fits x = (
+    refl,
+    refl,
+    (
+      λ s h l. (refl, refl),
+      (
+        refl,
+        refl,
+        refl,
+        (
+          refl,
+          refl,
+          (λ f vars g ps ks st s vs to after sees count falls. (refl, refl, item_good after to (0 ∷ []) (inner (watched x 2 in_loop (of_program p)) (program_layout (in_body x 2 (Some y)) p) (own (next_item y) (2 ∷ []) stop)) s refl (falls.1 tt) vs)),
+          (
+            (refl, refl, λ s h l to n. (refl, refl, loop_caught each to 2 p refl (refl, refl) s l)),
+            (
+              refl,
+              refl,
+              refl,
+              (refl, refl, (λ f vars g ps ks st s vs to after sees count falls. (refl, refl, item_good after to (2 ∷ []) stop s (falls.0 refl) refl vs)), tt),
+            ),
+          ),
+        ),
+      ),
+    ),
+  )
 
 module _ (y : Text) (a b : Expr) (p : Program) where
   abbrev over : Construct
@@ -142,24 +227,86 @@ module _ (y : Text) (a b : Expr) (p : Program) where
 
   pub over_fits : Row (of_statement (for_range y a b p))
   unfolding performed effect
-  over_fits x =
-      (refl, refl, (λ s h l. (refl, refl), (refl, refl, refl, (refl, refl, (λ s h l. (refl, refl), (refl, refl, refl,
-      (refl, refl, (λ f vars g ps ks st s vs to after sees count falls. (refl, refl, range_good after to (0 ∷ []) (inner (watched x 2 in_loop (of_program p)) (program_layout (in_body x 2 (Some y)) p) (own (next_of_range y) (3 ∷ []) stop)) s refl (falls.1 tt) 2 vs (first_two vs))),
-      ((refl, refl, λ s h l to n. (refl, refl, loop_caught over to 3 p refl (refl, refl) s l)), (refl, refl, refl,
-      (refl, refl, (λ f vars g ps ks st s vs to after sees count falls. (refl, refl, range_good after to (3 ∷ []) stop s (falls.0 refl) refl 3 vs (later_two vs))), tt))))))))))
+  over_fits x = (
+    refl,
+    refl,
+    (
+      λ s h l. (refl, refl),
+      (
+        refl,
+        refl,
+        refl,
+        (
+          refl,
+          refl,
+          (
+            λ s h l. (refl, refl),
+            (
+              refl,
+              refl,
+              refl,
+              (
+                refl,
+                refl,
+                (λ f vars g ps ks st s vs to after sees count falls. (refl, refl, range_good after to (0 ∷ []) (inner (watched x 2 in_loop (of_program p)) (program_layout (in_body x 2 (Some y)) p) (own (next_of_range y) (3 ∷ []) stop)) s refl (falls.1 tt) 2 vs (first_two vs))),
+                (
+                  (refl, refl, λ s h l to n. (refl, refl, loop_caught over to 3 p refl (refl, refl) s l)),
+                  (
+                    refl,
+                    refl,
+                    refl,
+                    (refl, refl, (λ f vars g ps ks st s vs to after sees count falls. (refl, refl, range_good after to (3 ∷ []) stop s (falls.0 refl) refl 3 vs (later_two vs))), tt),
+                  ),
+                ),
+              ),
+            ),
+          ),
+        ),
+      ),
+    ),
+  )
 
 -- ---- a finally part
 
 pub finished_fits : (p q : Program) → Row (of_statement (finished p q))
 unfolding performed effect
 finished_fits p q x =
-    let c = of_statement (finished p q) in
-    (refl, refl, (λ f vars g ps ks st s vs to after sees count falls. (none_left vs count 1, refl, (falls.1 tt, (refl, tt)))),
-    ((refl, refl, λ s h l to n. (refl, refl, (refl, (refl, tt)))), (refl, refl, refl,
-    (refl, refl, (λ f vars g ps ks st s vs to after sees count falls. (refl, refl, (falls.1 tt, (refl, tt)))),
-    (λ s h l. (refl, refl), (refl, refl, refl,
-    (refl, refl, (λ f vars g ps ks st s vs to after sees count falls. (refl, refl,
-      good_one c after to [] stop as_value s (λ d. go_on_leaving s (read_left d)) vs count (λ d. left_good c after to s (falls.0 refl) (read_left d)))), tt)))))))
+    let c = of_statement (finished p q) in (
+      refl,
+      refl,
+      (λ f vars g ps ks st s vs to after sees count falls. (none_left vs count 1, refl, (falls.1 tt, (refl, tt)))),
+      (
+        (refl, refl, λ s h l to n. (refl, refl, (refl, (refl, tt)))),
+        (
+          refl,
+          refl,
+          refl,
+          (
+            refl,
+            refl,
+            (λ f vars g ps ks st s vs to after sees count falls. (refl, refl, (falls.1 tt, (refl, tt)))),
+            (
+              λ s h l. (refl, refl),
+              (
+                refl,
+                refl,
+                refl,
+                (
+                  refl,
+                  refl,
+                  (λ f vars g ps ks st s vs to after sees count falls. (
+                    refl,
+                    refl,
+                    good_one c after to [] stop as_value s (λ d. go_on_leaving s (read_left d)) vs count (λ d. left_good c after to s (falls.0 refl) (read_left d)),
+                  )),
+                  tt,
+                ),
+              ),
+            ),
+          ),
+        ),
+      ),
+    )
   where
     left_good : (c : Construct) (after : ℕ) (to : ℕ → ℕ) (s : Scene) → after ≡ to 0 → (o : Option BodyLeft) → Good (of_statement (finished p q)) after to [] stop as_value (go_on_leaving s o)
     left_good c after to s e None = (e, (refl, refl))
@@ -182,9 +329,28 @@ fork_good y e b after to s p end (list n) = (end, (refl, (refl, refl), λ v. ref
 
 pub fork_fits : (y : Option Text) (e : Expr) (b : Program) → Row (of_statement (fork y e b))
 unfolding performed effect
-fork_fits y e b x =
-    (refl, refl, (λ s h l. (refl, refl), (refl, refl, refl, (refl, refl, (λ f vars g ps ks st s vs to after sees count falls. (refl, refl,
-      good_one (of_statement (fork y e b)) after to [] (gap stop) skipped s (λ d. fork_in s (pending f vars g ps) y b d) vs count (λ d. fork_good y e b after to s (pending f vars g ps) (falls.0 refl) d))), (refl, tt)))))
+fork_fits y e b x = (
+  refl,
+  refl,
+  (
+    λ s h l. (refl, refl),
+    (
+      refl,
+      refl,
+      refl,
+      (
+        refl,
+        refl,
+        (λ f vars g ps ks st s vs to after sees count falls. (
+          refl,
+          refl,
+          good_one (of_statement (fork y e b)) after to [] (gap stop) skipped s (λ d. fork_in s (pending f vars g ps) y b d) vs count (λ d. fork_good y e b after to s (pending f vars g ps) (falls.0 refl) d),
+        )),
+        (refl, tt),
+      ),
+    ),
+  ),
+)
 
 -- ---- programs
 

@@ -12,3 +12,5 @@ pub mod Follow
 pub mod Out
 pub mod Suiting
 pub mod Rows
+pub mod Runs
+pub mod Paths

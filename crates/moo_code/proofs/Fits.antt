@@ -60,7 +60,7 @@ module _ (c : Construct) (go to : ℕ → ℕ) where
   module _ (l : Layout) (u : Unraised) where
     -- a call is the last instruction of an expression
     abbrev pub Calls : Type 0
-    Calls = AtEnd × IsExpr c × (size l ≡ 0) × (u ≡ as_value)
+    Calls = AtEnd × IsExpr c × (size l ≡ 0)
 
     abbrev pub Suited : Effect → Type 0
     Suited (errs s f) = AtEnd × FailsAs c u

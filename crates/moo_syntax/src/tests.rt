@@ -241,7 +241,7 @@ fn texts(rt: HostRuntime) -> Result<(), Fail> {
     assert_eq!(rt; fault.kind, FaultKind::Token);
     assert_eq!(rt;
         format!(in rt.alloc(); "{fault}")?.as_str(),
-        "Line 2: no program goes on like this"
+        "Line 2: Token"
     );
     Ok(())
 }

@@ -273,8 +273,10 @@ def idle():
 
 
 def few_descriptors():
-    """More sockets than the server has descriptors for: those that it has go on, and the others get in when some are closed."""
-    links = [connect() for _ in range(30)]
+    """More sockets than the server has descriptors for: links that are open go on, and new ones get in when others are closed."""
+    links = [connect(), connect()]
+    settle()
+    links += [connect() for _ in range(30)]
     settle()
     if not (answers(links[0]) and answers(links[1])):
         fail("without descriptors the first two links are not told anything")

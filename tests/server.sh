@@ -68,11 +68,12 @@ fi
 
 # ---- a server on a port that is free
 
-# start WORD..: a server with these words. Its port is in $port, its process in $pid; both end with `stop`.
+# start DESCRIPTORS WORD..: a server with at most so many descriptors and these words. Its port is in $port and its process in $pid, until `stop`.
 start() {
+    limit=$1 && shift
     for port in 7783 17783 27783 37783 47783 none; do
         [ "$port" != none ] || { fail "no port is free, or the server does not start: $(cat "$work/told")"; exit 1; }
-        "$server" fixture --port "$port" "$@" >"$work/out" 2>"$work/told" </dev/null &
+        sh -c 'ulimit -n "$1" && shift && exec "$@"' sh "$limit" "$server" fixture --port "$port" "$@" >"$work/out" 2>"$work/told" </dev/null &
         pid=$!
         for time in 1 2 3 4 5 6 7 8 9 10; do
             sleep 0.1
@@ -83,7 +84,7 @@ start() {
     done
 }
 
-start --workers 2
+start "$(ulimit -n)" --workers 2
 run fixture --port "$port"
 wants "a port that is taken" 2 'moo-server: port\n'
 
@@ -108,8 +109,7 @@ stop
 
 # No descriptor is left, and then there are some again.
 if command -v python3 >/dev/null 2>&1; then
-    ulimit -n 24
-    start
+    start 24
     timeout 60 python3 "$root/tests/clients.py" "$port" "$pid" descriptors || fail "the clients of a server without descriptors"
     stop
 fi

@@ -25,6 +25,13 @@ def read(link, count):
         count -= len(piece)
 
 
+def close(*links):
+    """Closes the links, and lets the server see it: their numbers are free then."""
+    for link in links:
+        link.close()
+    time.sleep(0.5)
+
+
 def tell(what, unit, count, amount):
     print(f"{what}\tproduct\t{unit}\t{count}\t{int(amount)}\t0")
 
@@ -48,7 +55,7 @@ def ping_pong():
         link.sendall(LINE)
         read(link, len(ANSWER))
         times.append(time.perf_counter_ns() - start)
-    link.close()
+    close(link)
     times.sort()
     tell("a line and its answer on one link, median", "ns", 1, times[len(times) // 2])
     tell("a line and its answer on one link, 99 of 100", "ns", 1, times[len(times) * 99 // 100])
@@ -65,7 +72,7 @@ def pipelined():
         count += lines
         link.sendall(lines * LINE)
     tell("lines on one link, 64 on their way", "steps/s", count, time.perf_counter_ns() - start)
-    link.close()
+    close(link)
 
 
 def many():
@@ -89,9 +96,7 @@ def many():
         link.setblocking(True)
         read(link, len(ANSWER))
     tell("cheap lines on 64 links", "steps/s", 64 * each, time.perf_counter_ns() - start)
-    for link in links:
-        link.close()
-    time.sleep(0.5)
+    close(*links)
 
 
 def flood():
@@ -105,12 +110,11 @@ def flood():
     read(link, len(ANSWER))
     tell("100 MB without a line end", "MB/s", 100 << 20, time.perf_counter_ns() - start)
     tell("memory meanwhile", "bytes", 1, most)
-    link.close()
+    close(link)
 
 
 def idle():
     """Processor time of 5 idle seconds, in hundredths of a second, printed as milliseconds."""
-    time.sleep(0.5)
     before = ticks()
     time.sleep(5)
     tell("processor time of 5 idle seconds", "ms", 1, (ticks() - before) * 10_000_000)

@@ -1,8 +1,9 @@
 //! The links of a server, by their numbers.
-ghost use Rattle.std.specs.Prelude.{◌≡◌, ◌≤◌, ◌+◌, ◌-◌, ◌↔◌, vec_len, true, false, set, IfOk, IfErr};
+ghost use Rattle.std.specs.Prelude.{◌≡◌, ◌≤◌, ◌+◌, ◌-◌, ◌↔◌, vec_len, true, false, set, IfOk, IfErr, IsTrue};
 ghost use Rattle.connections.specs.Places.{in_use, leading};
 
-use crate::link::{Input, Link, Refusal};
+use crate::link::Link;
+pub use crate::link::{Input, Refusal};
 use std::alloc::{AllocError, Global};
 use std::net::TcpStream;
 use std::sync::{Arc, Wait};
@@ -99,6 +100,13 @@ impl Links {
                 link.flush();
             }
         }
+    }
+
+    /// Whether every number is in use.
+    pub fn is_full(&self) -> bool
+        ensures { IsTrue result ↔ leading (in_use self.now.places.items) ≡ 64 }
+    {
+        self.first_free() >= MOST_LINKS
     }
 
     /// Whether a link of which no line comes any more is open still.

@@ -1,7 +1,9 @@
-//! The words of the command line.
+//! The words of a command line, and what is told of those that say nothing.
+ghost use Rattle.std.specs.Prelude.{◌≡◌};
+
+use crate::play::{DONE, FAULT, stopped};
 use clap::Error;
 use clap::error::ErrorKind;
-use moo_server::play::{DONE, FAULT, stopped};
 use std::alloc::{AllocError, Global};
 use std::env::FillError;
 use std::io::Write;
@@ -26,8 +28,21 @@ pub fn as_texts<'a>(alloc: Global, words: &'a [String]) -> Result<Vec<&'a str>, 
     Ok(texts)
 }
 
+/// Says what is wrong, in a line that begins with the program's name.
+pub fn refuse<E: Write>(errors: &mut E, program: &str, fault: &str) -> u8
+    ensures { result ≡ 2 }
+{
+    let _ = writeln!(errors, "{program}: {fault}");
+    FAULT
+}
+
 /// The words could not be read: memory ran out, or one of them is not UTF-8. It is told as it was given.
-pub fn refuse_words<R: Env, E: Write>(rt: &R, errors: &mut E, error: &io::Error) -> u8 {
+pub fn refuse_words<R: Env, E: Write>(
+    rt: &R,
+    errors: &mut E,
+    program: &str,
+    error: &io::Error,
+) -> u8 {
     if error.kind() == io::ErrorKind::OutOfMemory {
         return stopped(errors, 0);
     }
@@ -35,7 +50,7 @@ pub fn refuse_words<R: Env, E: Write>(rt: &R, errors: &mut E, error: &io::Error)
     for i in 0..usize::MAX {
         match rt.arg(i, &mut word) {
             Ok(length) if str::from_utf8(&word[..length]).is_err() => {
-                let _ = tell_unreadable(errors, &word[..length]);
+                let _ = tell_unreadable(errors, program, &word[..length]);
                 break;
             }
             Err(FillError::NotPresent) => break,
@@ -45,8 +60,9 @@ pub fn refuse_words<R: Env, E: Write>(rt: &R, errors: &mut E, error: &io::Error)
     FAULT
 }
 
-fn tell_unreadable<E: Write>(errors: &mut E, word: &[u8]) -> io::Result<()> {
-    errors.write_all(b"moo-play: cannot read ")?;
+fn tell_unreadable<E: Write>(errors: &mut E, program: &str, word: &[u8]) -> io::Result<()> {
+    errors.write_all(program.as_bytes())?;
+    errors.write_all(b": cannot read ")?;
     errors.write_all(word)?;
     errors.write_all(b"\n")
 }
@@ -60,4 +76,9 @@ pub fn refuse_options<R: Print + Eprint, E: Write>(rt: &R, errors: &mut E, error
         Ok(()) if !error.use_stderr() => DONE,
         _ => FAULT,
     }
+}
+
+/// The line of a file that cannot be read.
+pub fn cannot_read(alloc: Global, name: &str) -> Result<String, AllocError> {
+    format!(in alloc; "cannot read {name}")
 }

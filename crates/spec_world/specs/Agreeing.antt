@@ -33,3 +33,9 @@ pub record QueueAgrees (w : World) : Type 0 where
   pub task_waits : OfEachTask w wait_fits
   pub task_places : (i : ℤ) (t : Task) → at w.tasks i ≡ Some t → TaskStands t t.waiting
   pub readers : IsTrue (once (links_read w.tasks))
+
+-- all but what stands in the entries of its tasks
+pub record Agrees (w : World) : Type 0 where
+  pub objects : ObjectsAgree w
+  pub links : LinksAgree w
+  pub queue : QueueAgrees w

@@ -5,5 +5,11 @@ pub mod Lighter
 pub mod Sizes
 pub mod Stages
 pub mod TurnsStay
+pub mod NativeWorlds
+pub mod ObjectRows
+pub mod PropertyRows
+pub mod TaskRows
+pub mod TurnWorlds
+pub mod SegmentWorlds
 pub mod Courses
 pub mod NativeStages

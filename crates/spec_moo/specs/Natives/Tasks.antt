@@ -1,11 +1,11 @@
 -- Built-in functions over tasks, links and the server (Programmer's Manual, "Operations on Tasks" and "Operations on Network Connections"): `notify` to `shutdown`.
-use Rattle.std.specs.Prelude.{ℕ, zero, suc, ◌+◌, ◌%◌, ℤ, pos, negsuc, neg_ℤ, Bool, true, false, ◌&&◌, ◌||◌, List, [], ◌∷◌, is_some, is_none, if◌then◌else◌, Option, Some, None, codes}
+use Rattle.std.specs.Prelude.{ℕ, zero, suc, ◌+◌, ◌%◌, ℤ, pos, negsuc, neg_ℤ, Bool, true, false, ◌||◌, List, [], ◌∷◌, is_some, is_none, if◌then◌else◌, Option, Some, None, codes}
 use Rattle.std.specs.Ordering.{int_eq}
 use Rattle.rand_chacha.specs.ChaCha.{word_at, key_of}
 use Rattle.spec_value.specs.Datum.{Datum, integer, object, text, Text, invalid_argument, limit_exceeded}
 use Rattle.spec_value.specs.Literal.{to_text}
 use Rattle.spec_value.specs.Table.{at, with, without}
-use Rattle.spec_world.specs.World.{World, Object, Call, Entry, frame_entry, native_entry, Task, Waiting, forked, timed, idle, reading_on, object_at}
+use Rattle.spec_world.specs.World.{World, Object, Call, Entry, frame_entry, native_entry, Task, Waiting, forked, timed, idle, reading_on}
 use Rattle.spec_world.specs.Permissions.{is_wizard, act_as, control_task, administer}
 use Rattle.spec_world.specs.Links.{connection_of, reader_of}
 use Rattle.spec_moo.specs.Scene.{Scene, in_world, with_own_id, moment_after}

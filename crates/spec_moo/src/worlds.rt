@@ -1,0 +1,16 @@
+//! Laws of worlds: what objects, links and waiting tasks have to agree on, they agree on after all that a task does.
+ghost use Rattle.spec_moo.specs.Worlds.{NativesKeep, StagesKeep};
+
+/// After a call of a built-in function, whatever its name and its arguments are, and after a later stage of one.
+pub fn natives()
+    ensures calls { NativesKeep }
+    ensures stages { StagesKeep }
+{}
+
+ghost use Rattle.spec_moo.specs.Worlds.{TurnsKeep, SegmentsKeep};
+
+/// After each turn and each segment of a task that stands in its programs.
+pub fn tasks()
+    ensures turns { TurnsKeep }
+    ensures segments { SegmentsKeep }
+{}

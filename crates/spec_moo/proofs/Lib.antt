@@ -11,5 +11,6 @@ pub mod PropertyRows
 pub mod TaskRows
 pub mod TurnWorlds
 pub mod SegmentWorlds
+pub mod StepWorlds
 pub mod Courses
 pub mod NativeStages

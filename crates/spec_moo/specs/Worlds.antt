@@ -1,5 +1,5 @@
 -- What running tasks keep of the world: its objects, links and queue agree after each turn, segment, step and list of steps.
-use Rattle.std.specs.Prelude.{◌≡◌, ◌≤◌, ℕ, suc, ◌-◌, ◌*◌, ◌==◌, ℤ, pos, int_le, nat_le, nat_lt, Bool, ◌&&◌, List, length, Option, Some, None, is_some, IsTrue}
+use Rattle.std.specs.Prelude.{◌++◌, ◌≡◌, ◌≤◌, ℕ, suc, ◌-◌, ◌*◌, ◌==◌, ℤ, pos, int_le, nat_le, nat_lt, Bool, ◌&&◌, List, length, Option, Some, None, is_some, IsTrue}
 use Rattle.std.specs.List.{list_all}
 use Rattle.spec_value.specs.Datum.{Datum, Text, is_text, in_number_range}
 use Rattle.spec_value.specs.Table.{at}
@@ -91,3 +91,11 @@ StepsKeep = (w : World) (s : Step) → Agrees w → IsTrue (in_range s) → Agre
 
 abbrev pub ListsKeep : Type 0
 ListsKeep = (w : World) (ss : List Step) → Agrees w → IsTrue (list_all in_range ss) → Agrees (play w ss).0
+
+-- ---- longer lists
+
+-- a longer list goes on where a shorter one ends
+abbrev pub PlayGoesOn : Type 0
+PlayGoesOn =
+    (w : World) (ss ts : List Step)
+    → play w (ss ++ ts) ≡ ((play (play w ss).0 ts).0, (play w ss).1 ++ (play (play w ss).0 ts).1)

@@ -14,3 +14,12 @@ pub fn tasks()
     ensures turns { TurnsKeep }
     ensures segments { SegmentsKeep }
 {}
+
+ghost use Rattle.spec_moo.specs.Worlds.{StepsKeep, ListsKeep, PlayGoesOn};
+
+/// After each step and each list of steps; and a longer list goes on where a shorter one ends.
+pub fn steps()
+    ensures steps { StepsKeep }
+    ensures lists { ListsKeep }
+    ensures sum { PlayGoesOn }
+{}

@@ -1,5 +1,5 @@
 -- What entries of a table hold, once each, when one is put there or some go.
-use Rattle.std.proofs.Common.{◌≡◌, ◌⊎◌, inl, inr, ℕ, ℤ, pos, Bool, true, false, not, ◌&&◌, ◌||◌, List, [], ◌∷◌, ◌++◌, map, Option, Some, None, refl, sym, ap, ◌∙◌, subst, cond, IsTrue, is_eq, int_cmp, Ordering, Less, Equal, Greater}
+use Rattle.std.proofs.Common.{◌≡◌, ◌⊎◌, inl, inr, ℤ, Bool, true, false, not, ◌||◌, List, [], ◌∷◌, ◌++◌, Some, None, refl, sym, ap, ◌∙◌, subst, cond, IsTrue, is_eq, int_cmp, Ordering, Less, Equal, Greater}
 use Rattle.std.specs.Ordering.{int_eq, is_lt}
 use Rattle.std.specs.List.{filter}
 use Rattle.std.specs.Cmp.{int_cmp_total}

@@ -1,5 +1,5 @@
 -- A world's objects, links and tasks agree after each change: of objects, of links, of the queue, of the next number.
-use Rattle.std.proofs.Common.{◌≡◌, ◌⊎◌, inl, inr, ℕ, suc, ◌≤◌, ◌<◌, ◌*◌, ◌-◌, ℤ, pos, negsuc, Bool, true, false, not, ◌&&◌, ◌||◌, List, [], ◌∷◌, ◌++◌, map, Option, Some, None, refl, sym, ap, ◌∙◌, subst, cond, arith, IsTrue, is_some, int_cmp, le-leb, leb-true}
+use Rattle.std.proofs.Common.{◌≡◌, ◌⊎◌, inl, inr, ℕ, ◌≤◌, ◌*◌, ◌-◌, ℤ, pos, negsuc, Bool, true, false, not, ◌&&◌, ◌||◌, List, [], ◌∷◌, ◌++◌, map, Option, Some, None, refl, sym, ap, ◌∙◌, subst, cond, arith, IsTrue, is_some, le-leb, leb-true}
 use Rattle.std.specs.Prelude.{neg_ℤ, ◌-ℤ◌, option_map, int_le, nat_le}
 use Rattle.std.specs.Ordering.{int_eq}
 use Rattle.std.specs.List.{filter}
@@ -8,20 +8,21 @@ use Rattle.spec_value.specs.Datum.{Text, fold_case}
 use Rattle.spec_value.specs.Table.{Numbered, with_name, at, with, without, is_numbered}
 use Rattle.spec_world.specs.World.{World, Object, Slot, Task, Waiting, forked, timed, idle, reading_on, Link, object_at, with_object}
 use Rattle.spec_world.specs.Inherit.{put_slot, with_slot}
-use Rattle.spec_world.specs.WellFormed.{OfEachLink, OfEachTask, passes, on_object, lists, once, is_connection, link_fits, id_fits, waiting_fits, wait_fits, is_moment, TaskStands, read_by, links_read, IsWellFormed, entries_fit}
-use Rattle.spec_world.specs.Agreeing.{ObjectsAgree, LinksAgree, QueueAgrees, Agrees}
-use Rattle.spec_world.specs.Families.{heir_slot, nowhere, change_at, change_object, changed_each, change_each, next_object, child_of, add_child, created, is_below, heir_of, with_heirs, put_below, lose_child, reparented, reparented_each, to_nowhere, out_of_place, recycled_object, recycled, parent_of, leave_out}
-use Rattle.spec_world.specs.Whereabouts.{put_into, moved}
+use Rattle.spec_world.specs.WellFormed.{OfEachLink, passes, on_object, lists, once, is_connection, link_fits, id_fits, waiting_fits, wait_fits, TaskStands, read_by, links_read, IsWellFormed}
+use Rattle.spec_world.specs.Agreeing.{ObjectsAgree, QueueAgrees, Agrees}
+use Rattle.spec_world.specs.Families.{heir_slot, nowhere, change_at, change_object, change_each, next_object, child_of, created, is_below, heir_of, with_heirs, lose_child, reparented, reparented_each, to_nowhere, out_of_place, recycled_object, recycled, parent_of, leave_out}
+use Rattle.spec_world.specs.Whereabouts.{moved}
 use Rattle.spec_world.specs.Members.{with_own_slot, defining, not_defining, lose_slot, property_added, property_deleted}
 use Rattle.spec_world.specs.Naming.{location_of}
-use Rattle.spec_world.specs.Links.{connection_object, connection_among, connection_of, reads_on, reader_among, reader_of, open_link, close_link}
+use Rattle.spec_world.specs.Links.{connection_among, connection_of, reads_on, reader_among, open_link, close_link}
 use Rattle.spec_value.proofs.Entries.{first_holds, second_holds, both_hold}
 use Rattle.spec_value.proofs.Keys.{still_sorted}
 use Rattle.spec_value.proofs.Same.{same_integer, integer_itself}
-use Rattle.spec_world.proofs.Trees.{same_or_not, turned, other, some_same, either, first_of, second_of}
+use Rattle.spec_world.proofs.Trees.{same_or_not, turned, some_same, either, first_of, second_of}
 use Rattle.spec_world.proofs.Households.{household, objects_agree, objects_of, at_put, at_each, at_without, without_numbered}
 use Rattle.spec_world.proofs.ObjectChanges.{at_change, StaysThere, same_stays, stays_household}
 use Rattle.spec_world.proofs.NewObjects.{free}
+use Rattle.spec_world.proofs.Recycling.{below_none}
 use Rattle.spec_world.proofs.TablesKept.{held_by, held_once, left_once, same_held, at_with, at_left, left_numbered, neither, first_no, last_no}
 
 -- ---- what a change of objects leaves: the rest of the world, and who is a player
@@ -492,6 +493,23 @@ person_listed (e ∷ es) c k h = go (person_listed es c k) (int_eq c e.0) h
     go : (at es c ≡ Some k → IsTrue (lists (map (λ e. (e.1).person) es) k.person)) → (b : Bool) → cond b (Some e.1) (at es c) ≡ Some k → IsTrue (lists (map (λ e. (e.1).person) (e ∷ es)) k.person)
     go later true s = first_of (int_eq k.person (e.1).person) _ (subst (λ z. IsTrue (int_eq z (e.1).person)) (ap (λ (m : Link). m.person) (some_same s)) (integer_itself (e.1).person))
     go later false s = second_of (int_eq k.person (e.1).person) _ (later s)
+
+-- a person that is listed is that of a link
+pub person_found : (es : Numbered Link) (o : ℤ) → IsTrue (is_numbered es) → IsTrue (lists (map (λ e. (e.1).person) es) o) → (c : ℤ) × ((k : Link) × (at es c ≡ Some k) × (k.person ≡ o))
+person_found [] o h l = cc
+person_found (e ∷ es) o h l = go (person_found es o (second_holds _ _ h)) (either (int_eq o (e.1).person) _ l)
+  where
+    go : (IsTrue (lists (map (λ e. (e.1).person) es) o) → (c : ℤ) × ((k : Link) × (at es c ≡ Some k) × (k.person ≡ o))) → IsTrue (int_eq o (e.1).person) ⊎ IsTrue (lists (map (λ e. (e.1).person) es) o)
+        → (c : ℤ) × ((k : Link) × (at (e ∷ es) c ≡ Some k) × (k.person ≡ o))
+    go later (inl s) = (e.0, (e.1, ap (λ b. cond b (Some e.1) (at es e.0)) (integer_itself e.0), sym (same_integer o (e.1).person s)))
+    go later (inr s) = let r = later s in (r.0, (r.1.0, behind r.0 r.1.0 r.1.1, r.1.2))
+      where
+        behind : (c : ℤ) (k : Link) → at es c ≡ Some k → cond (int_eq c e.0) (Some e.1) (at es c) ≡ Some k
+        behind c k m = by (same_or_not c e.0)
+          where
+            by : (c ≡ e.0) ⊎ (int_eq c e.0 ≡ false) → cond (int_eq c e.0) (Some e.1) (at es c) ≡ Some k
+            by (inl d) = let clash : None ≡ Some k = sym (below_none e.0 es (first_holds _ _ h)) ∙ ap (at es) (sym d) ∙ m in absurd (cc (clash))
+            by (inr d) = ap (λ b. cond b (Some e.1) (at es c)) d ∙ m
 
 pub nobodys : (w : World) (o : ℤ) → lists (map (λ e. (e.1).person) w.links) o ≡ false → IsNobodys w o
 nobodys w o h c k e = go (same_or_not k.person o)

@@ -10,7 +10,7 @@ use Rattle.spec_world.specs.World.{Link}
 use Rattle.spec_value.specs.Table.{at}
 use Rattle.spec_world.specs.VerbsSought.{Sought, find_verb}
 use Rattle.spec_world.specs.Naming.{location_of}
-use Rattle.spec_world.specs.WellFormed.{passes}
+use Rattle.spec_world.specs.WellFormed.{passes, native_fits}
 use Rattle.spec_world.specs.Families as families
 use Rattle.spec_world.specs.Families.{next_object, parent_of, is_below, created, reparented, clashes, recycled}
 use Rattle.spec_world.specs.Whereabouts.{is_inside, moved}
@@ -26,12 +26,12 @@ use Rattle.spec_moo.specs.Natives.Rows.{is_valid, is_valid_or_none, answers_with
 use Rattle.spec_moo.specs.Natives.Objects.{valid_row, is_player_row, parent_row, children_row, calls_found, calls_if_there, stage, create_with, create_for, create_row, has_numbers, recycle_now, recycle_row, another_parent, chparent_row, is_there, told_to_enter, later_stage, last_stage, move_now, accepted, move_row, with_flag, set_player_flag_row, object_rows, objects, staged, object_stage}
 use Rattle.spec_moo.specs.Worlds.{SceneAgrees, NativeKeeps}
 
-calls_keep : (s : Scene) (c : Caller) (n : Native) (o : ℤ) (word : Text) (args : Data) (e : NativeEffect) → SceneAgrees s → NativeKeeps e → NativeKeeps (calls_if_there s c n o word args e)
-calls_keep s c n o word args e h k = go (find_verb s.world o word)
+calls_keep : (s : Scene) (c : Caller) (n : Native) (o : ℤ) (word : Text) (args : Data) (e : NativeEffect) → SceneAgrees s → IsTrue (native_fits n.name n.stage n.arguments) → NativeKeeps e → NativeKeeps (calls_if_there s c n o word args e)
+calls_keep s c n o word args e h fits k = go (find_verb s.world o word)
   where
     go : (f : Option Sought) → NativeKeeps (calls_found s c n o word args e f)
     go None = k
-    go (Some f) = h
+    go (Some f) = (h, fits)
 
 -- ---- what is known of objects
 
@@ -53,26 +53,28 @@ children_keep s c _ h = h
 
 -- ---- `create`
 
-create_with_keeps : (s : Scene) (c : Caller) (p owner : ℤ) (args : List Datum) → SceneAgrees s → IsPlace s.world p → has_numbers s ≡ true → NativeKeeps (create_with s c p owner args)
-create_with_keeps s c p owner args h at_p room =
+create_with_keeps : (s : Scene) (c : Caller) (p owner : ℤ) (args : List Datum) → SceneAgrees s → IsPlace s.world p → has_numbers s ≡ true
+    → IsTrue (native_fits create_native 1 (args ++ object (next_object s.world) ∷ [])) → NativeKeeps (create_with s c p owner args)
+create_with_keeps s c p owner args h at_p room fits =
     let u : World = created s.world p owner in
     let objects = created_keeps s.world p owner h.world.objects room at_p in
     let after : SceneAgrees (in_world s u) =
     objects_then s u h (objects_changed s.world u h.world objects (created_rest s.world p owner) (with_players s.world u (created_players s.world p owner h.world.objects room at_p)))
     (created_rest s.world p owner) in
-    calls_keep (in_world s u) c (stage create_native (args ++ object (next_object s.world) ∷ [])) (next_object s.world) (codes "initialize") no_data _ after after
+    calls_keep (in_world s u) c (stage create_native (args ++ object (next_object s.world) ∷ [])) (next_object s.world) (codes "initialize") no_data _ after fits after
 
-create_for_keeps : (s : Scene) (c : Caller) (p owner : ℤ) (args : List Datum) → SceneAgrees s → IsPlace s.world p → NativeKeeps (create_for s c p owner args)
-create_for_keeps s c p owner args h at_p =
+create_for_keeps : (s : Scene) (c : Caller) (p owner : ℤ) (args : List Datum) → SceneAgrees s → IsPlace s.world p
+    → IsTrue (native_fits create_native 1 (args ++ object (next_object s.world) ∷ [])) → NativeKeeps (create_for s c p owner args)
+create_for_keeps s c p owner args h at_p fits =
     tested (may s.world c.call.programmer (have_child p) && may s.world c.call.programmer (change_owner c.call.programmer owner)) _ _ h (λ e.
-    tested (has_numbers s) _ _ h (λ d. create_with_keeps s c p owner args h at_p d))
+    tested (has_numbers s) _ _ h (λ d. create_with_keeps s c p owner args h at_p d fits))
 
 create_keeps : (s : Scene) (c : Caller) (args : List Datum) → SceneAgrees s → NativeKeeps (create_row s c args)
 create_keeps s c (object p ∷ []) h =
-    tested (is_valid_or_none s p) _ _ h (λ e. create_for_keeps s c p c.call.programmer (object p ∷ []) h (place s p e))
+    tested (is_valid_or_none s p) _ _ h (λ e. create_for_keeps s c p c.call.programmer (object p ∷ []) h (place s p e) refl)
 create_keeps s c (object p ∷ object owner ∷ []) h =
     tested (is_valid_or_none s p && is_valid s owner) _ _ h
-    (λ e. create_for_keeps s c p owner (object p ∷ object owner ∷ []) h (place s p (first_holds (is_valid_or_none s p) _ e)))
+    (λ e. create_for_keeps s c p owner (object p ∷ object owner ∷ []) h (place s p (first_holds (is_valid_or_none s p) _ e)) refl)
 create_keeps s c _ h = h
 
 -- ---- `recycle`
@@ -98,7 +100,7 @@ recycle_keeps : (s : Scene) (c : Caller) (args : List Datum) → SceneAgrees s �
 recycle_keeps s c (object o ∷ []) h =
     tested (is_valid s o) _ _ h (λ e.
     tested (may s.world c.call.programmer (change_object o)) _ _ h (λ d.
-    calls_keep s c (stage recycle_native (object o ∷ [])) o (codes "recycle") no_data (answers_with (recycle_now s o) zero_value) h (recycle_now_keeps s o h)))
+    calls_keep s c (stage recycle_native (object o ∷ [])) o (codes "recycle") no_data (answers_with (recycle_now s o) zero_value) h refl (recycle_now_keeps s o h)))
 recycle_keeps s c _ h = h
 
 -- ---- `chparent`
@@ -128,13 +130,13 @@ chparent_keeps s c _ h = h
 told_keeps : (s : Scene) (c : Caller) (what there before : ℤ) → SceneAgrees s → NativeKeeps (told_to_enter s c what there before)
 told_keeps s c what there before h =
     of_choice (is_there s what there && is_valid s there) _ _
-    (λ e. calls_keep s c (last_stage move_native (object what ∷ object there ∷ object before ∷ [])) there (codes "enterfunc") (item (object what) no_data) (answers_with s zero_value) h h) (λ e. h)
+    (λ e. calls_keep s c (last_stage move_native (object what ∷ object there ∷ object before ∷ [])) there (codes "enterfunc") (item (object what) no_data) (answers_with s zero_value) h refl h) (λ e. h)
 
 move_now_keeps : (s : Scene) (c : Caller) (what there : ℤ) (x : Object) → object_at s.world what ≡ Some x → SceneAgrees s → IsPlace s.world there → is_inside s.world what there ≡ false → NativeKeeps (move_now s c what there)
 move_now_keeps s c what there x is h at_p outside =
     of_choice (is_there s what there) _ _ (λ e. h) (λ e.
     calls_keep (in_world s u) c (later_stage move_native (object what ∷ object there ∷ object (location_of (object_at s.world what)) ∷ [])) (location_of (object_at s.world what)) (codes "exitfunc") (item (object what) no_data)
-    (told_to_enter (in_world s u) c what there (location_of (object_at s.world what))) after (told_keeps (in_world s u) c what there (location_of (object_at s.world what)) after))
+    (told_to_enter (in_world s u) c what there (location_of (object_at s.world what))) after refl (told_keeps (in_world s u) c what there (location_of (object_at s.world what)) after))
   where
     u : World
     u = moved s.world what there
@@ -159,7 +161,7 @@ move_keeps s c (object what ∷ object there ∷ []) h =
     tested (may s.world c.call.programmer (change_object what)) _ _ h (λ e2.
     tested (not (is_inside s.world what there)) _ _ h (λ e3.
     of_choice (is_valid s there) _ _
-    (λ e4. calls_keep s c (stage move_native (object what ∷ object there ∷ [])) there (codes "accept") (item (object what) no_data) (accepted s c what there (is_true zero_value)) h (accepted_keeps s c what there (is_true zero_value) h))
+    (λ e4. calls_keep s c (stage move_native (object what ∷ object there ∷ [])) there (codes "accept") (item (object what) no_data) (accepted s c what there (is_true zero_value)) h refl (accepted_keeps s c what there (is_true zero_value) h))
     (λ e4. let x = valid s what (first_holds (is_valid s what) _ e1) in
     move_now_keeps s c what there x.0 x.1 h (place s there (second_holds (is_valid s what) _ e1)) (not_so _ e3)))))
 move_keeps s c _ h = h

@@ -209,7 +209,7 @@ eval_keeps : (s : Scene) (c : Caller) (args : List Datum) → SceneAgrees s → 
 eval_keeps s c (text t ∷ []) h = tested (may s.world c.call.programmer evaluate) _ _ h (λ k. go (parsed t))
   where
     go : (r : Parsed) → NativeKeeps (evaluated s c t r)
-    go (program p) = h
+    go (program p) = (h, refl)
     go (faulty f) = h
 eval_keeps s c _ h = h
 

@@ -10,7 +10,7 @@ use Rattle.spec_program.specs.Construct.{Construct, of_expr, of_target, of_defau
 use Rattle.spec_program.specs.Place.{is_call, Linked}
 use Rattle.spec_world.specs.World.{World, Object, Link, Programming, Entry, frame_entry, native_entry, Task, Waiting, forked, timed, idle, reading_on, object_at}
 use Rattle.spec_world.specs.WellFormed.{on_object, passes, lists, is_connection, link_fits, is_moment, fork_fits, at_beginning, waiting_fits, TaskStands, FramesStand, read_by, links_read}
-use Rattle.spec_world.specs.Agreeing.{Agrees}
+use Rattle.spec_world.specs.Agreeing.{EntriesHold, Agrees}
 use Rattle.spec_world.specs.Links.{connection_object, connection_of, reader_of, open_link, close_link}
 use Rattle.spec_world.specs.VerbsSought.{Sought}
 use Rattle.spec_world.specs.CommandLines as line
@@ -24,7 +24,7 @@ use Rattle.spec_moo.specs.Scene.{Scene, in_world, has_ids, next_id, id_taken, en
 use Rattle.spec_moo.specs.Linking.{connection_closed, link_closed}
 use Rattle.spec_moo.specs.Pending.{hand, Pending, Stop, done, raised, out_of_ticks, waiting, killed, going_on}
 use Rattle.spec_moo.specs.Segment.{segment}
-use Rattle.spec_moo.specs.Standing.{LooksAt, Stands}
+use Rattle.spec_moo.specs.Standing.{LooksAt}
 use Rattle.spec_moo.specs.Natives.Properties.{as_texts}
 use Rattle.spec_moo.specs.Steps.Outcomes as outcome
 use Rattle.spec_moo.specs.Steps.Outcomes.{Event, line_of, ready_task, Step, Outcome, ended, opening_scene, comes_to, idle_with}
@@ -33,7 +33,7 @@ use Rattle.spec_moo.specs.Steps.Programming.{with_link, programmable, begins, op
 use Rattle.spec_moo.specs.Steps.Events.{foreground_ticks, queued_ticks, nothing_runs, words_value, user_task, greeted, logged_in, is_player, is_open_for, may_log_in, login_value, after_login, login_with, login, opened_link, command_call, command_start, command_run, player_line, without_task, resumed, with_own_task, line_for, line_read, line_taken, line_on, told_gone, gone, closed_link, is_due, ready_run, ready_at, event_of, event}
 use Rattle.spec_moo.specs.Steps.Events as events
 use Rattle.spec_moo.specs.Steps.{numbered, play1, play}
-use Rattle.spec_moo.specs.Worlds.{IdFits, SceneAgrees, MayWait, StopKeeps, event_in_range, in_range, StepsKeep, ListsKeep, PlayGoesOn}
+use Rattle.spec_moo.specs.Worlds.{IsUnderWay, IdFits, SceneAgrees, MayWait, StopKeeps, event_in_range, in_range, StepsKeep, ListsKeep, PlayGoesOn}
 use Rattle.spec_moo.proofs.NativeWorlds.{in_agreeing, closed_scene}
 use Rattle.spec_moo.proofs.PropertyRows.{changed_verb}
 use Rattle.spec_moo.proofs.TaskRows.{id_in_range, taken}
@@ -74,10 +74,10 @@ waits_apart w (reading_on d) h c l = go (either (int_eq c d) false l)
     go (inl e) = subst (λ z. lists (links_read w.tasks) z ≡ false) (sym (same_integer c d e)) (none_reads w.tasks d h.1)
     go (inr e) = cc
 
-put_keeps : (s : Scene) (i : Option ℤ) (player : ℤ) (why : Waiting) (es : List Entry) → IdFits s.world i → SceneAgrees s → MayWait s.world why → FramesStand es → SceneAgrees (put_by s i (waiting_task player why es))
-put_keeps s None player why es id h may stands = h
-put_keeps s (Some i) player why es id h may stands =
-    queued_keeps s i (waiting_task player why es) h (task_put s.world i (waiting_task player why es) h.world id (waits why may) (places why may) (waits_apart s.world why may))
+put_keeps : (s : Scene) (i : Option ℤ) (player : ℤ) (why : Waiting) (es : List Entry) → IdFits s.world i → SceneAgrees s → MayWait s.world why → FramesStand es → EntriesHold es → SceneAgrees (put_by s i (waiting_task player why es))
+put_keeps s None player why es id h may stands holds = h
+put_keeps s (Some i) player why es id h may stands holds =
+    queued_keeps s i (waiting_task player why es) h (task_put s.world i (waiting_task player why es) h.world id (waits why may) (places why may) holds (waits_apart s.world why may))
   where
     waits : (why : Waiting) → MayWait s.world why → IsTrue (waiting_fits s.world (waiting_task player why es) why)
     waits (forked m) k = absurd k
@@ -94,19 +94,19 @@ put_keeps s (Some i) player why es id h may stands =
 -- ---- a task under way
 
 stop_keeps : (player : ℤ) (s : Scene) (why : Stop) → StopKeeps s why → SceneAgrees (after_stop player s why)
-stop_keeps player s (waiting why es) h = put_keeps s s.task player why es h.0.own h.0 h.1.0 h.1.1
+stop_keeps player s (waiting why es) h = put_keeps s s.task player why es h.0.own h.0 h.1.0 h.1.1.0 h.1.1.1
 stop_keeps player s (done v) h = told_keeps s (connection_of s.world player) [] h
 stop_keeps player s (raised f) h = told_keeps s (connection_of s.world player) _ h
 stop_keeps player s (out_of_ticks ts) h = told_keeps s (connection_of s.world player) _ h
 stop_keeps player s killed h = told_keeps s (connection_of s.world player) [] h
 
-run_keeps : (s : Scene) (p : Pending) → SceneAgrees s → Stands p → SceneAgrees (run s p).scene
+run_keeps : (s : Scene) (p : Pending) → SceneAgrees s → IsUnderWay p → SceneAgrees (run s p).scene
 run_keeps s p h k = stop_keeps p.player (segment s.ticks_left s p).scene (segment s.ticks_left s p).stop (segments_keep s.ticks_left s p h k)
 
 -- a task that waited stands at its call, and a fork at its beginning
 abbrev GoesOn : Option Pending → Type 0
 GoesOn None = Unit {0}
-GoesOn (Some p) = Stands p
+GoesOn (Some p) = IsUnderWay p
 
 call_hands : (r c : Construct) (v : Datum) (ps : List Piece) → IsTrue (is_call c) → Linked c ps r → LooksAt r ps (hand v)
 call_hands r (of_expr e) v ps is h = (e, h)
@@ -115,10 +115,10 @@ call_hands r (of_default x e) v ps is h = cc
 call_hands r (of_statement t) v ps is h = cc
 call_hands r (of_program q) v ps is h = cc
 
-handed_on : (player : ℤ) (v : Datum) (es : List Entry) → FramesStand es → GoesOn (going_on player (hand v) es)
-handed_on player v [] h = tt
-handed_on player v (frame_entry g ∷ es) h = (call_hands (of_program g.program) (h.0).0 v g.pieces (h.0).1 (h.0).2, h.1)
-handed_on player v (native_entry n ∷ es) h = tt
+handed_on : (player : ℤ) (v : Datum) (es : List Entry) → FramesStand es → EntriesHold es → GoesOn (going_on player (hand v) es)
+handed_on player v [] h k = tt
+handed_on player v (frame_entry g ∷ es) h k = ((call_hands (of_program g.program) (h.0).0 v g.pieces (h.0).1 (h.0).2, h.1), k)
+handed_on player v (native_entry n ∷ es) h k = tt
 
 fork_begins : (t : Task) → IsTrue (fork_fits t.entries) → GoesOn (begun_again t (beginning_of t.entries))
 fork_begins t h = go t.entries h
@@ -129,15 +129,15 @@ fork_begins t h = go t.entries h
 
     go : (es : List Entry) → IsTrue (fork_fits es) → GoesOn (begun_again (record t { entries = es }) (beginning_of es))
     go [] k = cc
-    go (frame_entry f ∷ []) k = (subst (λ ps. Linked (of_program f.program) ps (of_program f.program)) (sym (empty f.pieces k)) refl, tt)
+    go (frame_entry f ∷ []) k = ((subst (λ ps. Linked (of_program f.program) ps (of_program f.program)) (sym (empty f.pieces k)) refl, tt), (refl, (omega arith, refl)))
     go (frame_entry f ∷ e ∷ es) k = cc
     go (native_entry n ∷ es) k = cc
 
-goes_on_standing : (w : World) (t : Task) (why : Waiting) (v : Datum) → IsTrue (waiting_fits w t why) → TaskStands t why → GoesOn (gone_on t why v)
-goes_on_standing w t (forked m) v h k = fork_begins t (second_holds (is_moment m) _ h)
-goes_on_standing w t (timed m u) v h k = handed_on t.player u t.entries k
-goes_on_standing w t idle v h k = handed_on t.player v t.entries k
-goes_on_standing w t (reading_on c) v h k = handed_on t.player v t.entries k
+goes_on_standing : (w : World) (t : Task) (why : Waiting) (v : Datum) → IsTrue (waiting_fits w t why) → TaskStands t why → EntriesHold t.entries → GoesOn (gone_on t why v)
+goes_on_standing w t (forked m) v h k holds = fork_begins t (second_holds (is_moment m) _ h)
+goes_on_standing w t (timed m u) v h k holds = handed_on t.player u t.entries k holds
+goes_on_standing w t idle v h k holds = handed_on t.player v t.entries k holds
+goes_on_standing w t (reading_on c) v h k holds = handed_on t.player v t.entries k holds
 
 resumed_keeps : (s : Scene) (o : Option Pending) → SceneAgrees s → GoesOn o → Agrees (resumed s o).0
 resumed_keeps s None h k = h.world
@@ -193,7 +193,7 @@ greeted_keeps s who (Some f) h = go (has_ids s) refl
     go false e = h
     go true e =
         queued_keeps (id_taken s) (next_id s) (user_task s who f) (taken s s.task h e h.own)
-        (task_put s.world (next_id s) (user_task s who f) h.world (id_in_range s h e) (both_hold (is_moment s.moment) true h.moment refl) tt (λ c l. cc))
+        (task_put s.world (next_id s) (user_task s who f) h.world (id_in_range s h e) (both_hold (is_moment s.moment) true h.moment refl) tt (refl, (omega arith, refl)) (λ c l. cc))
 
 logged_in_keeps : (s : Scene) (c who : ℤ) → SceneAgrees s → IsTrue (is_connection c) → IsTrue (is_player (object_at s.world who)) → SceneAgrees (logged_in s c who)
 logged_in_keeps s c who h ranged player =
@@ -228,7 +228,7 @@ login_keeps s c argstr args h = go (on_system s (codes "do_login_command"))
     go None = h.world
     go (Some f) =
         let r : Ran = run s (system_task (connection_object c) (codes "do_login_command") argstr args f) in
-        (login_value_keeps r.scene c r.stop (run_keeps s (system_task (connection_object c) (codes "do_login_command") argstr args f) h (refl, tt))).world
+        (login_value_keeps r.scene c r.stop (run_keeps s (system_task (connection_object c) (codes "do_login_command") argstr args f) h ((refl, tt), (refl, (omega arith, refl))))).world
 
 -- ---- `.program`
 
@@ -282,9 +282,9 @@ command_keeps : (s : Scene) (c : ℤ) (k : Link) (m : Command) → at s.world.li
 command_keeps s c k nothing_said e h = h.world
 command_keeps s c k (programming r) e h = requested_keeps s c k r e h
 command_keeps s c k (calls_verb p n m) e h =
-    (run_keeps s (begun k.person (command_call k.person m.this p.verb m.sought) p.verb (command_start p n) (of_list (as_texts p.args)) (m.sought).verb.program) h (refl, tt)).world
+    (run_keeps s (begun k.person (command_call k.person m.this p.verb m.sought) p.verb (command_start p n) (of_list (as_texts p.args)) (m.sought).verb.program) h ((refl, tt), (refl, (omega arith, refl)))).world
 command_keeps s c k (calls_huh p n f) e h =
-    (run_keeps s (begun k.person (command_call k.person (location_of (object_at s.world k.person)) (codes "huh") f) p.verb (command_start p n) (of_list (as_texts p.args)) (f.verb).program) h (refl, tt)).world
+    (run_keeps s (begun k.person (command_call k.person (location_of (object_at s.world k.person)) (codes "huh") f) p.verb (command_start p n) (of_list (as_texts p.args)) (f.verb).program) h ((refl, tt), (refl, (omega arith, refl)))).world
 command_keeps s c k not_understood e h = h.world
 
 line_for_keeps : (s : Scene) (c : ℤ) (k : Link) (t : Text) → at s.world.links c ≡ Some k → SceneAgrees s → Agrees (line_for s c k t).0
@@ -297,7 +297,7 @@ line_for_keeps s c k t e h = go (int_eq k.person (connection_object c))
 read_keeps : (s : Scene) (i : ℤ) (v : Datum) (m : Option Task) → at s.world.tasks i ≡ m → SceneAgrees s → Agrees (events.read_by s i v m).0
 read_keeps s i v None e h = h.world
 read_keeps s i v (Some t) e h =
-    resumed_keeps (with_own_task s i) (gone_on t t.waiting v) (own_task s i t e h) (goes_on_standing s.world t t.waiting v (h.world.queue.task_waits i t e) (h.world.queue.task_places i t e))
+    resumed_keeps (with_own_task s i) (gone_on t t.waiting v) (own_task s i t e h) (goes_on_standing s.world t t.waiting v (h.world.queue.task_waits i t e) (h.world.queue.task_places i t e) (h.world.queue.task_entries i t e))
 
 line_taken_keeps : (s : Scene) (c : ℤ) (k : Link) (t : Text) (g : Option Programming) → at s.world.links c ≡ Some k → SceneAgrees s → Agrees (line_taken s c k t g).0
 line_taken_keeps s c k t (Some g) e h = collected_keeps s c k g t e h
@@ -352,7 +352,7 @@ gone_keeps s c who h = go (int_eq who (connection_object c))
   where
     on : (f : Option Sought) → Agrees (told_gone s who f).0
     on None = h.world
-    on (Some f) = (run_keeps s (system_task who (codes "user_disconnected") [] (item (object who) no_data) f) h (refl, tt)).world
+    on (Some f) = (run_keeps s (system_task who (codes "user_disconnected") [] (item (object who) no_data) f) h ((refl, tt), (refl, (omega arith, refl)))).world
 
     go : (b : Bool) → Agrees (if b then nothing_runs s else told_gone s who (on_system s (codes "user_disconnected"))).0
     go true = h.world
@@ -378,7 +378,7 @@ ready_keeps s w i (Some t) e b = go (is_due s.moment t.waiting)
     go true =
         let u : Scene = opening_scene w s queued_ticks in
         resumed_keeps (with_own_task u i) (gone_on t t.waiting _) (own_task u i t e (opened w s queued_ticks b))
-        (goes_on_standing w t t.waiting _ (b.world.queue.task_waits i t e) (b.world.queue.task_places i t e))
+        (goes_on_standing w t t.waiting _ (b.world.queue.task_waits i t e) (b.world.queue.task_places i t e) (b.world.queue.task_entries i t e))
 
 event_keeps : (w : World) (s : Step) (e : Event) → IsTrue (event_in_range e) → Opens w s → Agrees (event_of w s e).0
 event_keeps w s (outcome.open_link c) r b = opened_keeps s w c (at w.links c) refl r b

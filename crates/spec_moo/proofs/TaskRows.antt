@@ -104,7 +104,7 @@ resumes_keep s c i v h =
     tested (may s.world c.call.programmer (control_task (task_programmer t))) _ _ h (λ k1.
     tested (is_suspended t.waiting) _ _ h (λ k2.
     in_agreeing s (record (s.world) { tasks = with s.world.tasks i (record t { waiting = timed s.moment v }) }) h
-    (task_put s.world i (record t { waiting = timed s.moment v }) h.world (h.world.queue.task_ids i t e) h.moment (stands t t.waiting k2 (h.world.queue.task_places i t e)) (λ d l. cc))
+    (task_put s.world i (record t { waiting = timed s.moment v }) h.world (h.world.queue.task_ids i t e) h.moment (stands t t.waiting k2 (h.world.queue.task_places i t e)) (h.world.queue.task_entries i t e) (λ d l. cc))
     refl)))
   where
     stands : (t : Task) (why : Waiting) → is_suspended why ≡ true → TaskStands t why → FramesStand t.entries

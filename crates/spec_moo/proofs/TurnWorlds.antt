@@ -1,5 +1,5 @@
 -- A turn keeps what a world's objects, links and tasks agree on.
-use Rattle.std.proofs.Common.{◌≡◌, ℕ, zero, suc, ◌+◌, ◌==◌, ◌||◌, ◌&&◌, Bool, true, false, List, [], ◌∷◌, ◌++◌, Option, Some, None, refl, IsTrue, if◌then◌else◌, ℤ, pos, negsuc}
+use Rattle.std.proofs.Common.{◌≤◌, arith, leb-true, ◌≡◌, ℕ, zero, suc, ◌+◌, ◌==◌, ◌||◌, ◌&&◌, Bool, true, false, List, [], ◌∷◌, ◌++◌, Option, Some, None, refl, IsTrue, if◌then◌else◌, ℤ, pos, negsuc}
 use Rattle.std.specs.Prelude.{codes, drop, option_map}
 use Rattle.spec_value.specs.Datum.{Datum, integer, object, text, error, list, Data, to_list, Text, same_text, is_true, type_mismatch, too_many_calls, limit_exceeded}
 use Rattle.spec_value.specs.Answer.{Answer, gives, raises, is_allowed, limited_answer}
@@ -10,8 +10,10 @@ use Rattle.spec_program.specs.Tree.{Expr, literal, variable, own_length, unary, 
 use Rattle.spec_program.specs.Construct.{Construct, of_expr, of_target, of_default, of_statement, of_program, Piece}
 use Rattle.spec_program.specs.Place.{Part, parts, nth, statement_parts, arity}
 use Rattle.spec_world.specs.World.{Object, Native, NativeName, move_native, create_native, recycle_native, eval_native, Entry, frame_entry, native_entry, Call, Task, object_at}
-use Rattle.spec_world.specs.WellFormed.{is_moment}
-use Rattle.spec_value.proofs.Entries.{both_hold}
+use Rattle.spec_world.specs.WellFormed.{is_moment, goes_on_after_frame, frames, native_fits}
+use Rattle.spec_world.specs.Agreeing.{native_holds, EntriesHold}
+use Rattle.std.specs.List.{list_all}
+use Rattle.spec_value.proofs.Entries.{second_holds, both_hold}
 use Rattle.spec_world.specs.VerbsSought.{Sought, find_verb}
 use Rattle.spec_world.proofs.WorldsKept.{task_put}
 use Rattle.spec_moo.specs.Scene.{Scene, in_world, has_ids, next_id, id_taken, moment_after, enqueued}
@@ -303,7 +305,7 @@ fork_keeps s p x b n h has =
     after : SceneAgrees (enqueued (id_taken s) (next_id s) t)
     after =
         let k = taken s s.task h has h.own in
-        let w = task_put s.world (next_id s) t h.world (id_in_range s h has) (fits (later_moment s n)) tt (λ c l. cc) in
+        let w = task_put s.world (next_id s) t h.world (id_in_range s h has) (fits (later_moment s n)) tt (refl, (omega arith, refl)) (λ c l. cc) in
         record { world = w; number = k.number; before = k.before; moment = k.moment; ids = k.ids; own = go s.task h.own }
       where
         fits : IsTrue (is_moment (moment_after s n)) → IsTrue (is_moment (moment_after s n) && true)
@@ -470,7 +472,7 @@ native_keeps : (p : Pending) (c : Construct) (ps : List Piece) (e : NativeEffect
 unfolding native_effected
 native_keeps p c ps (answers s a) h = answered_keeps s p c ps (limited_answer a) h
 native_keeps p c ps (complains s f) h = failing_keeps s p c ps f h
-native_keeps p c ps (begins s n d body args) h = entering_keeps s p c ps (native_entry n ∷ []) d body args h
+native_keeps p c ps (begins s n d body args) h = entering_keeps s p c ps (native_entry n ∷ []) d body args h.0
 native_keeps p c ps (waits s why) h = h
 native_keeps p c ps (dies s) h = h
 native_keeps p c ps (becomes s who) h = h
@@ -535,18 +537,143 @@ turn_on_keeps s p next (q ∷ ps) h = reach_keeps s p q.construct q.part q.held 
 turn_on_keeps s p (leave l) [] h = out_keeps s p l h
 turn_on_keeps s p (leave l) (q ∷ ps) h = passing_keeps s p l q ps (catches s q.construct q.part q.held l) h (catches_keep q.construct s q.part q.held l h)
 
--- and the task stands in its programs
-joined_keeps : (t : Turned) → Kept t → StandsStill t → TurnedKeeps t
-joined_keeps (goes_on s p) h k = (h, k)
-joined_keeps (halts s (waiting why es)) h k = (h.0, (h.1, k))
-joined_keeps (halts s (done v)) h k = h
-joined_keeps (halts s (raised f)) h k = h
-joined_keeps (halts s (out_of_ticks ts)) h k = h
-joined_keeps (halts s killed) h k = h
+-- ---- what waits for the innermost verb
+
+abbrev Outer : List Entry → Type 0
+Outer es = IsTrue (goes_on_after_frame es) × ((suc (frames es) ≤ 50) × IsTrue (list_all native_holds es))
+
+abbrev OuterKept : Turned → Type 0
+OuterKept (goes_on s p) = Outer p.outer
+OuterKept (halts s (waiting why es)) = EntriesHold es
+OuterKept (halts s why) = Unit {0}
+
+part_outer : (s : Scene) (p : Pending) (c : Construct) (n : ℕ) (vs : List Datum) (ps : List Piece) (o : Option Part) → Outer p.outer → OuterKept (on_part s p c n vs ps o)
+part_outer s p c n vs ps None h = h
+part_outer s p c n vs ps (Some x) h = go x.tree
+  where
+    go : (t : Option Construct) → OuterKept (on_tree s p c n vs ps t)
+    go None = h
+    go (Some d) = h
+
+reach_outer : (s : Scene) (p : Pending) (c : Construct) (n : ℕ) (vs : List Datum) (ps : List Piece) → Outer p.outer → OuterKept (reach s p c n vs ps)
+reach_outer s p c n vs ps h = go (has_step c n)
+  where
+    go : (b : Bool) → OuterKept (at_point s p c n vs ps b)
+    go true = h
+    go false = part_outer s p c n vs ps (nth (parts c) n) h
+
+outer_if : (b : Bool) (t u : Turned) → (b ≡ true → OuterKept t) → OuterKept u → OuterKept (if b then t else u)
+outer_if true t u h k = h refl
+outer_if false t u h k = k
+
+failing_outer : (s : Scene) (p : Pending) (c : Construct) (ps : List Piece) (f : Failure) → Outer p.outer → OuterKept (failing s p c ps f)
+failing_outer s p c ps f h = outer_if (p.frame.call.debug || always_raises c) _ _ (λ e. h) h
+
+called_outer : (s : Scene) (p : Pending) (c : Construct) (ps : List Piece) (d : Call) (body : Program) (args : Data) → Outer p.outer → OuterKept (entering s p c ps [] d body args)
+called_outer s p c ps d body args h =
+    outer_if (has_room p.outer) _ _ (λ e. let room : suc (frames p.outer) ≤ 49 = leb-true (suc (frames p.outer)) 49 e in (h.0, (omega (arith, room), h.1.1)))
+    (failing_outer s p c ps (failure too_many_calls) h)
+
+begun_outer : (s : Scene) (p : Pending) (c : Construct) (ps : List Piece) (n : Native) (d : Call) (body : Program) (args : Data) → IsTrue (native_fits n.name n.stage n.arguments) → Outer p.outer
+    → OuterKept (entering s p c ps (native_entry n ∷ []) d body args)
+begun_outer s p c ps n d body args fits h =
+    outer_if (has_room p.outer) _ _ (λ e. let room : suc (frames p.outer) ≤ 49 = leb-true (suc (frames p.outer)) 49 e in (h.0, (omega (arith, room), both_hold (native_fits n.name n.stage n.arguments) _ fits h.1.1)))
+    (failing_outer s p c ps (failure too_many_calls) h)
+
+answered_outer : (s : Scene) (p : Pending) (c : Construct) (ps : List Piece) (a : Answer) → Outer p.outer → OuterKept (native_answered s p c ps a)
+answered_outer s p c ps (gives v) h = h
+answered_outer s p c ps (raises e) h = failing_outer s p c ps (failure e) h
+
+native_outer : (p : Pending) (c : Construct) (ps : List Piece) (e : NativeEffect) → NativeKeeps e → Outer p.outer → OuterKept (native_effected p c ps e)
+unfolding native_effected
+native_outer p c ps (answers s a) k h = answered_outer s p c ps (limited_answer a) h
+native_outer p c ps (complains s f) k h = failing_outer s p c ps f h
+native_outer p c ps (begins s n d body args) k h = begun_outer s p c ps n d body args k.1 h
+native_outer p c ps (waits s why) k h = h
+native_outer p c ps (dies s) k h = tt
+native_outer p c ps (becomes s who) k h = h
+
+effected_outer : (s : Scene) (p : Pending) (c : Construct) (ps : List Piece) (e : Effect) → EffectKeeps e → Outer p.outer → OuterKept (effected s p c ps e)
+unfolding effected EffectKeeps
+effected_outer s p c ps (hands t v) k h = h
+effected_outer s p c ps (errs t f) k h = failing_outer t p c ps f h
+effected_outer s p c ps (takes zero vs) k h = h
+effected_outer s p c ps (takes (suc n) vs) k h = part_outer s p c n vs ps (nth (parts c) n) h
+effected_outer s p c ps (ends t) k h = h
+effected_outer s p c ps (leaves l) k h = h
+effected_outer s p c ps stays k h = h
+effected_outer s p c ps (sets x v e) k h = effected_outer s (with_variable p x v) c ps e k h
+effected_outer s p c ps (calls d body args) k h = called_outer s p c ps d body args h
+effected_outer s p c ps (natively e) k h = native_outer p c ps e k h
+
+caught_outer : (s : Scene) (p : Pending) (q : Piece) (ps : List Piece) (e : Effect) → EffectKeeps e → Outer p.outer → OuterKept (caught_by s p q ps e)
+caught_outer s p q ps stays k h = reach_outer s p q.construct q.part q.held ps h
+caught_outer s p q ps e k h = effected_outer s p q.construct ps e k h
+
+passing_outer : (s : Scene) (p : Pending) (l : Leaving) (q : Piece) (ps : List Piece) (o : Option Effect) → CaughtKeeps o → Outer p.outer → OuterKept (passing s p l q ps o)
+passing_outer s p l q ps None k h = h
+passing_outer s p l q ps (Some e) k h = caught_outer s p q ps e k h
+
+-- a verb that is left: without it the others are as they were
+outer_native : (s : Scene) (p : Pending) (n : Native) (v : Datum) (es : List Entry) → SceneAgrees s → Outer (native_entry n ∷ es) → OuterKept (back_in_native s p n v es)
+outer_native s p n v [] a h = tt
+outer_native s p n v (native_entry m ∷ es) a h = tt
+outer_native s p n v (frame_entry f ∷ es) a h =
+    native_outer (in_frame p f es) (of_expr (literal v)) f.pieces (native_turn s (caller_of (in_frame p f es)) n v) (stages_keep s (caller_of (in_frame p f es)) n v a)
+    (h.0, (omega (arith, h.1.0), second_holds (native_fits n.name n.stage n.arguments) _ h.1.1))
+
+outer_value : (s : Scene) (p : Pending) (v : Datum) (es : List Entry) → SceneAgrees s → Outer es → OuterKept (back_with s p v es)
+outer_value s p v [] a h = tt
+outer_value s p v (frame_entry f ∷ es) a h = (h.0, (omega (arith, h.1.0), h.1.1))
+outer_value s p v (native_entry n ∷ es) a h = outer_native s p n v es a h
+
+outer_error : (s : Scene) (p : Pending) (f : Failure) (es : List Entry) → Outer es → OuterKept (raised_into s p f es)
+outer_error s p f [] h = tt
+outer_error s p f (frame_entry g ∷ es) h = (h.0, (omega (arith, h.1.0), h.1.1))
+outer_error s p f (native_entry n ∷ []) h = tt
+outer_error s p f (native_entry n ∷ frame_entry g ∷ es) h = (h.0, (omega (arith, h.1.0), second_holds (native_fits n.name n.stage n.arguments) _ h.1.1))
+outer_error s p f (native_entry n ∷ native_entry m ∷ es) h = absurd (cc (h.0))
+
+out_outer : (s : Scene) (p : Pending) (l : Leaving) → SceneAgrees s → Outer p.outer → OuterKept (out_of_verb s p l)
+out_outer s p (returned v) a h = outer_value s p v p.outer a h
+out_outer s p (failed f) a h = outer_error s p f p.outer h
+out_outer s p (broken k) a h = outer_value s p (integer (pos 0)) p.outer a h
+out_outer s p (continued k) a h = outer_value s p (integer (pos 0)) p.outer a h
+
+receiving_outer : (s : Scene) (p : Pending) (q : Piece) (ps : List Piece) (vs : Option (List Datum)) → Outer p.outer → OuterKept (receiving s p q ps vs)
+receiving_outer s p q ps None h = failing_outer s p q.construct ps (failure type_mismatch) h
+receiving_outer s p q ps (Some vs) h = reach_outer s p q.construct q.part vs ps h
+
+turn_on_outer : (s : Scene) (p : Pending) (f : Focus) (ps : List Piece) → SceneAgrees s → Outer p.outer → OuterKept (turn_on s p f ps)
+unfolding turn_on
+turn_on_outer s p (begin c) ps a h = reach_outer s p c 0 (held_at_first c) ps h
+turn_on_outer s p (operate c n vs) ps a h = effected_outer s p c ps (effect s p c n vs) (effect_keeps s p c n vs a) h
+turn_on_outer s p (hand v) [] a h = h
+turn_on_outer s p (hand v) (q ∷ ps) a h = receiving_outer s p q ps (held_with (way_at q.construct q.part) q.held v) h
+turn_on_outer s p (aim vs) [] a h = h
+turn_on_outer s p (aim vs) (q ∷ ps) a h = reach_outer s p q.construct q.part (q.held ++ vs) ps h
+turn_on_outer s p next [] a h = h
+turn_on_outer s p next (q ∷ ps) a h = reach_outer s p q.construct q.part q.held ps h
+turn_on_outer s p (leave l) [] a h = out_outer s p l a h
+turn_on_outer s p (leave l) (q ∷ ps) a h = passing_outer s p l q ps (catches s q.construct q.part q.held l) (catches_keep q.construct s q.part q.held l a) h
+
+outer_turn : (s : Scene) (p : Pending) → SceneAgrees s → Outer p.outer → OuterKept (turn s p)
+unfolding turn
+outer_turn s p a h = turn_on_outer s p p.focus p.frame.pieces a h
+
+-- ---- all together
+
+joined_keeps : (t : Turned) → Kept t → StandsStill t → OuterKept t → TurnedKeeps t
+joined_keeps (goes_on s p) h k o = (h, (k, o))
+joined_keeps (halts s (waiting why es)) h k o = (h.0, (h.1, (k, o)))
+joined_keeps (halts s (done v)) h k o = h
+joined_keeps (halts s (raised f)) h k o = h
+joined_keeps (halts s (out_of_ticks ts)) h k o = h
+joined_keeps (halts s killed) h k o = h
 
 kept_turn : (s : Scene) (p : Pending) → SceneAgrees s → Kept (turn s p)
 unfolding turn
 kept_turn s p h = turn_on_keeps s p p.focus p.frame.pieces h
 
 pub turns_keep : TurnsKeep
-turns_keep s p h k = joined_keeps (turn s p) (kept_turn s p h) (turns_stay s p k)
+turns_keep s p h k = joined_keeps (turn s p) (kept_turn s p h) (turns_stay s p k.0) (outer_turn s p h k.1)

@@ -1,11 +1,11 @@
 -- What running tasks keep of the world: its objects, links and queue agree after each turn, segment, step and list of steps.
-use Rattle.std.specs.Prelude.{◌++◌, ◌≡◌, ◌≤◌, ℕ, suc, ◌-◌, ◌*◌, ◌==◌, ℤ, pos, int_le, nat_le, nat_lt, Bool, ◌&&◌, List, length, Option, Some, None, is_some, IsTrue}
+use Rattle.std.specs.Prelude.{◌∷◌, ◌++◌, ◌≡◌, ◌≤◌, ℕ, suc, ◌-◌, ◌*◌, ◌==◌, ℤ, pos, int_le, nat_le, nat_lt, Bool, ◌&&◌, List, length, Option, Some, None, is_some, IsTrue}
 use Rattle.std.specs.List.{list_all}
 use Rattle.spec_value.specs.Datum.{Datum, Text, is_text, in_number_range}
 use Rattle.spec_value.specs.Table.{at}
-use Rattle.spec_world.specs.World.{World, Native, Waiting, forked, timed, idle, reading_on}
-use Rattle.spec_world.specs.WellFormed.{is_connection, is_moment, FramesStand}
-use Rattle.spec_world.specs.Agreeing.{Agrees}
+use Rattle.spec_world.specs.World.{frame_entry, World, Native, Waiting, forked, timed, idle, reading_on}
+use Rattle.spec_world.specs.WellFormed.{native_fits, is_connection, is_moment, FramesStand}
+use Rattle.spec_world.specs.Agreeing.{EntriesHold, Agrees}
 use Rattle.spec_world.specs.Links.{reader_of}
 use Rattle.spec_moo.specs.Scene.{Scene}
 use Rattle.spec_moo.specs.NativeEffect.{Caller, NativeEffect, answers, complains, begins, waits, dies, becomes}
@@ -43,7 +43,7 @@ MayWait w (reading_on c) = IsTrue (is_some (at w.links c)) × (reader_of w c ≡
 abbrev pub NativeKeeps : NativeEffect → Type 0
 NativeKeeps (answers s a) = SceneAgrees s
 NativeKeeps (complains s f) = SceneAgrees s
-NativeKeeps (begins s n d body args) = SceneAgrees s
+NativeKeeps (begins s n d body args) = SceneAgrees s × IsTrue (native_fits n.name n.stage n.arguments)
 NativeKeeps (waits s why) = SceneAgrees s × MayWait s.world why
 NativeKeeps (dies s) = SceneAgrees s
 NativeKeeps (becomes s who) = SceneAgrees s
@@ -56,21 +56,25 @@ NativesKeep = (s : Scene) (c : Caller) (name : Text) (args : List Datum) → Sce
 abbrev pub StagesKeep : Type 0
 StagesKeep = (s : Scene) (c : Caller) (n : Native) (v : Datum) → SceneAgrees s → NativeKeeps (native_turn s c n v)
 
--- ---- turns and segments of a task that stands in its programs
+-- ---- turns and segments of a task that is under way
+
+-- it stands in its programs, and what waits for its innermost verb are verbs and built-ins as in a task that waits
+abbrev pub IsUnderWay : Pending → Type 0
+IsUnderWay p = Stands p × EntriesHold (frame_entry p.frame ∷ p.outer)
 
 abbrev pub StopKeeps : Scene → Stop → Type 0
-StopKeeps s (waiting why es) = SceneAgrees s × (MayWait s.world why × FramesStand es)
+StopKeeps s (waiting why es) = SceneAgrees s × (MayWait s.world why × (FramesStand es × EntriesHold es))
 StopKeeps s why = SceneAgrees s
 
 abbrev pub TurnedKeeps : Turned → Type 0
-TurnedKeeps (goes_on s p) = SceneAgrees s × Stands p
+TurnedKeeps (goes_on s p) = SceneAgrees s × IsUnderWay p
 TurnedKeeps (halts s why) = StopKeeps s why
 
 abbrev pub TurnsKeep : Type 0
-TurnsKeep = (s : Scene) (p : Pending) → SceneAgrees s → Stands p → TurnedKeeps (turn s p)
+TurnsKeep = (s : Scene) (p : Pending) → SceneAgrees s → IsUnderWay p → TurnedKeeps (turn s p)
 
 abbrev pub SegmentsKeep : Type 0
-SegmentsKeep = (t : ℕ) (s : Scene) (p : Pending) → SceneAgrees s → Stands p → StopKeeps (segment t s p).scene (segment t s p).stop
+SegmentsKeep = (t : ℕ) (s : Scene) (p : Pending) → SceneAgrees s → IsUnderWay p → StopKeeps (segment t s p).scene (segment t s p).stop
 
 -- ---- steps and lists of steps
 

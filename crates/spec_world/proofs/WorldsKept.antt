@@ -2,14 +2,14 @@
 use Rattle.std.proofs.Common.{◌≡◌, ◌⊎◌, inl, inr, ℕ, ◌≤◌, ◌*◌, ◌-◌, ℤ, pos, negsuc, Bool, true, false, not, ◌&&◌, ◌||◌, List, [], ◌∷◌, ◌++◌, map, Option, Some, None, refl, sym, ap, ◌∙◌, subst, cond, arith, IsTrue, is_some, le-leb, leb-true}
 use Rattle.std.specs.Prelude.{neg_ℤ, ◌-ℤ◌, option_map, int_le, nat_le}
 use Rattle.std.specs.Ordering.{int_eq}
-use Rattle.std.specs.List.{filter}
+use Rattle.std.specs.List.{list_all, filter}
 use Rattle.std.specs.Cmp.{int_cmp_total}
 use Rattle.spec_value.specs.Datum.{Text, fold_case}
 use Rattle.spec_value.specs.Table.{Numbered, with_name, at, with, without, is_numbered}
-use Rattle.spec_world.specs.World.{World, Object, Slot, Task, Waiting, forked, timed, idle, reading_on, Link, object_at, with_object}
+use Rattle.spec_world.specs.World.{World, Object, Slot, Entry, frame_entry, native_entry, Task, Waiting, forked, timed, idle, reading_on, Link, object_at, with_object}
 use Rattle.spec_world.specs.Inherit.{put_slot, with_slot}
-use Rattle.spec_world.specs.WellFormed.{OfEachLink, passes, on_object, lists, once, is_connection, link_fits, id_fits, waiting_fits, wait_fits, TaskStands, read_by, links_read, IsWellFormed}
-use Rattle.spec_world.specs.Agreeing.{ObjectsAgree, QueueAgrees, Agrees}
+use Rattle.spec_world.specs.WellFormed.{OfEachLink, passes, on_object, lists, once, is_connection, link_fits, id_fits, waiting_fits, wait_fits, TaskStands, read_by, links_read, begins_with_frame, frames, entry_fits, IsWellFormed}
+use Rattle.spec_world.specs.Agreeing.{native_holds, EntriesHold, ObjectsAgree, QueueAgrees, Agrees}
 use Rattle.spec_world.specs.Families.{heir_slot, nowhere, change_at, change_object, change_each, next_object, child_of, created, is_below, heir_of, with_heirs, lose_child, reparented, reparented_each, to_nowhere, out_of_place, recycled_object, recycled, parent_of, leave_out}
 use Rattle.spec_world.specs.Whereabouts.{moved}
 use Rattle.spec_world.specs.Members.{with_own_slot, defining, not_defining, lose_slot, property_added, property_deleted}
@@ -226,6 +226,7 @@ queue_same w u r h =
       task_waits = λ i t e. waits t t.waiting (h.task_waits i t (ap (λ ts. at ts i) (sym r.tasks) ∙ e));
       task_places = λ i t e. h.task_places i t (ap (λ ts. at ts i) (sym r.tasks) ∙ e);
       readers = subst (λ ts. IsTrue (once (links_read ts))) (sym r.tasks) h.readers;
+      task_entries = λ i t e. h.task_entries i t (ap (λ ts. at ts i) (sym r.tasks) ∙ e);
     }
   where
     waits : (t : Task) (why : Waiting) → IsTrue (waiting_fits w t why) → IsTrue (waiting_fits u t why)
@@ -274,9 +275,9 @@ read_once (timed m v) = refl
 read_once idle = refl
 read_once (reading_on c) = refl
 
-pub task_put : (w : World) (i : ℤ) (t : Task) → Agrees w → IsTrue (id_fits w i t) → IsTrue (wait_fits w i t) → TaskStands t t.waiting
+pub task_put : (w : World) (i : ℤ) (t : Task) → Agrees w → IsTrue (id_fits w i t) → IsTrue (wait_fits w i t) → TaskStands t t.waiting → EntriesHold t.entries
     → ((c : ℤ) → IsTrue (lists (read_by t.waiting) c) → lists (links_read w.tasks) c ≡ false) → Agrees (put_task w i t)
-task_put w i t h id waits stands apart =
+task_put w i t h id waits stands holds apart =
     record {
       objects = elsewhere w (with w.tasks i t) w.links w.next w.ending h.objects;
       links = record { links_in_order = h.links.links_in_order; links = h.links.links; persons = h.links.persons };
@@ -291,6 +292,7 @@ task_put w i t h id waits stands apart =
                 subst (λ l. IsTrue (once l)) (readers_are (with w.tasks i t))
                 (held_once (λ (r : Task). read_by r.waiting) i t w.tasks (read_once t.waiting) (λ c l. ap (λ m. lists m c) (readers_are w.tasks) ∙ apart c l)
                 (subst (λ l. IsTrue (once l)) (sym (readers_are w.tasks)) h.queue.readers));
+            task_entries = λ j s e. by_key (λ k r. EntriesHold r.entries) holds h.queue.task_entries j s e;
           };
     }
   where
@@ -319,6 +321,7 @@ tasks_left w p h =
             readers =
                 subst (λ l. IsTrue (once l)) (readers_are (filter p w.tasks))
                 (left_once (λ (r : Task). read_by r.waiting) p w.tasks (subst (λ l. IsTrue (once l)) (sym (readers_are w.tasks)) h.queue.readers));
+            task_entries = λ i t e. h.queue.task_entries i t (at_left p w.tasks h.queue.tasks_in_order i t e).0;
           };
     }
 
@@ -353,6 +356,7 @@ next_raised w n le small h =
             task_waits = λ i t e. same_wait t t.waiting (h.queue.task_waits i t e);
             task_places = h.queue.task_places;
             readers = h.queue.readers;
+            task_entries = h.queue.task_entries;
           };
     }
   where
@@ -392,6 +396,7 @@ link_put w c k h fits free_for =
             task_waits = λ i t e. same_wait t t.waiting (h.queue.task_waits i t e);
             task_places = h.queue.task_places;
             readers = h.queue.readers;
+            task_entries = h.queue.task_entries;
           };
     }
   where
@@ -451,6 +456,7 @@ link_closed_keeps w c h =
             task_waits = waits;
             task_places = left.queue.task_places;
             readers = left.queue.readers;
+            task_entries = left.queue.task_entries;
           };
     }
   where
@@ -584,10 +590,23 @@ none_reads (e ∷ es) c h = go (none_reads es c) (e.1).waiting h
 
 -- ---- with well-formed worlds
 
+native_part : (e : Entry) → IsTrue (entry_fits e) → IsTrue (native_holds e)
+native_part (frame_entry f) h = refl
+native_part (native_entry n) h = h
+
+native_parts : (es : List Entry) → IsTrue (list_all entry_fits es) → IsTrue (list_all native_holds es)
+native_parts [] h = refl
+native_parts (e ∷ es) h = both_hold (native_holds e) _ (native_part e (first_holds (entry_fits e) _ h)) (native_parts es (second_holds (entry_fits e) _ h))
+
+entries_of : (es : List Entry) → IsTrue (begins_with_frame es && nat_le (frames es) 50 && list_all entry_fits es) → EntriesHold es
+entries_of es h =
+    let head = first_holds (begins_with_frame es && nat_le (frames es) 50) _ h in
+    (first_holds (begins_with_frame es) _ head, (leb-true (frames es) 50 (second_holds (begins_with_frame es) _ head), native_parts es (second_holds (begins_with_frame es && nat_le (frames es) 50) _ h)))
+
 pub agrees_of : (w : World) → IsWellFormed w → Agrees w
 agrees_of w h =
     record {
       objects = objects_of w h;
       links = record { links_in_order = h.links_in_order; links = h.links; persons = h.persons };
-      queue = record { tasks_in_order = h.tasks_in_order; next_in_range = h.next_in_range; task_ids = h.task_ids; task_waits = h.task_waits; task_places = h.task_places; readers = h.readers };
+      queue = record { tasks_in_order = h.tasks_in_order; next_in_range = h.next_in_range; task_ids = h.task_ids; task_waits = h.task_waits; task_places = h.task_places; readers = h.readers; task_entries = λ i t e. entries_of t.entries (h.task_entries i t e) };
     }

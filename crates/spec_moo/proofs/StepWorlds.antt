@@ -19,7 +19,7 @@ use Rattle.spec_world.specs.Naming.{name_object, location_of}
 use Rattle.spec_value.proofs.Entries.{first_holds, second_holds, both_hold}
 use Rattle.spec_value.proofs.Same.{same_integer, integer_itself}
 use Rattle.spec_world.proofs.Trees.{either, first_of, second_of}
-use Rattle.spec_world.proofs.WorldsKept.{task_put, tasks_left, next_raised, link_put, IsFree, link_closed_keeps, none_among, closed_is_free, none_reads, person_found}
+use Rattle.spec_world.proofs.WorldsKept.{well_formed_agrees, agrees_is_well_formed, task_put, tasks_left, next_raised, link_put, IsFree, link_closed_keeps, none_among, closed_is_free, none_reads, person_found}
 use Rattle.spec_moo.specs.Scene.{Scene, in_world, has_ids, next_id, id_taken, enqueued}
 use Rattle.spec_moo.specs.Linking.{connection_closed, link_closed}
 use Rattle.spec_moo.specs.Pending.{hand, Pending, Stop, done, raised, out_of_ticks, waiting, killed, going_on}
@@ -33,7 +33,7 @@ use Rattle.spec_moo.specs.Steps.Programming.{with_link, programmable, begins, op
 use Rattle.spec_moo.specs.Steps.Events.{foreground_ticks, queued_ticks, nothing_runs, words_value, user_task, greeted, logged_in, is_player, is_open_for, may_log_in, login_value, after_login, login_with, login, opened_link, command_call, command_start, command_run, player_line, without_task, resumed, with_own_task, line_for, line_read, line_taken, line_on, told_gone, gone, closed_link, is_due, ready_run, ready_at, event_of, event}
 use Rattle.spec_moo.specs.Steps.Events as events
 use Rattle.spec_moo.specs.Steps.{numbered, play1, play}
-use Rattle.spec_moo.specs.Worlds.{IsUnderWay, IdFits, SceneAgrees, MayWait, StopKeeps, event_in_range, in_range, StepsKeep, ListsKeep, PlayGoesOn}
+use Rattle.spec_moo.specs.Worlds.{IsUnderWay, IdFits, SceneAgrees, MayWait, StopKeeps, event_in_range, in_range, StepsKeep, ListsKeep, StaysWellFormed, PlayGoesOn}
 use Rattle.spec_moo.proofs.NativeWorlds.{in_agreeing, closed_scene}
 use Rattle.spec_moo.proofs.PropertyRows.{changed_verb}
 use Rattle.spec_moo.proofs.TaskRows.{id_in_range, taken}
@@ -424,3 +424,6 @@ pub play_goes_on : PlayGoesOn
 unfolding play
 play_goes_on w [] ts = refl
 play_goes_on w (s ∷ ss) ts = ap (λ (t : World × List Outcome). (t.0, (play1 w s).1 ∷ t.1)) (play_goes_on (play1 w s).0 ss ts)
+
+pub stays_well_formed : StaysWellFormed
+stays_well_formed w ss h r k = agrees_is_well_formed (play w ss).0 (lists_keep w ss (well_formed_agrees w h).0 r) k

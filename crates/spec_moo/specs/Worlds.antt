@@ -4,8 +4,8 @@ use Rattle.std.specs.List.{list_all}
 use Rattle.spec_value.specs.Datum.{Datum, Text, is_text, in_number_range}
 use Rattle.spec_value.specs.Table.{at}
 use Rattle.spec_world.specs.World.{frame_entry, World, Native, Waiting, forked, timed, idle, reading_on}
-use Rattle.spec_world.specs.WellFormed.{native_fits, is_connection, is_moment, FramesStand}
-use Rattle.spec_world.specs.Agreeing.{EntriesHold, Agrees}
+use Rattle.spec_world.specs.WellFormed.{OfEachTask, IsWellFormed, native_fits, is_connection, is_moment, FramesStand}
+use Rattle.spec_world.specs.Agreeing.{frames_hold, EntriesHold, Agrees}
 use Rattle.spec_world.specs.Links.{reader_of}
 use Rattle.spec_moo.specs.Scene.{Scene}
 use Rattle.spec_moo.specs.NativeEffect.{Caller, NativeEffect, answers, complains, begins, waits, dies, becomes}
@@ -95,6 +95,11 @@ StepsKeep = (w : World) (s : Step) → Agrees w → IsTrue (in_range s) → Agre
 
 abbrev pub ListsKeep : Type 0
 ListsKeep = (w : World) (ss : List Step) → Agrees w → IsTrue (list_all in_range ss) → Agrees (play w ss).0
+
+-- so a well-formed world is well formed afterwards, if the frames of the tasks that then wait hold what belongs there
+abbrev pub StaysWellFormed : Type 0
+StaysWellFormed =
+    (w : World) (ss : List Step) → IsWellFormed w → IsTrue (list_all in_range ss) → OfEachTask (play w ss).0 frames_hold → IsWellFormed (play w ss).0
 
 -- ---- longer lists
 

@@ -15,11 +15,13 @@ pub fn tasks()
     ensures segments { SegmentsKeep }
 {}
 
-ghost use Rattle.spec_moo.specs.Worlds.{StepsKeep, ListsKeep, PlayGoesOn};
+ghost use Rattle.spec_moo.specs.Worlds.{StepsKeep, ListsKeep, StaysWellFormed, PlayGoesOn};
 
-/// After each step and each list of steps; and a longer list goes on where a shorter one ends.
+/// After each step and each list of steps, a well-formed world but for the frames of waiting tasks; and a longer list goes
+/// on where a shorter one ends.
 pub fn steps()
     ensures steps { StepsKeep }
     ensures lists { ListsKeep }
+    ensures whole { StaysWellFormed }
     ensures sum { PlayGoesOn }
 {}

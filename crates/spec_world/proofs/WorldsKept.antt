@@ -9,7 +9,7 @@ use Rattle.spec_value.specs.Table.{Numbered, with_name, at, with, without, is_nu
 use Rattle.spec_world.specs.World.{World, Object, Slot, Entry, frame_entry, native_entry, Task, Waiting, forked, timed, idle, reading_on, Link, object_at, with_object}
 use Rattle.spec_world.specs.Inherit.{put_slot, with_slot}
 use Rattle.spec_world.specs.WellFormed.{OfEachLink, passes, on_object, lists, once, is_connection, link_fits, id_fits, waiting_fits, wait_fits, TaskStands, read_by, links_read, begins_with_frame, frames, entry_fits, IsWellFormed}
-use Rattle.spec_world.specs.Agreeing.{native_holds, EntriesHold, ObjectsAgree, QueueAgrees, Agrees}
+use Rattle.spec_world.specs.Agreeing.{frame_holds, WellFormedAgrees, AgreesIsWellFormed, native_holds, EntriesHold, ObjectsAgree, QueueAgrees, Agrees}
 use Rattle.spec_world.specs.Families.{heir_slot, nowhere, change_at, change_object, change_each, next_object, child_of, created, is_below, heir_of, with_heirs, lose_child, reparented, reparented_each, to_nowhere, out_of_place, recycled_object, recycled, parent_of, leave_out}
 use Rattle.spec_world.specs.Whereabouts.{moved}
 use Rattle.spec_world.specs.Members.{with_own_slot, defining, not_defining, lose_slot, property_added, property_deleted}
@@ -609,4 +609,54 @@ agrees_of w h =
       objects = objects_of w h;
       links = record { links_in_order = h.links_in_order; links = h.links; persons = h.persons };
       queue = record { tasks_in_order = h.tasks_in_order; next_in_range = h.next_in_range; task_ids = h.task_ids; task_waits = h.task_waits; task_places = h.task_places; readers = h.readers; task_entries = λ i t e. entries_of t.entries (h.task_entries i t e) };
+    }
+
+frame_part : (e : Entry) → IsTrue (entry_fits e) → IsTrue (frame_holds e)
+frame_part (frame_entry f) h = h
+frame_part (native_entry n) h = refl
+
+frame_parts : (es : List Entry) → IsTrue (list_all entry_fits es) → IsTrue (list_all frame_holds es)
+frame_parts [] h = refl
+frame_parts (e ∷ es) h = both_hold (frame_holds e) _ (frame_part e (first_holds (entry_fits e) _ h)) (frame_parts es (second_holds (entry_fits e) _ h))
+
+both_parts : (e : Entry) → IsTrue (native_holds e) → IsTrue (frame_holds e) → IsTrue (entry_fits e)
+both_parts (frame_entry f) h k = k
+both_parts (native_entry n) h k = h
+
+all_parts : (es : List Entry) → IsTrue (list_all native_holds es) → IsTrue (list_all frame_holds es) → IsTrue (list_all entry_fits es)
+all_parts [] h k = refl
+all_parts (e ∷ es) h k =
+    both_hold (entry_fits e) _ (both_parts e (first_holds (native_holds e) _ h) (first_holds (frame_holds e) _ k)) (all_parts es (second_holds (native_holds e) _ h) (second_holds (frame_holds e) _ k))
+
+pub well_formed_agrees : WellFormedAgrees
+well_formed_agrees w h =
+    (agrees_of w h, λ i t e. frame_parts t.entries (second_holds (begins_with_frame t.entries && nat_le (frames t.entries) 50) _ (h.task_entries i t e)))
+
+pub agrees_is_well_formed : AgreesIsWellFormed
+agrees_is_well_formed w h k =
+    record {
+      objects_in_order = h.objects.objects_in_order;
+      tasks_in_order = h.queue.tasks_in_order;
+      links_in_order = h.links.links_in_order;
+      greatest_in_range = h.objects.greatest_in_range;
+      next_in_range = h.queue.next_in_range;
+      numbers = h.objects.numbers;
+      parents_end = h.objects.parents_end;
+      locations_end = h.objects.locations_end;
+      children = h.objects.children;
+      parents = h.objects.parents;
+      contents = h.objects.contents;
+      locations = h.objects.locations;
+      names_on_a_line = h.objects.names_on_a_line;
+      slot_order = h.objects.slot_order;
+      slots = h.objects.slots;
+      definers = h.objects.definers;
+      links = h.links.links;
+      persons = h.links.persons;
+      task_ids = h.queue.task_ids;
+      task_entries = λ i t e. let m = h.queue.task_entries i t e in
+          both_hold (begins_with_frame t.entries && nat_le (frames t.entries) 50) _ (both_hold (begins_with_frame t.entries) _ m.0 (le-leb (frames t.entries) 50 m.1.0)) (all_parts t.entries m.1.1 (k i t e));
+      task_waits = h.queue.task_waits;
+      task_places = h.queue.task_places;
+      readers = h.queue.readers;
     }

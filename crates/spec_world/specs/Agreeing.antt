@@ -3,7 +3,7 @@ use Rattle.std.specs.Prelude.{◌≡◌, ◌≤◌, List, Bool, true, ℤ, pos, 
 use Rattle.std.specs.List.{list_all}
 use Rattle.spec_value.specs.Table.{at, is_numbered}
 use Rattle.spec_world.specs.World.{World, Entry, frame_entry, native_entry, Task}
-use Rattle.spec_world.specs.WellFormed.{begins_with_frame, frames, native_fits, OfEachObject, OfEachLink, OfEachTask, once, number_fits, has_no_cycle, is_in_no_cycle, children_agree, parent_agrees, contents_agree, location_agrees, line_names_once, slots_in_order, slots_agree, definers_filled, link_fits, id_fits, wait_fits, TaskStands, links_read}
+use Rattle.spec_world.specs.WellFormed.{begins_with_frame, frames, native_fits, OfEachObject, OfEachLink, OfEachTask, once, number_fits, has_no_cycle, is_in_no_cycle, children_agree, parent_agrees, contents_agree, location_agrees, line_names_once, slots_in_order, slots_agree, definers_filled, link_fits, id_fits, wait_fits, TaskStands, links_read, frame_fits, IsWellFormed}
 
 -- numbers, families, whereabouts and properties
 pub record ObjectsAgree (w : World) : Type 0 where
@@ -50,3 +50,18 @@ pub record Agrees (w : World) : Type 0 where
   pub objects : ObjectsAgree w
   pub links : LinksAgree w
   pub queue : QueueAgrees w
+
+-- and that: a frame's variables stand in their order under names that programs can write, and its pieces hold what belongs there
+abbrev pub frame_holds : Entry → Bool
+frame_holds (frame_entry f) = frame_fits f
+frame_holds (native_entry n) = true
+
+abbrev pub frames_hold : World → ℤ → Task → Bool
+frames_hold w i t = list_all frame_holds t.entries
+
+-- together they are all that a well-formed world has
+abbrev pub WellFormedAgrees : Type 0
+WellFormedAgrees = (w : World) → IsWellFormed w → Agrees w × OfEachTask w frames_hold
+
+abbrev pub AgreesIsWellFormed : Type 0
+AgreesIsWellFormed = (w : World) → Agrees w → OfEachTask w frames_hold → IsWellFormed w

@@ -9,6 +9,8 @@ pub mod PropertyRemoval
 pub mod Reparenting
 pub mod Recycling
 pub mod ObjectsKept
+pub mod TablesKept
+pub mod WorldsKept
 pub mod Lines
 pub mod Shapes
 pub mod SlotChanges

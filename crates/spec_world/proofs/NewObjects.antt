@@ -60,7 +60,7 @@ module _ (w : World) (p owner : ℤ) (h : Household w) (room : IsTrue (int_le (n
   next_then : Next w.greatest
   next_then = next_is w.greatest (first_holds (int_le (neg_ℤ (pos 1)) w.greatest) _ h.range)
 
-  free : object_at w new ≡ None
+  pub free : object_at w new ≡ None
   free = go (object_at w new) refl
     where
       go : (o : Option Object) → object_at w new ≡ o → o ≡ None

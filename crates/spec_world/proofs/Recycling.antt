@@ -24,7 +24,7 @@ use Rattle.spec_world.proofs.Reparenting.{name_of_member, reparented_household, 
 
 -- ---- entries and what is found
 
-below_none : {X : Type 0} (k : ℤ) (es : Numbered X) → IsTrue (below_all int_cmp k es) → at es k ≡ None
+pub below_none : {X : Type 0} (k : ℤ) (es : Numbered X) → IsTrue (below_all int_cmp k es) → at es k ≡ None
 below_none k [] h = refl
 below_none k (e ∷ es) h = go (below_none k es (second_holds _ _ h)) (int_cmp k e.0) (first_holds _ _ h)
   where

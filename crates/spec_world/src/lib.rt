@@ -4,3 +4,4 @@
 pub mod inheritance;
 pub mod objects;
 pub mod slots;
+pub mod worlds;

@@ -2,15 +2,15 @@
 # `moo-play` with each of its requests for memory refused in turn, by one worker and by two: each answer is that of ample memory, or the lines of the
 # first steps, whole, with `stopped after C` on standard error and status 3. Needs a C compiler; without one it says so and passes.
 set -u
-root=$(cd "$(dirname -- "$0")/../.." && pwd) || exit 2
+root=$(cd "$(dirname -- "$0")/.." && pwd) || exit 2
 for compiler in cc gcc clang none; do command -v "$compiler" >/dev/null 2>&1 && break; done
-[ "$compiler" != none ] || { echo "tests/by-hand/refused.sh: no C compiler here, so no memory is refused" >&2; exit 0; }
+[ "$compiler" != none ] || { echo "tests/refused.sh: no C compiler here, so no memory is refused" >&2; exit 0; }
 work=$(mktemp -d) || exit 2
 trap 'rm -rf "$work"' EXIT
 failures=0
 
 fail() {
-    echo "tests/by-hand/refused.sh: $1" >&2
+    echo "tests/refused.sh: $1" >&2
     failures=$((failures + 1))
 }
 
@@ -38,7 +38,7 @@ refuse() {
 
 # first_steps C: the lines of the first so many steps of $work/all.
 first_steps() {
-    awk -v count="$1" '/^step / { if ($2 > count) exit } { print }' "$work/all"
+    awk -v count="$1" '/^step / { inside = $2 <= count } inside' "$work/all"
 }
 
 # is_right: the last run answered as with ample memory, or stopped after some steps and printed just those.
@@ -63,7 +63,7 @@ each() {
     while [ "$at" -le 2000 ]; do
         refuse "$at" "$@"
         is_right || fail "$what, request $at refused: status $status, printed $(head -c 200 "$work/out"), told $(head -c 200 "$work/errors")"
-        [ "$failures" -lt 20 ] || { echo "tests/by-hand/refused.sh: and so on" >&2; exit 1; }
+        [ "$failures" -lt 20 ] || { echo "tests/refused.sh: and so on" >&2; exit 1; }
         [ -e "$work/met" ] || return 0
         at=$((at + 1))
     done

@@ -57,7 +57,8 @@ module _ (fixed : ℕ) where
   tested true e f h more = more refl
   tested false e f h more = h
 
-  pub there : {X : Type 0} (s : Scene) (err : ErrorCode) (o : Option X) (f : X → NativeEffect) → SceneAgrees fixed s → ((x : X) → o ≡ Some x → NativeKeeps fixed (f x)) → NativeKeeps fixed (if_there s err o f)
+  pub there : {X : Type 0} (s : Scene) (err : ErrorCode) (o : Option X) (f : X → NativeEffect) → SceneAgrees fixed s
+      → ((x : X) → o ≡ Some x → NativeKeeps fixed (f x)) → NativeKeeps fixed (if_there s err o f)
   there s err None f h more = h
   there s err (Some x) f h more = more x refl
 
@@ -79,7 +80,8 @@ module _ (fixed : ℕ) where
   not_so true h = cc
   not_so false h = refl
 
-  pub of_choice : (b : Bool) (e f : NativeEffect) → (b ≡ true → NativeKeeps fixed e) → (b ≡ false → NativeKeeps fixed f) → NativeKeeps fixed (if b then e else f)
+  pub of_choice : (b : Bool) (e f : NativeEffect) → (b ≡ true → NativeKeeps fixed e) → (b ≡ false → NativeKeeps fixed f)
+      → NativeKeeps fixed (if b then e else f)
   of_choice true e f h k = h refl
   of_choice false e f h k = k refl
 
@@ -100,12 +102,14 @@ module _ (fixed : ℕ) where
   by_row_keeps r keeps s c args h =
       of_choice (counts_fit r args) _ _ (λ e. of_choice (all_fit r.wanted r.further args) _ _ (λ d. keeps s c args h) (λ d. h)) (λ e. h)
 
-  pub group_keeps : (rows : List (Text × Row)) → AllKeep rows → (s : Scene) (c : Caller) (name : Text) (args : List Datum) → SceneAgrees fixed s → SomeKeeps (in_group rows s c name args)
+  pub group_keeps : (rows : List (Text × Row)) → AllKeep rows → (s : Scene) (c : Caller) (name : Text) (args : List Datum) → SceneAgrees fixed s
+      → SomeKeeps (in_group rows s c name args)
   unfolding row_of
   group_keeps [] keeps s c name args h = tt
   group_keeps (r ∷ rs) keeps s c name args h = go (group_keeps rs keeps.1 s c name args h) (same_text r.0 name)
     where
-      go : SomeKeeps (option_map (by_row s c args) (row_of rs name)) → (b : Bool) → SomeKeeps (option_map (by_row s c args) (if b then Some r.1 else row_of rs name))
+      go : SomeKeeps (option_map (by_row s c args) (row_of rs name)) → (b : Bool)
+          → SomeKeeps (option_map (by_row s c args) (if b then Some r.1 else row_of rs name))
       go later true = by_row_keeps r.1 keeps.0 s c args h
       go later false = later
 

@@ -28,7 +28,8 @@ use Rattle.spec_moo.specs.Worlds.{SceneAgrees, NativeKeeps}
 
 -- the world's next number stays this one
 module _ (fixed : ℕ) where
-  calls_keep : (s : Scene) (c : Caller) (n : Native) (o : ℤ) (word : Text) (args : Data) (e : NativeEffect) → SceneAgrees fixed s → IsTrue (native_fits n.name n.stage n.arguments) → NativeKeeps fixed e → NativeKeeps fixed (calls_if_there s c n o word args e)
+  calls_keep : (s : Scene) (c : Caller) (n : Native) (o : ℤ) (word : Text) (args : Data) (e : NativeEffect) → SceneAgrees fixed s
+      → IsTrue (native_fits n.name n.stage n.arguments) → NativeKeeps fixed e → NativeKeeps fixed (calls_if_there s c n o word args e)
   calls_keep s c n o word args e h fits k = go (find_verb s.world o word)
     where
       go : (f : Option Sought) → NativeKeeps fixed (calls_found s c n o word args e f)
@@ -107,7 +108,8 @@ module _ (fixed : ℕ) where
 
   -- ---- `chparent`
 
-  another_parent_keeps : (s : Scene) (o p : ℤ) (x : Object) → object_at s.world o ≡ Some x → SceneAgrees fixed s → IsPlace s.world p → is_below s.world o p ≡ false → clashes s.world o p ≡ false → SceneAgrees fixed (another_parent s o p)
+  another_parent_keeps : (s : Scene) (o p : ℤ) (x : Object) → object_at s.world o ≡ Some x → SceneAgrees fixed s → IsPlace s.world p
+      → is_below s.world o p ≡ false → clashes s.world o p ≡ false → SceneAgrees fixed (another_parent s o p)
   another_parent_keeps s o p x is h at_p outside clear = go (int_eq (parent_of (object_at s.world o)) p)
     where
       go : (b : Bool) → SceneAgrees fixed (if b then s else in_world s (reparented s.world o p))
@@ -134,7 +136,8 @@ module _ (fixed : ℕ) where
       of_choice fixed (is_there s what there && is_valid s there) _ _
       (λ e. calls_keep s c (last_stage move_native (object what ∷ object there ∷ object before ∷ [])) there (codes "enterfunc") (item (object what) no_data) (answers_with s zero_value) h refl h) (λ e. h)
 
-  move_now_keeps : (s : Scene) (c : Caller) (what there : ℤ) (x : Object) → object_at s.world what ≡ Some x → SceneAgrees fixed s → IsPlace s.world there → is_inside s.world what there ≡ false → NativeKeeps fixed (move_now s c what there)
+  move_now_keeps : (s : Scene) (c : Caller) (what there : ℤ) (x : Object) → object_at s.world what ≡ Some x → SceneAgrees fixed s
+      → IsPlace s.world there → is_inside s.world what there ≡ false → NativeKeeps fixed (move_now s c what there)
   move_now_keeps s c what there x is h at_p outside =
       of_choice fixed (is_there s what there) _ _ (λ e. h) (λ e.
       calls_keep (in_world s u) c (later_stage move_native (object what ∷ object there ∷ object (location_of (object_at s.world what)) ∷ [])) (location_of (object_at s.world what)) (codes "exitfunc") (item (object what) no_data)
@@ -173,7 +176,8 @@ module _ (fixed : ℕ) where
   abbrev with_player_flag : Bool → Object → Object
   with_player_flag flag x = record x { header = record (x.header) { is_player = flag } }
 
-  flag_players : (w : World) (o q : ℤ) (flag : Bool) → (flag ≡ true) ⊎ (int_eq q o ≡ false) → IsPlayer w q → IsPlayer (families.change_object w o (with_player_flag flag)) q
+  flag_players : (w : World) (o q : ℤ) (flag : Bool) → (flag ≡ true) ⊎ (int_eq q o ≡ false) → IsPlayer w q
+      → IsPlayer (families.change_object w o (with_player_flag flag)) q
   flag_players w o q flag why h = ap (λ m. passes m (λ x. x.header.is_player)) (at_change w o q (with_player_flag flag)) ∙ go (object_at w q) (int_eq q o) refl why h
     where
       go : (m : Option Object) (b : Bool) → int_eq q o ≡ b → (flag ≡ true) ⊎ (int_eq q o ≡ false) → IsTrue (passes m (λ x. x.header.is_player))

@@ -32,12 +32,14 @@ use Rattle.spec_moo.specs.Worlds.{SceneAgrees, NativeKeeps}
 module _ (fixed : ℕ) where
   -- ---- a slot that is there
 
-  filled_slot : (w : World) (o : ℤ) (p : Text) (x : Object) (t : Slot) → ObjectsAgree w → object_at w o ≡ Some x → slot_at w o p ≡ Some t → Defines x p → IsTrue (is_some t.content)
+  filled_slot : (w : World) (o : ℤ) (p : Text) (x : Object) (t : Slot) → ObjectsAgree w → object_at w o ≡ Some x → slot_at w o p ≡ Some t
+      → Defines x p → IsTrue (is_some t.content)
   filled_slot w o p x t h is found defined =
       let house = household w h in let way = path_from (parents w) house.family o in
       subst (λ m. IsTrue (is_some (content_of m))) (sym (ap (λ y. slot_of y p) is) ∙ found) ((house.own o x way.0 is way.1).filled (fold_case p) defined)
 
-  slot_then : (s : Scene) (o : ℤ) (p : Text) (t u : Slot) → SceneAgrees fixed s → slot_at s.world o p ≡ Some t → ((x : Object) → object_at s.world o ≡ Some x → Defines x p → IsTrue (is_some u.content)) → SceneAgrees fixed (in_world s (with_slot s.world o p u))
+  slot_then : (s : Scene) (o : ℤ) (p : Text) (t u : Slot) → SceneAgrees fixed s → slot_at s.world o p ≡ Some t
+      → ((x : Object) → object_at s.world o ≡ Some x → Defines x p → IsTrue (is_some u.content)) → SceneAgrees fixed (in_world s (with_slot s.world o p u))
   slot_then s o p t u h found full =
       let v : World = with_slot s.world o p u in
       objects_then fixed s v h
@@ -99,7 +101,8 @@ module _ (fixed : ℕ) where
       none None k = refl
       none (Some z) k = cc
 
-      go : (x : Object) → object_at s.world o ≡ Some x → is_new_name s o p ≡ true → SceneAgrees fixed (in_world s (property_added s.world o p (slot_with v owner b)))
+      go : (x : Object) → object_at s.world o ≡ Some x → is_new_name s o p ≡ true
+          → SceneAgrees fixed (in_world s (property_added s.world o p (slot_with v owner b)))
       go x e k =
           let above : slot_at s.world o p ≡ None = none _ (second_holds _ (is_none (slot_at s.world o p)) (first_holds _ (not (defined_below s.world o p)) k)) in
           let below : defined_below s.world o p ≡ false = not_so fixed _ (second_holds _ (not (defined_below s.world o p)) k) in
@@ -128,7 +131,8 @@ module _ (fixed : ℕ) where
 
   -- ---- attributes of an object, and its verbs
 
-  attributes_then : (s : Scene) (o : ℤ) (f : Object → Object) → SceneAgrees fixed s → ((x : Object) → SameRelations x (f x)) → ((x : Object) → (f x).header.is_player ≡ x.header.is_player) → SceneAgrees fixed (in_world s (families.change_object s.world o f))
+  attributes_then : (s : Scene) (o : ℤ) (f : Object → Object) → SceneAgrees fixed s → ((x : Object) → SameRelations x (f x))
+      → ((x : Object) → (f x).header.is_player ≡ x.header.is_player) → SceneAgrees fixed (in_world s (families.change_object s.world o f))
   attributes_then s o f h same player =
       let u : World = families.change_object s.world o f in
       objects_then fixed s u h
@@ -152,7 +156,8 @@ module _ (fixed : ℕ) where
 
   -- ---- verbs
 
-  verb_there : (s : Scene) (o : ℤ) (d : Datum) (f : ℕ → Verb → NativeEffect) → SceneAgrees fixed s → ((n : ℕ) (v : Verb) → NativeKeeps fixed (f n v)) → NativeKeeps fixed (if_verb s o d f)
+  verb_there : (s : Scene) (o : ℤ) (d : Datum) (f : ℕ → Verb → NativeEffect) → SceneAgrees fixed s → ((n : ℕ) (v : Verb) → NativeKeeps fixed (f n v))
+      → NativeKeeps fixed (if_verb s o d f)
   verb_there s o d f h more =
       there fixed s invalid_argument (object_at s.world o) _ h (λ x e. there fixed s verb_not_found (verb_place x.verbs d) _ h (λ n k. there fixed s verb_not_found (in_place x.verbs n) (f n) h (λ v l. more n v)))
 
@@ -226,17 +231,20 @@ module _ (fixed : ℕ) where
   WrittenKeeps s (wrote w) = SceneAgrees fixed (in_world s w)
   WrittenKeeps s (refused e) = Unit {0}
 
-  written_if : (s : Scene) (b : Bool) (w : World) (e : ErrorCode) → (b ≡ true → SceneAgrees fixed (in_world s w)) → WrittenKeeps s (if b then wrote w else refused e)
+  written_if : (s : Scene) (b : Bool) (w : World) (e : ErrorCode) → (b ≡ true → SceneAgrees fixed (in_world s w))
+      → WrittenKeeps s (if b then wrote w else refused e)
   written_if s true w e h = h refl
   written_if s false w e h = tt
 
-  built_in_keeps : (s : Scene) (o : ℤ) (x : Object) (b : BuiltInProperty) (v : Datum) (allowed : Bool) → SceneAgrees fixed s → object_at s.world o ≡ Some x → WrittenKeeps s (write_built_in s.world o allowed (with_built_in x b v))
+  built_in_keeps : (s : Scene) (o : ℤ) (x : Object) (b : BuiltInProperty) (v : Datum) (allowed : Bool) → SceneAgrees fixed s
+      → object_at s.world o ≡ Some x → WrittenKeeps s (write_built_in s.world o allowed (with_built_in x b v))
   built_in_keeps s o x b v allowed h is = go b v
     where
       as_change : (f : Object → Object) → families.change_object s.world o f ≡ with_object s.world o (f x)
       as_change f = ap (change_at s.world o f) is
 
-      by : (f : Object → Object) → ((y : Object) → SameRelations y (f y)) → ((y : Object) → (f y).header.is_player ≡ y.header.is_player) → WrittenKeeps s (if allowed then wrote (with_object s.world o (f x)) else refused permission_denied)
+      by : (f : Object → Object) → ((y : Object) → SameRelations y (f y)) → ((y : Object) → (f y).header.is_player ≡ y.header.is_player)
+          → WrittenKeeps s (if allowed then wrote (with_object s.world o (f x)) else refused permission_denied)
       by f same player = written_if s allowed (with_object s.world o (f x)) _ (λ k. subst (λ w. SceneAgrees fixed (in_world s w)) (as_change f) (attributes_then s o f h same player))
 
       go : (b : BuiltInProperty) (v : Datum) → WrittenKeeps s (write_built_in s.world o allowed (with_built_in x b v))

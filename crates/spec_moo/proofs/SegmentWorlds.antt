@@ -58,11 +58,13 @@ module _ (fixed : ℕ) where
       go (ends u why) m = m
   segments_keep (suc t) s p h k = go (segments_keep t) (reached s p) (through_keeps _ s p h k)
     where
-      on_turn : ((s : Scene) (p : Pending) → SceneAgrees fixed s → IsUnderWay p → EndKeeps (segment t s p)) → (r : Turned) → TurnedKeeps fixed r → EndKeeps (paid (segment t) t r)
+      on_turn : ((s : Scene) (p : Pending) → SceneAgrees fixed s → IsUnderWay p → EndKeeps (segment t s p)) → (r : Turned) → TurnedKeeps fixed r
+          → EndKeeps (paid (segment t) t r)
       on_turn each (goes_on u q) m = each u q m.0 m.1
       on_turn each (halts u why) m = m
 
-      go : ((s : Scene) (p : Pending) → SceneAgrees fixed s → IsUnderWay p → EndKeeps (segment t s p)) → (r : Settled) → SettledKeeps r → EndKeeps (charged (segment t) t r)
+      go : ((s : Scene) (p : Pending) → SceneAgrees fixed s → IsUnderWay p → EndKeeps (segment t s p)) → (r : Settled) → SettledKeeps r
+          → EndKeeps (charged (segment t) t r)
       go each (charges u q) m = on_turn each (turn (with_ticks u t) q) (turns_keep fixed (with_ticks u t) q (ticking u t m.0) m.1)
       go each (begins u q) m = on_turn each (turn (with_ticks u t) q) (turns_keep fixed (with_ticks u t) q (ticking u t m.0) m.1)
       go each (ends u why) m = m

@@ -70,7 +70,8 @@ module _ (fixed : ℕ) where
   same_id w ts None k = tt
   same_id w ts (Some i) k = k
 
-  queued_keeps : (s : Scene) (i : ℤ) (t : Task) → SceneAgrees fixed s → Agrees (record (s.world) { tasks = with s.world.tasks i t }) → SceneAgrees fixed (enqueued s i t)
+  queued_keeps : (s : Scene) (i : ℤ) (t : Task) → SceneAgrees fixed s → Agrees (record (s.world) { tasks = with s.world.tasks i t })
+      → SceneAgrees fixed (enqueued s i t)
   queued_keeps s i t h w = record { world = w; number = h.number; before = h.before; moment = h.moment; ids = h.ids; own = same_id s.world (with s.world.tasks i t) s.task h.own; next = h.next }
 
   waits_apart : (w : World) (why : Waiting) → MayWait w why → (c : ℤ) → IsTrue (lists (read_by why) c) → lists (links_read w.tasks) c ≡ false
@@ -83,7 +84,8 @@ module _ (fixed : ℕ) where
       go (inl e) = subst (λ z. lists (links_read w.tasks) z ≡ false) (sym (same_integer c d e)) (none_reads w.tasks d h.1)
       go (inr e) = cc
 
-  put_keeps : (s : Scene) (i : Option ℤ) (player : ℤ) (why : Waiting) (es : List Entry) → IdFits s.world i → SceneAgrees fixed s → MayWait s.world why → FramesStand es → EntriesHold es → SceneAgrees fixed (put_by s i (waiting_task player why es))
+  put_keeps : (s : Scene) (i : Option ℤ) (player : ℤ) (why : Waiting) (es : List Entry) → IdFits s.world i → SceneAgrees fixed s
+      → MayWait s.world why → FramesStand es → EntriesHold es → SceneAgrees fixed (put_by s i (waiting_task player why es))
   put_keeps s None player why es id h may stands holds = h
   put_keeps s (Some i) player why es id h may stands holds =
       queued_keeps s i (waiting_task player why es) h (task_put s.world i (waiting_task player why es) h.world id (waits why may) (places why may) holds (waits_apart s.world why may))
@@ -142,7 +144,8 @@ module _ (fixed : ℕ) where
       go (frame_entry f ∷ e ∷ es) k = cc
       go (native_entry n ∷ es) k = cc
 
-  goes_on_standing : (w : World) (t : Task) (why : Waiting) (v : Datum) → IsTrue (waiting_fits w t why) → TaskStands t why → EntriesHold t.entries → GoesOn (gone_on t why v)
+  goes_on_standing : (w : World) (t : Task) (why : Waiting) (v : Datum) → IsTrue (waiting_fits w t why) → TaskStands t why → EntriesHold t.entries
+      → GoesOn (gone_on t why v)
   goes_on_standing w t (forked m) v h k holds = fork_begins t (second_holds (is_moment m) _ h)
   goes_on_standing w t (timed m u) v h k holds = handed_on t.player u t.entries k holds
   goes_on_standing w t idle v h k holds = handed_on t.player v t.entries k holds
@@ -193,7 +196,8 @@ module _ (fixed : ℕ) where
       go None e = none_among s.world.links who e
       go (Some c) e = closed_is_free s.world c who h.world e
 
-  linked_keeps : (s : Scene) (c : ℤ) (k : Link) → SceneAgrees fixed s → IsTrue (link_fits s.world c k) → IsFree s.world c k → SceneAgrees fixed (in_world s (open_link s.world c k))
+  linked_keeps : (s : Scene) (c : ℤ) (k : Link) → SceneAgrees fixed s → IsTrue (link_fits s.world c k) → IsFree s.world c k
+      → SceneAgrees fixed (in_world s (open_link s.world c k))
   linked_keeps s c k h fits alone = in_agreeing fixed s (open_link s.world c k) h (link_put s.world c k h.world fits alone) refl
 
   greeted_keeps : (s : Scene) (who : ℤ) (f : Option Sought) → SceneAgrees fixed s → SceneAgrees fixed (greeted s who f)
@@ -206,7 +210,8 @@ module _ (fixed : ℕ) where
           queued_keeps (id_taken s) (next_id s) (user_task s who f) (taken fixed s s.task h e h.own)
           (task_put s.world (next_id s) (user_task s who f) h.world (id_in_range fixed s h e) (both_hold (is_moment s.moment) true h.moment refl) tt (refl, (omega arith, refl)) (λ c l. cc))
 
-  logged_in_keeps : (s : Scene) (c who : ℤ) → SceneAgrees fixed s → IsTrue (is_connection c) → IsTrue (is_player (object_at s.world who)) → SceneAgrees fixed (logged_in s c who)
+  logged_in_keeps : (s : Scene) (c who : ℤ) → SceneAgrees fixed s → IsTrue (is_connection c) → IsTrue (is_player (object_at s.world who))
+      → SceneAgrees fixed (logged_in s c who)
   logged_in_keeps s c who h ranged player =
       let t : Scene = link_closed s who in
       let k : Link = record { person = who; programming = None } in
@@ -262,7 +267,8 @@ module _ (fixed : ℕ) where
       go o None = out _ h
       go o (Some x) = on o (programmable s.world k.person o v)
 
-  collected_keeps : (s : Scene) (c : ℤ) (k : Link) (g : Programming) (t : Text) → at s.world.links c ≡ Some k → SceneAgrees fixed s → Then (collected s c k g t).0
+  collected_keeps : (s : Scene) (c : ℤ) (k : Link) (g : Programming) (t : Text) → at s.world.links c ≡ Some k → SceneAgrees fixed s
+      → Then (collected s c k g t).0
   collected_keeps s c k g t e h = go (same_text t (codes "."))
     where
       u : Scene
@@ -310,7 +316,8 @@ module _ (fixed : ℕ) where
   read_keeps s i v (Some t) e h =
       resumed_keeps (with_own_task s i) (gone_on t t.waiting v) (own_task s i t e h) (goes_on_standing s.world t t.waiting v (h.world.queue.task_waits i t e) (h.world.queue.task_places i t e) (h.world.queue.task_entries i t e))
 
-  line_taken_keeps : (s : Scene) (c : ℤ) (k : Link) (t : Text) (g : Option Programming) → at s.world.links c ≡ Some k → SceneAgrees fixed s → Then (line_taken s c k t g).0
+  line_taken_keeps : (s : Scene) (c : ℤ) (k : Link) (t : Text) (g : Option Programming) → at s.world.links c ≡ Some k → SceneAgrees fixed s
+      → Then (line_taken s c k t g).0
   line_taken_keeps s c k t (Some g) e h = collected_keeps s c k g t e h
   line_taken_keeps s c k t None e h = go (reader_of s.world c)
     where
@@ -321,7 +328,8 @@ module _ (fixed : ℕ) where
   -- ---- links that come and go
 
   -- nobody has the object of a connection that is not open
-  unknown_person : (w : World) (c : ℤ) → Agrees w → at w.links c ≡ None → IsTrue (is_connection c) → lists (map (λ e. (e.1).person) w.links) (connection_object c) ≡ false
+  unknown_person : (w : World) (c : ℤ) → Agrees w → at w.links c ≡ None → IsTrue (is_connection c)
+      → lists (map (λ e. (e.1).person) w.links) (connection_object c) ≡ false
   unknown_person w c h none ranged = go (lists (map (λ e. (e.1).person) w.links) (connection_object c)) refl
     where
       one_connection : (m n : ℤ) → IsTrue (is_connection m) → IsTrue (is_connection n) → connection_object m ≡ connection_object n → m ≡ n
@@ -333,7 +341,8 @@ module _ (fixed : ℕ) where
       below_zero (pos m) a e = connection_below m e
       below_zero (negsuc m) a e = absurd (cc (a))
 
-      go : (b : Bool) → lists (map (λ e. (e.1).person) w.links) (connection_object c) ≡ b → lists (map (λ e. (e.1).person) w.links) (connection_object c) ≡ false
+      go : (b : Bool) → lists (map (λ e. (e.1).person) w.links) (connection_object c) ≡ b
+          → lists (map (λ e. (e.1).person) w.links) (connection_object c) ≡ false
       go false e = e
       go true e =
           let f = person_found w.links (connection_object c) h.links.links_in_order e in
@@ -344,7 +353,8 @@ module _ (fixed : ℕ) where
           player None o i k = cc
           player (Some x) o i k = first_holds (int_le (pos 0) o) _ (h.objects.numbers o x i)
 
-          by : (d : ℤ) (k : Link) → at w.links d ≡ Some k → k.person ≡ connection_object c → IsTrue (is_connection d) → IsTrue (int_eq k.person (connection_object d)) ⊎ IsTrue (on_object w k.person (λ x. x.header.is_player)) → ⊥
+          by : (d : ℤ) (k : Link) → at w.links d ≡ Some k → k.person ≡ connection_object c → IsTrue (is_connection d)
+              → IsTrue (int_eq k.person (connection_object d)) ⊎ IsTrue (on_object w k.person (λ x. x.header.is_player)) → ⊥
           by d k there same fits (inl m) =
               let equal : c ≡ d = one_connection c d ranged fits (sym same ∙ same_integer k.person (connection_object d) m) in
               let clash : None ≡ Some k = sym none ∙ ap (at w.links) equal ∙ there in absurd (cc (clash))
@@ -422,7 +432,8 @@ step_then w s h r =
     raised_next : Agrees (numbered s.number w)
     raised_next = next_raised w (max (suc s.number) w.next) (omega arith) (omega (arith, small, limit)) h
 
-    go : (b : Bool) → (let r : World × Outcome = if b then (numbered s.number w, idle_with ended) else event (numbered s.number w) s in Agrees (r.0) × ((r.0).next ≡ max (suc s.number) w.next))
+    go : (b : Bool)
+        → (let r : World × Outcome = if b then (numbered s.number w, idle_with ended) else event (numbered s.number w) s in Agrees (r.0) × ((r.0).next ≡ max (suc s.number) w.next))
     go true = (raised_next, refl)
     go false = event_keeps (max (suc s.number) w.next) (numbered s.number w) s s.event in_event (record { world = raised_next; number = one; before = omega arith; moment = first_holds (is_moment s.moment) _ rest; next = refl })
 

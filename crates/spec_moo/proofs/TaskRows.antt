@@ -22,14 +22,16 @@ use Rattle.spec_moo.specs.Worlds.{IdFits, SceneAgrees, NativeKeeps}
 module _ (fixed : ℕ) where
   -- ---- ids
 
-  pub id_in_range : (s : Scene) → SceneAgrees fixed s → has_ids s ≡ true → IsTrue (int_le (pos 1) (next_id s) && int_le (next_id s) (pos ((s.world.next - 1) * 64)))
+  pub id_in_range : (s : Scene) → SceneAgrees fixed s → has_ids s ≡ true
+      → IsTrue (int_le (pos 1) (next_id s) && int_le (next_id s) (pos ((s.world.next - 1) * 64)))
   id_in_range s h has =
       let few : suc s.ids_used ≤ 64 = leb-true (suc s.ids_used) 64 has in
       let one = h.number in let before = h.before in
       both_hold (int_le (pos 1) (next_id s)) _ (le-leb 1 ((s.number - 1) * 64 + suc s.ids_used) (omega arith))
       (le-leb ((s.number - 1) * 64 + suc s.ids_used) ((s.world.next - 1) * 64) (omega arith))
 
-  pub taken : (s : Scene) (own : Option ℤ) → SceneAgrees fixed s → has_ids s ≡ true → IdFits s.world own → SceneAgrees fixed (record (id_taken s) { task = own })
+  pub taken : (s : Scene) (own : Option ℤ) → SceneAgrees fixed s → has_ids s ≡ true → IdFits s.world own
+      → SceneAgrees fixed (record (id_taken s) { task = own })
   taken s own h has fits =
       let few : suc s.ids_used ≤ 64 = leb-true (suc s.ids_used) 64 has in
       record {
@@ -59,13 +61,15 @@ module _ (fixed : ℕ) where
           next : ℤ × Scene
           next = (next_id s, record (id_taken s) { task = Some (next_id s) })
 
-          by : (b : Bool) → has_ids s ≡ b → (if b then Some (next_id s, record (id_taken s) { task = Some (next_id s) }) else None) ≡ Some r → SceneAgrees fixed r.1 × (r.1.world ≡ s.world)
+          by : (b : Bool) → has_ids s ≡ b → (if b then Some (next_id s, record (id_taken s) { task = Some (next_id s) }) else None) ≡ Some r
+              → SceneAgrees fixed r.1 × (r.1.world ≡ s.world)
           by true has m =
               let same : next ≡ r = some next r m in
               (subst (λ (x : ℤ × Scene). SceneAgrees fixed x.1) same (taken s (Some (next_id s)) h has (id_in_range s h has)), ap (λ (x : ℤ × Scene). x.1.world) (sym same))
           by false has m = cc
 
-  waits_keep : (s : Scene) (f : ℤ × Scene → NativeEffect) → SceneAgrees fixed s → ((r : ℤ × Scene) → SceneAgrees fixed r.1 → r.1.world ≡ s.world → NativeKeeps fixed (f r)) → NativeKeeps fixed (waits_with_id s f)
+  waits_keep : (s : Scene) (f : ℤ × Scene → NativeEffect) → SceneAgrees fixed s
+      → ((r : ℤ × Scene) → SceneAgrees fixed r.1 → r.1.world ≡ s.world → NativeKeeps fixed (f r)) → NativeKeeps fixed (waits_with_id s f)
   waits_keep s f h more = there fixed s limit_exceeded (with_own_id s) f h (λ r e. let k = own_id s r e h in more r k.0 k.1)
 
   pub later_moment : (s : Scene) (n : ℕ) → IsTrue (is_moment (moment_after s n))

@@ -58,7 +58,8 @@ module _ (fixed : ℕ) where
       go None = tt
       go (Some f) = h
 
-  or_keeps : (o : Option NativeEffect) (later : Text → NativeEffect) (name : Text) → SomeKeeps fixed o → NativeKeeps fixed (later name) → NativeKeeps fixed (or_later o later name)
+  or_keeps : (o : Option NativeEffect) (later : Text → NativeEffect) (name : Text) → SomeKeeps fixed o → NativeKeeps fixed (later name)
+      → NativeKeeps fixed (or_later o later name)
   or_keeps None later name h k = k
   or_keeps (Some e) later name h k = h
 
@@ -141,7 +142,8 @@ module _ (fixed : ℕ) where
   two s f (v ∷ u ∷ []) h k = k v u
   two s f (v ∷ u ∷ z ∷ vs) h k = wrong s _ h
 
-  three : (s : Scene) (f : Datum → Datum → Datum → Effect) (vs : List Datum) → SceneAgrees fixed s → ((v u z : Datum) → EffectKeeps (f v u z)) → EffectKeeps (on_three s f vs)
+  three : (s : Scene) (f : Datum → Datum → Datum → Effect) (vs : List Datum) → SceneAgrees fixed s → ((v u z : Datum) → EffectKeeps (f v u z))
+      → EffectKeeps (on_three s f vs)
   three s f [] h k = wrong s _ h
   three s f (v ∷ []) h k = wrong s _ h
   three s f (v ∷ u ∷ []) h k = wrong s _ h
@@ -150,12 +152,14 @@ module _ (fixed : ℕ) where
 
   -- ---- expressions
 
-  found_keeps : (s : Scene) (p : Pending) (o : ℤ) (word : Text) (xs : Data) (f : Option Sought) → SceneAgrees fixed s → EffectKeeps (found_effect s p o word xs f)
+  found_keeps : (s : Scene) (p : Pending) (o : ℤ) (word : Text) (xs : Data) (f : Option Sought) → SceneAgrees fixed s
+      → EffectKeeps (found_effect s p o word xs f)
   unfolding EffectKeeps
   found_keeps s p o word xs None h = h
   found_keeps s p o word xs (Some f) h = tt
 
-  object_keeps : (s : Scene) (p : Pending) (o : ℤ) (word : Text) (xs : Data) (x : Option Object) → SceneAgrees fixed s → EffectKeeps (on_object_effect s p o word xs x)
+  object_keeps : (s : Scene) (p : Pending) (o : ℤ) (word : Text) (xs : Data) (x : Option Object) → SceneAgrees fixed s
+      → EffectKeeps (on_object_effect s p o word xs x)
   object_keeps s p o word xs None h = wrong s _ h
   object_keeps s p o word xs (Some x) h = found_keeps s p o word xs (find_verb s.world o word) h
 
@@ -197,7 +201,8 @@ module _ (fixed : ℕ) where
   whole_keeps s store (gives x) h = h x
   whole_keeps s store (raises e) h = tt
 
-  stored_keeps : (s : Scene) (who : ℤ) (vars : Named Datum) (t : Target) (vs : List Datum) (v : Datum) → SceneAgrees fixed s → StoredKeeps s (stored s.world who vars t vs v)
+  stored_keeps : (s : Scene) (who : ℤ) (vars : Named Datum) (t : Target) (vs : List Datum) (v : Datum) → SceneAgrees fixed s
+      → StoredKeeps s (stored s.world who vars t vs v)
   stored_keeps s who vars (to_variable x) vs v h = tt
   stored_keeps s who vars (to_property o name) [] v h = tt
   stored_keeps s who vars (to_property o name) (a ∷ []) v h = tt
@@ -395,7 +400,8 @@ module _ (fixed : ℕ) where
   fallback_keeps s n the_code c h = value s c h
   fallback_keeps s n (instead e) c h = part n []
 
-  expression_keeps : (s : Scene) (codes : Codes) (d : Fallback) (held : List Datum) (l : Leaving) → SceneAgrees fixed s → CaughtKeeps (expression_catches s codes d held l)
+  expression_keeps : (s : Scene) (codes : Codes) (d : Fallback) (held : List Datum) (l : Leaving) → SceneAgrees fixed s
+      → CaughtKeeps (expression_catches s codes d held l)
   expression_keeps s codes d [] l h = tt
   expression_keeps s codes d (c ∷ []) (failed f) h =
       if_caught (takes_code c f.code) (Some (fallback_effect s (suc (suc (code_count codes))) d f.code)) None (fallback_keeps s (suc (suc (code_count codes))) d f.code h) tt
@@ -441,7 +447,8 @@ module _ (fixed : ℕ) where
   Kept (halts s (waiting why es)) = SceneAgrees fixed s × MayWait s.world why
   Kept (halts s why) = SceneAgrees fixed s
 
-  part_keeps : (s : Scene) (p : Pending) (c : Construct) (n : ℕ) (vs : List Datum) (ps : List Piece) (o : Option Part) → SceneAgrees fixed s → Kept (on_part s p c n vs ps o)
+  part_keeps : (s : Scene) (p : Pending) (c : Construct) (n : ℕ) (vs : List Datum) (ps : List Piece) (o : Option Part) → SceneAgrees fixed s
+      → Kept (on_part s p c n vs ps o)
   part_keeps s p c n vs ps None h = h
   part_keeps s p c n vs ps (Some x) h = go x.tree
     where
@@ -463,7 +470,8 @@ module _ (fixed : ℕ) where
   failing_keeps : (s : Scene) (p : Pending) (c : Construct) (ps : List Piece) (f : Failure) → SceneAgrees fixed s → Kept (failing s p c ps f)
   failing_keeps s p c ps f h = turned_if (p.frame.call.debug || always_raises c) _ _ h h
 
-  entering_keeps : (s : Scene) (p : Pending) (c : Construct) (ps : List Piece) (between : List Entry) (d : Call) (body : Program) (args : Data) → SceneAgrees fixed s → Kept (entering s p c ps between d body args)
+  entering_keeps : (s : Scene) (p : Pending) (c : Construct) (ps : List Piece) (between : List Entry) (d : Call) (body : Program) (args : Data)
+      → SceneAgrees fixed s → Kept (entering s p c ps between d body args)
   entering_keeps s p c ps between d body args h = turned_if (has_room p.outer) _ _ h (failing_keeps s p c ps (failure too_many_calls) h)
 
   answered_keeps : (s : Scene) (p : Pending) (c : Construct) (ps : List Piece) (a : Answer) → SceneAgrees fixed s → Kept (native_answered s p c ps a)
@@ -496,7 +504,8 @@ module _ (fixed : ℕ) where
   caught_keeps s p q ps stays h k = reach_keeps s p q.construct q.part q.held ps h
   caught_keeps s p q ps e h k = effected_keeps s p q.construct ps e h k
 
-  passing_keeps : (s : Scene) (p : Pending) (l : Leaving) (q : Piece) (ps : List Piece) (o : Option Effect) → SceneAgrees fixed s → CaughtKeeps o → Kept (passing s p l q ps o)
+  passing_keeps : (s : Scene) (p : Pending) (l : Leaving) (q : Piece) (ps : List Piece) (o : Option Effect) → SceneAgrees fixed s → CaughtKeeps o
+      → Kept (passing s p l q ps o)
   passing_keeps s p l q ps None h k = h
   passing_keeps s p l q ps (Some e) h k = caught_keeps s p q ps e h k
 
@@ -549,7 +558,8 @@ module _ (fixed : ℕ) where
   OuterKept (halts s (waiting why es)) = EntriesHold es
   OuterKept (halts s why) = Unit {0}
 
-  part_outer : (s : Scene) (p : Pending) (c : Construct) (n : ℕ) (vs : List Datum) (ps : List Piece) (o : Option Part) → Outer p.outer → OuterKept (on_part s p c n vs ps o)
+  part_outer : (s : Scene) (p : Pending) (c : Construct) (n : ℕ) (vs : List Datum) (ps : List Piece) (o : Option Part) → Outer p.outer
+      → OuterKept (on_part s p c n vs ps o)
   part_outer s p c n vs ps None h = h
   part_outer s p c n vs ps (Some x) h = go x.tree
     where
@@ -571,12 +581,14 @@ module _ (fixed : ℕ) where
   failing_outer : (s : Scene) (p : Pending) (c : Construct) (ps : List Piece) (f : Failure) → Outer p.outer → OuterKept (failing s p c ps f)
   failing_outer s p c ps f h = outer_if (p.frame.call.debug || always_raises c) _ _ (λ e. h) h
 
-  called_outer : (s : Scene) (p : Pending) (c : Construct) (ps : List Piece) (d : Call) (body : Program) (args : Data) → Outer p.outer → OuterKept (entering s p c ps [] d body args)
+  called_outer : (s : Scene) (p : Pending) (c : Construct) (ps : List Piece) (d : Call) (body : Program) (args : Data) → Outer p.outer
+      → OuterKept (entering s p c ps [] d body args)
   called_outer s p c ps d body args h =
       outer_if (has_room p.outer) _ _ (λ e. let room : suc (frames p.outer) ≤ 49 = leb-true (suc (frames p.outer)) 49 e in (h.0, (omega (arith, room), h.1.1)))
       (failing_outer s p c ps (failure too_many_calls) h)
 
-  begun_outer : (s : Scene) (p : Pending) (c : Construct) (ps : List Piece) (n : Native) (d : Call) (body : Program) (args : Data) → IsTrue (native_fits n.name n.stage n.arguments) → Outer p.outer
+  begun_outer : (s : Scene) (p : Pending) (c : Construct) (ps : List Piece) (n : Native) (d : Call) (body : Program) (args : Data)
+      → IsTrue (native_fits n.name n.stage n.arguments) → Outer p.outer
       → OuterKept (entering s p c ps (native_entry n ∷ []) d body args)
   begun_outer s p c ps n d body args fits h =
       outer_if (has_room p.outer) _ _ (λ e. let room : suc (frames p.outer) ≤ 49 = leb-true (suc (frames p.outer)) 49 e in (h.0, (omega (arith, room), both_hold (native_fits n.name n.stage n.arguments) _ fits h.1.1)))
@@ -612,12 +624,14 @@ module _ (fixed : ℕ) where
   caught_outer s p q ps stays k h = reach_outer s p q.construct q.part q.held ps h
   caught_outer s p q ps e k h = effected_outer s p q.construct ps e k h
 
-  passing_outer : (s : Scene) (p : Pending) (l : Leaving) (q : Piece) (ps : List Piece) (o : Option Effect) → CaughtKeeps o → Outer p.outer → OuterKept (passing s p l q ps o)
+  passing_outer : (s : Scene) (p : Pending) (l : Leaving) (q : Piece) (ps : List Piece) (o : Option Effect) → CaughtKeeps o → Outer p.outer
+      → OuterKept (passing s p l q ps o)
   passing_outer s p l q ps None k h = h
   passing_outer s p l q ps (Some e) k h = caught_outer s p q ps e k h
 
   -- a verb that is left: without it the others are as they were
-  outer_native : (s : Scene) (p : Pending) (n : Native) (v : Datum) (es : List Entry) → SceneAgrees fixed s → Outer (native_entry n ∷ es) → OuterKept (back_in_native s p n v es)
+  outer_native : (s : Scene) (p : Pending) (n : Native) (v : Datum) (es : List Entry) → SceneAgrees fixed s → Outer (native_entry n ∷ es)
+      → OuterKept (back_in_native s p n v es)
   outer_native s p n v [] a h = tt
   outer_native s p n v (native_entry m ∷ es) a h = tt
   outer_native s p n v (frame_entry f ∷ es) a h =

@@ -49,9 +49,6 @@ module _ (fixed : ℕ) where
 
   -- ---- checks
 
-  abbrev pub Given : Scene → Type 0
-  Given s = SceneAgrees fixed s
-
   -- where a test fails, nothing has changed
   pub tested : (b : Bool) (e f : NativeEffect) → NativeKeeps fixed f → (b ≡ true → NativeKeeps fixed e) → NativeKeeps fixed (if b then e else f)
   tested true e f h more = more refl

@@ -63,6 +63,7 @@ StagesKeep = (k : ℕ) (s : Scene) (c : Caller) (n : Native) (v : Datum) → Sce
 abbrev pub IsUnderWay : Pending → Type 0
 IsUnderWay p = Stands p × EntriesHold (frame_entry p.frame ∷ p.outer)
 
+-- a task that waits is one that the queue may take
 abbrev pub StopKeeps : ℕ → Scene → Stop → Type 0
 StopKeeps k s (waiting why es) = SceneAgrees k s × (MayWait s.world why × (FramesStand es × EntriesHold es))
 StopKeeps k s why = SceneAgrees k s
@@ -91,6 +92,7 @@ in_range s =
     nat_le 1 s.number && (nat_le s.number 33554431 && (is_moment s.moment
     && ((length s.key == 32) && (list_all (λ b. nat_lt b 256) s.key && event_in_range s.event))))
 
+-- of any kind: a connection that opens or ends, a line, a task that is due
 abbrev pub StepsKeep : Type 0
 StepsKeep = (w : World) (s : Step) → Agrees w → IsTrue (in_range s) → Agrees (play1 w s).0
 

@@ -9,19 +9,20 @@ pub fn natives()
 
 ghost use Rattle.spec_moo.specs.Worlds.{TurnsKeep, SegmentsKeep};
 
-/// After each turn and each segment of a task that stands in its programs.
+/// After each turn and each segment of a task under way.
 pub fn tasks()
     ensures turns { TurnsKeep }
     ensures segments { SegmentsKeep }
 {}
 
-ghost use Rattle.spec_moo.specs.Worlds.{StepsKeep, ListsKeep, StaysWellFormed, PlayGoesOn};
+ghost use Rattle.spec_moo.specs.Worlds.{StepsKeep, ListsKeep, NextFollows, StaysWellFormed, PlayGoesOn};
 
-/// After each step and each list of steps, a well-formed world but for the frames of waiting tasks; and a longer list goes
-/// on where a shorter one ends.
+/// After each step and each list of steps, a well-formed world but for the frames of waiting tasks; the next number follows
+/// the step's and never falls; and a longer list goes on where a shorter one ends.
 pub fn steps()
     ensures steps { StepsKeep }
     ensures lists { ListsKeep }
+    ensures next { NextFollows }
     ensures whole { StaysWellFormed }
     ensures sum { PlayGoesOn }
 {}

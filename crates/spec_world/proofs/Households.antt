@@ -40,7 +40,8 @@ same_tests false true f g = g refl
 same_tests false false f g = refl
 
 -- where a folded name of these is
-folded_back : (f : Text → Bool) (ts : List Text) → IsTrue (list_all (λ t. f (fold_case t)) ts) → (t : Text) → IsTrue (has_name (map fold_case ts) t) → IsTrue (f t)
+folded_back : (f : Text → Bool) (ts : List Text) → IsTrue (list_all (λ t. f (fold_case t)) ts) → (t : Text) → IsTrue (has_name (map fold_case ts) t)
+    → IsTrue (f t)
 folded_back f [] h t k = cc
 folded_back f (s ∷ ts) h t k = go (folded_back f ts (second_holds (f (fold_case s)) _ h) t) (either (same_text t (fold_case s)) _ k)
   where
@@ -48,7 +49,8 @@ folded_back f (s ∷ ts) h t k = go (folded_back f ts (second_holds (f (fold_cas
     go later (inl e) = subst (λ z. IsTrue (f z)) (sym (same_texts t (fold_case s) e)) (first_holds (f (fold_case s)) _ h)
     go later (inr e) = later e
 
-folded_there : (f : Text → Bool) (ts : List Text) → ((t : Text) → IsTrue (has_name (map fold_case ts) t) → IsTrue (f t)) → IsTrue (list_all (λ t. f (fold_case t)) ts)
+folded_there : (f : Text → Bool) (ts : List Text) → ((t : Text) → IsTrue (has_name (map fold_case ts) t) → IsTrue (f t))
+    → IsTrue (list_all (λ t. f (fold_case t)) ts)
 folded_there f [] each = refl
 folded_there f (s ∷ ts) each =
     both_hold (f (fold_case s)) _ (each (fold_case s) (first_of (same_text (fold_case s) (fold_case s)) _ (text_itself (fold_case s))))
@@ -156,7 +158,8 @@ objects_of w h =
 pub at_put : (w : World) (o q : ℤ) (x : Object) → object_at (with_object w o x) q ≡ cond (int_eq q o) (Some x) (object_at w q)
 at_put w o q x = find-put int_cmp int_cmp_total q o x w.objects
 
-pub at_changed : (w : World) (o q : ℤ) (f : Object → Object) → object_at (change_object w o f) q ≡ cond (int_eq q o) (option_map f (object_at w q)) (object_at w q)
+pub at_changed : (w : World) (o q : ℤ) (f : Object → Object)
+    → object_at (change_object w o f) q ≡ cond (int_eq q o) (option_map f (object_at w q)) (object_at w q)
 at_changed w o q f = go (object_at w o) refl (same_or_not q o)
   where
     go : (y : Option Object) → object_at w o ≡ y → (q ≡ o) ⊎ (int_eq q o ≡ false)
@@ -241,7 +244,8 @@ change_greatest w o f = go (object_at w o)
 
 -- ---- names along a line
 
-pub names_same : (w u : World) (ps : List ℤ) → ((q : ℤ) → IsTrue (lists ps q) → folded_names (object_at u q) ≡ folded_names (object_at w q)) → defined_on u ps ≡ defined_on w ps
+pub names_same : (w u : World) (ps : List ℤ) → ((q : ℤ) → IsTrue (lists ps q) → folded_names (object_at u q) ≡ folded_names (object_at w q))
+    → defined_on u ps ≡ defined_on w ps
 unfolding defined_on
 names_same w u [] each = refl
 names_same w u (p ∷ ps) each =

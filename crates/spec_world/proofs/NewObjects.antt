@@ -151,7 +151,8 @@ module _ (w : World) (p owner : ℤ) (h : Household w) (room : IsTrue (int_le (n
           by None k s = cc
           by (Some y) k s = inr (kin y, ap (option_map kin) k)
 
-  found : (q : ℤ) (y : Object) → object_at made q ≡ Some y → ((q ≡ new) × (y ≡ child)) ⊎ ((int_eq q new ≡ false) × ((x : Object) × (object_at w q ≡ Some x) × (y ≡ with_child q x)))
+  found : (q : ℤ) (y : Object) → object_at made q ≡ Some y
+      → ((q ≡ new) × (y ≡ child)) ⊎ ((int_eq q new ≡ false) × ((x : Object) × (object_at w q ≡ Some x) × (y ≡ with_child q x)))
   found q y e = go (same_or_not q new) (object_at w q) refl
     where
       go : (q ≡ new) ⊎ (int_eq q new ≡ false) → (m : Option Object) → object_at w q ≡ m
@@ -198,7 +199,8 @@ module _ (w : World) (p owner : ℤ) (h : Household w) (room : IsTrue (int_le (n
   unfolding defined_on
   inherited us way t = go (object_at w p) refl us way
     where
-      go : (m : Option Object) → object_at w p ≡ m → (us : List ℤ) → Path (parents w) p us → is_some (named (heir_slots owner (slots_at m)) t) ≡ has_name (defined_on w us) t
+      go : (m : Option Object) → object_at w p ≡ m → (us : List ℤ) → Path (parents w) p us
+          → is_some (named (heir_slots owner (slots_at m)) t) ≡ has_name (defined_on w us) t
       go None e [] way = refl
       go None e (q ∷ us) way = let clash : None ≡ Some way.1.0 = sym (ap (option_map kin) e) ∙ way.1.1 in absurd (cc (clash))
       go (Some z) e us way = ap is_some (named_heirs owner z.slots t) ∙ mapped (named z.slots t) ∙ (h.own p z us e way).slots t
@@ -237,7 +239,8 @@ module _ (w : World) (p owner : ℤ) (h : Household w) (room : IsTrue (int_le (n
             filled = λ t k. cc;
           }
 
-      kept : (x : Object) (b : Bool) → y ≡ cond b (record x { children = x.children ++ new ∷ [] }) x → Own w x qs → defined_on made qs ≡ defined_on w qs → Own made y qs
+      kept : (x : Object) (b : Bool) → y ≡ cond b (record x { children = x.children ++ new ∷ [] }) x → Own w x qs
+          → defined_on made qs ≡ defined_on w qs → Own made y qs
       kept x true s own names =
           record {
             sorted = subst (λ z. IsTrue (is_named z.slots)) (sym s) own.sorted;
@@ -281,10 +284,12 @@ module _ (w : World) (p owner : ℤ) (h : Household w) (room : IsTrue (int_le (n
       numbered : OfEachObject made number_fits
       numbered q y e = subst (λ g. IsTrue (int_le (pos 0) q && int_le q g)) (sym made_greatest) (go (found q y e))
         where
-          go : ((q ≡ new) × (y ≡ child)) ⊎ ((int_eq q new ≡ false) × ((x : Object) × (object_at w q ≡ Some x) × (y ≡ with_child q x))) → IsTrue (int_le (pos 0) q && int_le q new)
+          go : ((q ≡ new) × (y ≡ child)) ⊎ ((int_eq q new ≡ false) × ((x : Object) × (object_at w q ≡ Some x) × (y ≡ with_child q x)))
+              → IsTrue (int_le (pos 0) q && int_le q new)
           go (inl s) = subst (λ z. IsTrue (int_le (pos 0) z && int_le z new)) (sym s.0) next_then.valid
           go (inr s) = later q w.greatest (h.numbers q s.1.0 s.1.1)
 
-pub created_household : (w : World) (p owner : ℤ) → Household w → IsTrue (int_le (next_object w) (pos 999999)) → (p ≡ nowhere) ⊎ IsTrue (is_some (object_at w p)) → Household (created w p owner)
+pub created_household : (w : World) (p owner : ℤ) → Household w → IsTrue (int_le (next_object w) (pos 999999))
+    → (p ≡ nowhere) ⊎ IsTrue (is_some (object_at w p)) → Household (created w p owner)
 unfolding created
 created_household = made_household

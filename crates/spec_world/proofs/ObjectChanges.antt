@@ -41,7 +41,8 @@ pub record Stays (x y : Object) : Type 0 where
   pub defines : y.defines ≡ x.defines
   pub sorted : IsTrue (is_named x.slots) → IsTrue (is_named y.slots)
   pub slots : (t : Text) → is_some (named y.slots t) ≡ is_some (named x.slots t)
-  pub filled : (t : Text) → IsTrue (has_name (map fold_case x.defines) t) → IsTrue (is_some (content_of (named x.slots t))) → IsTrue (is_some (content_of (named y.slots t)))
+  pub filled : (t : Text) → IsTrue (has_name (map fold_case x.defines) t) → IsTrue (is_some (content_of (named x.slots t)))
+      → IsTrue (is_some (content_of (named y.slots t)))
 
 abbrev pub StaysThere : Option Object → Option Object → Type 0
 StaysThere None None = Unit {0}
@@ -127,7 +128,8 @@ module _ (w : World) (o : ℤ) (f : Object → Object) (h : Household w) where
       go (Some x) e (inl s) = subst (λ b. Stays x (cond b (f x) x)) (sym (subst (λ z. int_eq q z ≡ true) s (integer_itself q))) (fits x (ap (object_at w) (sym s) ∙ e))
       go (Some x) e (inr s) = subst (λ b. Stays x (cond b (f x) x)) (sym s) (same_stays x)
 
-  same_places : ((x : Object) → (f x).header.location ≡ x.header.location) → ((x : Object) → (f x).contents ≡ x.contents) → (q : ℤ) → places changed q ≡ places w q
+  same_places : ((x : Object) → (f x).header.location ≡ x.header.location) → ((x : Object) → (f x).contents ≡ x.contents) → (q : ℤ)
+      → places changed q ≡ places w q
   same_places loc con q = ap (option_map spot) (at_change w o q f) ∙ go (object_at w q) (int_eq q o)
     where
       go : (m : Option Object) (b : Bool) → option_map spot (option_map (λ y. cond b (f y) y) m) ≡ option_map spot m
@@ -135,7 +137,8 @@ module _ (w : World) (o : ℤ) (f : Object → Object) (h : Household w) where
       go (Some x) true = λ i. Some (loc x i, con x i)
       go (Some x) false = refl
 
-  pub changed_household : ((x : Object) → object_at w o ≡ Some x → Stays x (f x)) → ((x : Object) → (f x).header.location ≡ x.header.location) → ((x : Object) → (f x).contents ≡ x.contents) → Household changed
+  pub changed_household : ((x : Object) → object_at w o ≡ Some x → Stays x (f x)) → ((x : Object) → (f x).header.location ≡ x.header.location)
+      → ((x : Object) → (f x).contents ≡ x.contents) → Household changed
   changed_household fits loc con =
       stays_household w changed h (change_greatest w o f) (change_numbered w o f h.order) (each_stays fits) (same_tree (places changed) (places w) (same_places loc con) h.whereabouts)
 
@@ -145,7 +148,8 @@ abbrev with_content : Text → Slot → Object → Object
 with_content p t x = record x { slots = with_name x.slots (fold_case p) t }
 
 pub slot_household : (w : World) (o : ℤ) (p : Text) (s t : Slot) → Household w → slot_at w o p ≡ Some s
-    → ((x : Object) → object_at w o ≡ Some x → IsTrue (has_name (map fold_case x.defines) (fold_case p)) → IsTrue (is_some t.content)) → Household (with_slot w o p t)
+    → ((x : Object) → object_at w o ≡ Some x → IsTrue (has_name (map fold_case x.defines) (fold_case p)) → IsTrue (is_some t.content))
+    → Household (with_slot w o p t)
 unfolding with_slot
 slot_household w o p s t h found full =
     subst Household (sym (as_change (object_at w o)))
@@ -169,7 +173,8 @@ slot_household w o p s t h found full =
         at_p : named x.slots (fold_case p) ≡ Some s
         at_p = sym (ap (λ y. slot_of y p) e) ∙ found
 
-        there : (r : Text) → (r ≡ fold_case p) ⊎ (same_text r (fold_case p) ≡ false) → is_some (cond (same_text r (fold_case p)) (Some t) (named x.slots r)) ≡ is_some (named x.slots r)
+        there : (r : Text) → (r ≡ fold_case p) ⊎ (same_text r (fold_case p) ≡ false)
+            → is_some (cond (same_text r (fold_case p)) (Some t) (named x.slots r)) ≡ is_some (named x.slots r)
         there r (inl i) = go (same_text r (fold_case p)) ∙ sym (ap (λ z. is_some (named x.slots z)) i ∙ ap is_some at_p)
           where
             go : (b : Bool) → is_some (cond b (Some t) (named x.slots r)) ≡ true
@@ -177,7 +182,8 @@ slot_household w o p s t h found full =
             go false = ap (λ z. is_some (named x.slots z)) i ∙ ap is_some at_p
         there r (inr i) = ap (λ b. is_some (cond b (Some t) (named x.slots r))) i
 
-        still : (r : Text) → IsTrue (has_name (map fold_case x.defines) r) → IsTrue (is_some (content_of (named x.slots r))) → (r ≡ fold_case p) ⊎ (same_text r (fold_case p) ≡ false)
+        still : (r : Text) → IsTrue (has_name (map fold_case x.defines) r) → IsTrue (is_some (content_of (named x.slots r)))
+            → (r ≡ fold_case p) ⊎ (same_text r (fold_case p) ≡ false)
             → IsTrue (is_some (content_of (cond (same_text r (fold_case p)) (Some t) (named x.slots r))))
         still r k m (inl i) = go (same_text r (fold_case p))
           where
@@ -258,7 +264,8 @@ module _ (w : World) (what place : ℤ) (x : Object) (is : object_at w what ≡ 
       go None = tt
       go (Some y) = by y (int_eq q x.header.location) (int_eq q what) (int_eq q place)
 
-  pub over_household : (us : List ℤ) → Path (places w) place us → lists us what ≡ false → (place ≡ nowhere) ⊎ ((y : Node) × (places w place ≡ Some y)) → Household gone_over
+  pub over_household : (us : List ℤ) → Path (places w) place us → lists us what ≡ false
+      → (place ≡ nowhere) ⊎ ((y : Node) × (places w place ≡ Some y)) → Household gone_over
   over_household us way apart there =
       stays_household w gone_over h
       (change_greatest _ place _ ∙ change_greatest _ what _ ∙ change_greatest w x.header.location _)
@@ -268,7 +275,8 @@ module _ (w : World) (what place : ℤ) (x : Object) (is : object_at w what ≡ 
       (rehung_tree (places w) what place (x.header.location, x.contents) (node_there (λ z. z.header.location) (λ z. z.contents) w what x is) h.whereabouts us way apart there))
 
 -- a place that is not inside of what is moved
-apart_from : (n : ℕ) (w : World) (what place : ℤ) (us : List ℤ) → length us ≤ n → in_within n w what place ≡ false → Path (places w) place us → lists us what ≡ false
+apart_from : (n : ℕ) (w : World) (what place : ℤ) (us : List ℤ) → length us ≤ n → in_within n w what place ≡ false → Path (places w) place us
+    → lists us what ≡ false
 unfolding in_within
 apart_from n w what place [] le e way = refl
 apart_from zero w what place (p ∷ us) le e way = absurd (omega (arith, le))
@@ -289,7 +297,8 @@ apart_from (suc n) w what place (p ∷ us) le e way =
 
 -- ---- `move`
 
-pub moved_household : (w : World) (what place : ℤ) (x : Object) → Household w → object_at w what ≡ Some x → (place ≡ nowhere) ⊎ IsTrue (is_some (object_at w place))
+pub moved_household : (w : World) (what place : ℤ) (x : Object) → Household w → object_at w what ≡ Some x
+    → (place ≡ nowhere) ⊎ IsTrue (is_some (object_at w place))
     → is_inside w what place ≡ false → Household (moved w what place)
 unfolding moved
 moved_household w what place x h is there outside =

@@ -18,7 +18,8 @@ use Rattle.spec_world.proofs.Households.{Own, Household, at_each, each_numbered,
 use Rattle.spec_world.proofs.ObjectChanges.{kin, spot}
 
 -- an object that is found passes a test that no entry passes
-pub none_passes : (test : ℤ → Object → Bool) (es : Numbered Object) → list_any (λ e. test e.0 e.1) es ≡ false → (q : ℤ) (x : Object) → at es q ≡ Some x → test q x ≡ false
+pub none_passes : (test : ℤ → Object → Bool) (es : Numbered Object) → list_any (λ e. test e.0 e.1) es ≡ false → (q : ℤ) (x : Object)
+    → at es q ≡ Some x → test q x ≡ false
 none_passes test [] h q x e = cc
 none_passes test (f ∷ es) h q x e = go (none_passes test es (last_false (test f.0 f.1) _ h) q x) (same_or_not q f.0)
   where
@@ -81,7 +82,8 @@ pub below_is : (w : World) (o q : ℤ) (ps : List ℤ) → OfEachObject w number
 below_is w o q ps numbers way = ap (λ l. lists l o) (ancestors_of w q ps numbers way)
 
 -- the path of the parent
-pub parent_path : (w : World) (q : ℤ) (x : Object) (p : ℤ) (ps : List ℤ) → object_at w q ≡ Some x → Path (parents w) q (p ∷ ps) → Path (parents w) x.header.parent ps
+pub parent_path : (w : World) (q : ℤ) (x : Object) (p : ℤ) (ps : List ℤ) → object_at w q ≡ Some x → Path (parents w) q (p ∷ ps)
+    → Path (parents w) x.header.parent ps
 parent_path w q x p ps e way =
     let same : way.1.0 ≡ kin x = some_same (sym way.1.1 ∙ ap (option_map kin) e) in subst (λ (n : Node). Path (parents w) n.0 ps) same way.1.2
 
@@ -99,14 +101,16 @@ module _ (w : World) (o : ℤ) (p : Text) (s : Slot) (x : Object) (is : object_a
   abbrev wider : World
   wider = change_each w gets
 
-  names_at : (q : ℤ) → folded_names (object_at wider q) ≡ cond (int_eq q o) (folded_names (object_at w q) ++ cond (is_some (object_at w q)) (key ∷ []) []) (folded_names (object_at w q))
+  names_at : (q : ℤ)
+      → folded_names (object_at wider q) ≡ cond (int_eq q o) (folded_names (object_at w q) ++ cond (is_some (object_at w q)) (key ∷ []) []) (folded_names (object_at w q))
   names_at q = ap folded_names (at_each w q gets) ∙ go (object_at w q) (int_eq q o) (is_below w o q)
     where
       mapped : (ts : List Text) → map fold_case (ts ++ p ∷ []) ≡ map fold_case ts ++ key ∷ []
       mapped [] = refl
       mapped (t ∷ ts) = ap (λ us. fold_case t ∷ us) (mapped ts)
 
-      go : (m : Option Object) (b c : Bool) → folded_names (option_map (λ y. cond b (defining y p s) (cond c (with_own_slot y p (heir_slot y.header.owner s)) y)) m)
+      go : (m : Option Object) (b c : Bool)
+          → folded_names (option_map (λ y. cond b (defining y p s) (cond c (with_own_slot y p (heir_slot y.header.owner s)) y)) m)
           ≡ cond b (folded_names m ++ cond (is_some m) (key ∷ []) []) (folded_names m)
       go None true c = refl
       go None false c = refl
@@ -194,11 +198,13 @@ module _ (w : World) (o : ℤ) (p : Text) (s : Slot) (x : Object) (is : object_a
           tail_false true b k = cc
           tail_false false b k = k
 
-          alone : (t : Text) → (t ≡ key) ⊎ (same_text t key ≡ false) → has_name (folded_names (object_at w r)) key ≡ false → IsTrue (has_name (folded_names (object_at w r)) t) → has_name (key ∷ []) t ≡ false
+          alone : (t : Text) → (t ≡ key) ⊎ (same_text t key ≡ false) → has_name (folded_names (object_at w r)) key ≡ false
+              → IsTrue (has_name (folded_names (object_at w r)) t) → has_name (key ∷ []) t ≡ false
           alone t (inl i) first k = let clash : has_name (folded_names (object_at w r)) t ≡ false = subst (λ z. has_name (folded_names (object_at w r)) z ≡ false) (sym i) first in absurd (cc (clash, k))
           alone t (inr i) first k = ap (λ b. b || false) i
 
-          both_apart : (t : Text) → has_name (defined_on w ps) key ≡ false → (IsTrue (has_name (folded_names (object_at w r)) t) → has_name (defined_on w ps) t ≡ false)
+          both_apart : (t : Text) → has_name (defined_on w ps) key ≡ false
+              → (IsTrue (has_name (folded_names (object_at w r)) t) → has_name (defined_on w ps) t ≡ false)
               → IsTrue (has_name (folded_names (object_at w r)) t) ⊎ IsTrue (has_name (key ∷ []) t) → has_name (defined_on w ps) t ≡ false
           both_apart t second far (inl k) = far k
           both_apart t second far (inr k) = by (text_or_not t key)
@@ -226,7 +232,8 @@ module _ (w : World) (o : ℤ) (p : Text) (s : Slot) (x : Object) (is : object_a
           again true b c = refl
           again false b c = refl
 
-          none_of : (t : Text) → has_name (defined_on w ps) t ≡ false → has_name (folded_names (object_at w r)) key ≡ false → IsTrue (has_name (folded_names (object_at w r)) t) → (has_name (defined_on w ps) t || same_text t key) ≡ false
+          none_of : (t : Text) → has_name (defined_on w ps) t ≡ false → has_name (folded_names (object_at w r)) key ≡ false
+              → IsTrue (has_name (folded_names (object_at w r)) t) → (has_name (defined_on w ps) t || same_text t key) ≡ false
           none_of t far none k = (λ i. far i || by (text_or_not t key) i)
             where
               by : (t ≡ key) ⊎ (same_text t key ≡ false) → same_text t key ≡ false
@@ -248,10 +255,12 @@ module _ (w : World) (o : ℤ) (p : Text) (s : Slot) (x : Object) (is : object_a
       go false None = refl
       go false (Some z) = refl
 
-  own_with : (q : ℤ) (y : Object) (ps : List ℤ) (r : Slot) → Own w y ps → Wider ps → (t : Text) → is_some (named (with_name y.slots key r) t) ≡ has_name (defined_on wider ps) t
+  own_with : (q : ℤ) (y : Object) (ps : List ℤ) (r : Slot) → Own w y ps → Wider ps → (t : Text)
+      → is_some (named (with_name y.slots key r) t) ≡ has_name (defined_on wider ps) t
   own_with q y ps r own wide t = got y.slots t r ∙ ap (λ b. b || same_text t key) (own.slots t) ∙ sym (wide.0 t)
 
-  heir_own : (q : ℤ) (y : Object) (ps : List ℤ) (r : Slot) → Own w y ps → Wider ps → has_name (map fold_case y.defines) key ≡ false → Own wider (with_own_slot y p r) ps
+  heir_own : (q : ℤ) (y : Object) (ps : List ℤ) (r : Slot) → Own w y ps → Wider ps → has_name (map fold_case y.defines) key ≡ false
+      → Own wider (with_own_slot y p r) ps
   heir_own q y ps r own wide none =
       record {
         sorted = with_sorted y.slots key r own.sorted;
@@ -260,7 +269,8 @@ module _ (w : World) (o : ℤ) (p : Text) (s : Slot) (x : Object) (is : object_a
         filled = λ t k. subst (λ m. IsTrue (is_some (content_of m))) (sym (named_with y.slots key t r)) (go t k (text_or_not t key));
       }
     where
-      go : (t : Text) → IsTrue (has_name (map fold_case y.defines) t) → (t ≡ key) ⊎ (same_text t key ≡ false) → IsTrue (is_some (content_of (cond (same_text t key) (Some r) (named y.slots t))))
+      go : (t : Text) → IsTrue (has_name (map fold_case y.defines) t) → (t ≡ key) ⊎ (same_text t key ≡ false)
+          → IsTrue (is_some (content_of (cond (same_text t key) (Some r) (named y.slots t))))
       go t k (inl i) = let clash : has_name (map fold_case y.defines) t ≡ false = subst (λ z. has_name (map fold_case y.defines) z ≡ false) (sym i) none in absurd (cc (clash, k))
       go t k (inr i) = subst (λ b. IsTrue (is_some (content_of (cond b (Some r) (named y.slots t))))) (sym i) (own.filled t k)
 
@@ -273,7 +283,8 @@ module _ (w : World) (o : ℤ) (p : Text) (s : Slot) (x : Object) (is : object_a
         filled = λ t k. subst (λ m. IsTrue (is_some (content_of m))) (sym (named_with y.slots key t s)) (go t (text_or_not t key) (mapped y.defines t k));
       }
     where
-      mapped : (ts : List Text) (t : Text) → IsTrue (has_name (map fold_case (ts ++ p ∷ [])) t) → IsTrue (has_name (map fold_case ts) t) ⊎ IsTrue (same_text t key)
+      mapped : (ts : List Text) (t : Text) → IsTrue (has_name (map fold_case (ts ++ p ∷ [])) t)
+          → IsTrue (has_name (map fold_case ts) t) ⊎ IsTrue (same_text t key)
       mapped [] t k = inr (one (same_text t key) k)
         where
           one : (b : Bool) → IsTrue (b || false) → IsTrue b
@@ -282,7 +293,8 @@ module _ (w : World) (o : ℤ) (p : Text) (s : Slot) (x : Object) (is : object_a
       mapped (u ∷ ts) t k = by (mapped ts t) (either (same_text t (fold_case u)) _ k)
         where
           by : (IsTrue (has_name (map fold_case (ts ++ p ∷ [])) t) → IsTrue (has_name (map fold_case ts) t) ⊎ IsTrue (same_text t key))
-              → IsTrue (same_text t (fold_case u)) ⊎ IsTrue (has_name (map fold_case (ts ++ p ∷ [])) t) → IsTrue (has_name (map fold_case (u ∷ ts)) t) ⊎ IsTrue (same_text t key)
+              → IsTrue (same_text t (fold_case u)) ⊎ IsTrue (has_name (map fold_case (ts ++ p ∷ [])) t)
+              → IsTrue (has_name (map fold_case (u ∷ ts)) t) ⊎ IsTrue (same_text t key)
           by later (inl e) = inl (first_of (same_text t (fold_case u)) _ e)
           by later (inr e) = on (later e)
             where
@@ -290,7 +302,8 @@ module _ (w : World) (o : ℤ) (p : Text) (s : Slot) (x : Object) (is : object_a
               on (inl z) = inl (second_of (same_text t (fold_case u)) _ z)
               on (inr z) = inr z
 
-      go : (t : Text) → (t ≡ key) ⊎ (same_text t key ≡ false) → IsTrue (has_name (map fold_case y.defines) t) ⊎ IsTrue (same_text t key) → IsTrue (is_some (content_of (cond (same_text t key) (Some s) (named y.slots t))))
+      go : (t : Text) → (t ≡ key) ⊎ (same_text t key ≡ false) → IsTrue (has_name (map fold_case y.defines) t) ⊎ IsTrue (same_text t key)
+          → IsTrue (is_some (content_of (cond (same_text t key) (Some s) (named y.slots t))))
       go t (inl i) k = subst (λ b. IsTrue (is_some (content_of (cond b (Some s) (named y.slots t))))) (sym (subst (λ z. same_text z key ≡ true) (sym i) (text_itself key))) full
       go t (inr i) (inl k) = subst (λ b. IsTrue (is_some (content_of (cond b (Some s) (named y.slots t))))) (sym i) (own.filled t k)
       go t (inr i) (inr k) = absurd (cc (i, k))
@@ -348,7 +361,9 @@ module _ (w : World) (o : ℤ) (p : Text) (s : Slot) (x : Object) (is : object_a
           go false true = refl
           go false false = refl
 
-pub property_added_household : (w : World) (o : ℤ) (p : Text) (s : Slot) (x : Object) → object_at w o ≡ Some x → Household w → IsTrue (is_some s.content) → slot_at w o p ≡ None
-    → ((q : ℤ) (y : Object) → object_at w q ≡ Some y → is_below w o q ≡ true → has_name (map fold_case y.defines) (fold_case p) ≡ false) → Household (property_added w o p s)
+pub property_added_household : (w : World) (o : ℤ) (p : Text) (s : Slot) (x : Object) → object_at w o ≡ Some x → Household w
+    → IsTrue (is_some s.content) → slot_at w o p ≡ None
+    → ((q : ℤ) (y : Object) → object_at w q ≡ Some y → is_below w o q ≡ true → has_name (map fold_case y.defines) (fold_case p) ≡ false)
+    → Household (property_added w o p s)
 unfolding property_added
 property_added_household = added_household

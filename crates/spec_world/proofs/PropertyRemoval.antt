@@ -87,7 +87,8 @@ rest_both : (k : Text) (ts us : List Text) → rest_of k (ts ++ us) ≡ rest_of 
 rest_both k [] us = refl
 rest_both k (t ∷ ts) us = go (rest_both k ts us) (same_text k t)
   where
-    go : rest_of k (ts ++ us) ≡ rest_of k ts ++ rest_of k us → (b : Bool) → cond (not b) (t ∷ rest_of k (ts ++ us)) (rest_of k (ts ++ us)) ≡ cond (not b) (t ∷ rest_of k ts) (rest_of k ts) ++ rest_of k us
+    go : rest_of k (ts ++ us) ≡ rest_of k ts ++ rest_of k us → (b : Bool)
+        → cond (not b) (t ∷ rest_of k (ts ++ us)) (rest_of k (ts ++ us)) ≡ cond (not b) (t ∷ rest_of k ts) (rest_of k ts) ++ rest_of k us
     go later true = later
     go later false = ap (λ vs. t ∷ vs) later
 
@@ -129,14 +130,16 @@ module _ (w : World) (o : ℤ) (p : Text) (x : Object) (is : object_at w o ≡ S
   known q [] way l = cc
   known q (r ∷ ps) way l = go (known way.1.0.0 ps way.1.2) (either (int_eq o r) _ l)
     where
-      go : (IsTrue (lists ps o) → IsTrue (has_name (defined_on w ps) key)) → IsTrue (int_eq o r) ⊎ IsTrue (lists ps o) → IsTrue (has_name (folded_names (object_at w r) ++ defined_on w ps) key)
+      go : (IsTrue (lists ps o) → IsTrue (has_name (defined_on w ps) key)) → IsTrue (int_eq o r) ⊎ IsTrue (lists ps o)
+          → IsTrue (has_name (folded_names (object_at w r) ++ defined_on w ps) key)
       go later (inl e) =
           has_both (folded_names (object_at w r)) (defined_on w ps) key
           ∙ first_of (has_name (folded_names (object_at w r)) key) _ (subst (λ m. IsTrue (has_name (folded_names m) key)) (sym (ap (object_at w) (sym (same_integer o r e)) ∙ is)) defined)
       go later (inr e) = has_both (folded_names (object_at w r)) (defined_on w ps) key ∙ second_of (has_name (folded_names (object_at w r)) key) _ (later e)
 
   -- below the object no other one defines it
-  not_below : (q r : ℤ) (ps : List ℤ) → Path (parents w) q (r ∷ ps) → IsTrue (lists ps o) → IsTrue (names_once (folded_names (object_at w r) ++ defined_on w ps)) → has_name (folded_names (object_at w r)) key ≡ false
+  not_below : (q r : ℤ) (ps : List ℤ) → Path (parents w) q (r ∷ ps) → IsTrue (lists ps o)
+      → IsTrue (names_once (folded_names (object_at w r) ++ defined_on w ps)) → has_name (folded_names (object_at w r)) key ≡ false
   not_below q r ps way l once = go (has_name (folded_names (object_at w r)) key) refl
     where
       go : (b : Bool) → has_name (folded_names (object_at w r)) key ≡ b → has_name (folded_names (object_at w r)) key ≡ false
@@ -155,12 +158,14 @@ module _ (w : World) (o : ℤ) (p : Text) (x : Object) (is : object_at w o ≡ S
           go (inl e) = let clash : lists ps r ≡ false = subst (λ z. lists ps z ≡ false) (sym e) l in absurd (cc (clash, k))
           go (inr e) = e
 
-  narrower_line : (q : ℤ) (ps : List ℤ) → Path (parents w) q ps → IsTrue (lists ps o) → IsTrue (names_once (defined_on w ps)) → defined_on narrower ps ≡ rest_of key (defined_on w ps)
+  narrower_line : (q : ℤ) (ps : List ℤ) → Path (parents w) q ps → IsTrue (lists ps o) → IsTrue (names_once (defined_on w ps))
+      → defined_on narrower ps ≡ rest_of key (defined_on w ps)
   unfolding defined_on
   narrower_line q [] way l once = cc
   narrower_line q (r ∷ ps) way l once = go (same_or_not o r) (λ k. narrower_line way.1.0.0 ps way.1.2 k (once_second (folded_names (object_at w r)) (defined_on w ps) once))
     where
-      pick : (b : Bool) → int_eq r o ≡ b → folded_names (object_at narrower r) ≡ cond b (rest_of key (folded_names (object_at w r))) (folded_names (object_at w r))
+      pick : (b : Bool) → int_eq r o ≡ b
+          → folded_names (object_at narrower r) ≡ cond b (rest_of key (folded_names (object_at w r))) (folded_names (object_at w r))
       pick b e = names_at r ∙ ap (λ c. cond c (rest_of key (folded_names (object_at w r))) (folded_names (object_at w r))) e
 
       go : (o ≡ r) ⊎ (int_eq o r ≡ false) → (IsTrue (lists ps o) → defined_on narrower ps ≡ rest_of key (defined_on w ps))
@@ -183,17 +188,20 @@ module _ (w : World) (o : ℤ) (p : Text) (x : Object) (is : object_at w o ≡ S
       go true m = refl
       go false m = refl
 
-  still_filled : (q : ℤ) (y : Object) (ps : List ℤ) → Own w y ps → (t : Text) → same_text key t ≡ false → IsTrue (has_name (map fold_case y.defines) t) → IsTrue (is_some (content_of (named (without_name y.slots key) t)))
+  still_filled : (q : ℤ) (y : Object) (ps : List ℤ) → Own w y ps → (t : Text) → same_text key t ≡ false
+      → IsTrue (has_name (map fold_case y.defines) t) → IsTrue (is_some (content_of (named (without_name y.slots key) t)))
   still_filled q y ps own t e k = subst (λ m. IsTrue (is_some (content_of m))) (sym (named_without y.slots key t ∙ ap (λ b. cond b None (named y.slots t)) e)) (own.filled t k)
 
-  slots_then : (y : Object) (ps : List ℤ) → Own w y ps → defined_on narrower ps ≡ rest_of key (defined_on w ps) → (t : Text) → is_some (named (without_name y.slots key) t) ≡ has_name (defined_on narrower ps) t
+  slots_then : (y : Object) (ps : List ℤ) → Own w y ps → defined_on narrower ps ≡ rest_of key (defined_on w ps) → (t : Text)
+      → is_some (named (without_name y.slots key) t) ≡ has_name (defined_on narrower ps) t
   slots_then y ps own line t =
       lost y.slots t ∙ ap (λ b. cond (same_text key t) false b) (own.slots t) ∙ sym (rest_has key t (defined_on w ps)) ∙ ap (λ ts. has_name ts t) (sym line)
 
   once_then : (y : Object) (ps : List ℤ) → Own w y ps → defined_on narrower ps ≡ rest_of key (defined_on w ps) → IsTrue (names_once (defined_on narrower ps))
   once_then y ps own line = subst (λ ts. IsTrue (names_once ts)) (sym line) (rest_once key (defined_on w ps) own.once)
 
-  heir_own : (q : ℤ) (y : Object) (ps : List ℤ) → Own w y ps → defined_on narrower ps ≡ rest_of key (defined_on w ps) → has_name (map fold_case y.defines) key ≡ false → Own narrower (lose_slot y p) ps
+  heir_own : (q : ℤ) (y : Object) (ps : List ℤ) → Own w y ps → defined_on narrower ps ≡ rest_of key (defined_on w ps)
+      → has_name (map fold_case y.defines) key ≡ false → Own narrower (lose_slot y p) ps
   heir_own q y ps own line none =
       record {
         sorted = without_sorted y.slots key own.sorted;
@@ -202,11 +210,13 @@ module _ (w : World) (o : ℤ) (p : Text) (x : Object) (is : object_at w o ≡ S
         filled = λ t k. go t k (text_or_not key t);
       }
     where
-      go : (t : Text) → IsTrue (has_name (map fold_case y.defines) t) → (key ≡ t) ⊎ (same_text key t ≡ false) → IsTrue (is_some (content_of (named (without_name y.slots key) t)))
+      go : (t : Text) → IsTrue (has_name (map fold_case y.defines) t) → (key ≡ t) ⊎ (same_text key t ≡ false)
+          → IsTrue (is_some (content_of (named (without_name y.slots key) t)))
       go t k (inl i) = let clash : has_name (map fold_case y.defines) t ≡ false = subst (λ z. has_name (map fold_case y.defines) z ≡ false) i none in absurd (cc (clash, k))
       go t k (inr i) = still_filled q y ps own t i k
 
-  definer_own : (q : ℤ) (y : Object) (ps : List ℤ) → Own w y ps → defined_on narrower ps ≡ rest_of key (defined_on w ps) → Own narrower (lose_slot (not_defining y p) p) ps
+  definer_own : (q : ℤ) (y : Object) (ps : List ℤ) → Own w y ps → defined_on narrower ps ≡ rest_of key (defined_on w ps)
+      → Own narrower (lose_slot (not_defining y p) p) ps
   definer_own q y ps own line =
       record {
         sorted = without_sorted y.slots key own.sorted;
@@ -215,10 +225,12 @@ module _ (w : World) (o : ℤ) (p : Text) (x : Object) (is : object_at w o ≡ S
         filled = λ t k. go t (sym (rest_has key t (map fold_case y.defines)) ∙ subst (λ ts. IsTrue (has_name ts t)) (folded_rest y.defines) k);
       }
     where
-      go : (t : Text) → IsTrue (cond (same_text key t) false (has_name (map fold_case y.defines) t)) → IsTrue (is_some (content_of (named (without_name y.slots key) t)))
+      go : (t : Text) → IsTrue (cond (same_text key t) false (has_name (map fold_case y.defines) t))
+          → IsTrue (is_some (content_of (named (without_name y.slots key) t)))
       go t k = by (same_text key t) refl k
         where
-          by : (b : Bool) → same_text key t ≡ b → IsTrue (cond b false (has_name (map fold_case y.defines) t)) → IsTrue (is_some (content_of (named (without_name y.slots key) t)))
+          by : (b : Bool) → same_text key t ≡ b → IsTrue (cond b false (has_name (map fold_case y.defines) t))
+              → IsTrue (is_some (content_of (named (without_name y.slots key) t)))
           by true e j = cc
           by false e j = still_filled q y ps own t e j
 
@@ -230,7 +242,8 @@ module _ (w : World) (o : ℤ) (p : Text) (x : Object) (is : object_at w o ≡ S
       own : Own w y (r ∷ ps)
       own = h.own q y (r ∷ ps) e way
 
-      shown : (b c : Bool) → int_eq q o ≡ b → is_below w o q ≡ c → Own narrower (cond b (lose_slot (not_defining y p) p) (cond c (lose_slot y p) y)) (r ∷ ps) → Own narrower (loses q y) (r ∷ ps)
+      shown : (b c : Bool) → int_eq q o ≡ b → is_below w o q ≡ c
+          → Own narrower (cond b (lose_slot (not_defining y p) p) (cond c (lose_slot y p) y)) (r ∷ ps) → Own narrower (loses q y) (r ∷ ps)
       shown b c s t k = subst (λ i. Own narrower (cond i (lose_slot (not_defining y p) p) (cond (is_below w o q) (lose_slot y p) y)) (r ∷ ps)) (sym s)
           (subst (λ j. Own narrower (cond b (lose_slot (not_defining y p) p) (cond j (lose_slot y p) y)) (r ∷ ps)) (sym t) k)
 
@@ -272,6 +285,7 @@ module _ (w : World) (o : ℤ) (p : Text) (x : Object) (is : object_at w o ≡ S
           go false true = refl
           go false false = refl
 
-pub property_deleted_household : (w : World) (o : ℤ) (p : Text) (x : Object) → object_at w o ≡ Some x → Household w → IsTrue (has_name (map fold_case x.defines) (fold_case p)) → Household (property_deleted w o p)
+pub property_deleted_household : (w : World) (o : ℤ) (p : Text) (x : Object) → object_at w o ≡ Some x → Household w
+    → IsTrue (has_name (map fold_case x.defines) (fold_case p)) → Household (property_deleted w o p)
 unfolding property_deleted
 property_deleted_household = deleted_household

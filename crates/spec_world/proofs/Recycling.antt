@@ -34,7 +34,8 @@ below_none k (e ∷ es) h = go (below_none k es (second_holds _ _ h)) (int_cmp k
     go later Greater i = later
 
 -- no entry passes a test that nothing that is found passes
-pub none_found : (test : ℤ → Object → Bool) (es : Numbered Object) → IsTrue (is_numbered es) → ((q : ℤ) (x : Object) → at es q ≡ Some x → test q x ≡ false) → list_any (λ e. test e.0 e.1) es ≡ false
+pub none_found : (test : ℤ → Object → Bool) (es : Numbered Object) → IsTrue (is_numbered es)
+    → ((q : ℤ) (x : Object) → at es q ≡ Some x → test q x ≡ false) → list_any (λ e. test e.0 e.1) es ≡ false
 none_found test [] h each = refl
 none_found test (e ∷ es) h each =
     (λ i. each e.0 e.1 (ap (λ b. cond b (Some e.1) (at es e.0)) (integer_itself e.0)) i || none_found test es (second_holds _ _ h) (λ q x k. each q x (behind q x k)) i)
@@ -48,13 +49,15 @@ none_found test (e ∷ es) h each =
 
 -- ---- names
 
-names_within : (w : World) (us rest : List ℤ) → ((r : ℤ) → IsTrue (lists us r) → IsTrue (lists rest r)) → (t : Text) → IsTrue (has_name (defined_on w us) t) → IsTrue (has_name (defined_on w rest) t)
+names_within : (w : World) (us rest : List ℤ) → ((r : ℤ) → IsTrue (lists us r) → IsTrue (lists rest r)) → (t : Text)
+    → IsTrue (has_name (defined_on w us) t) → IsTrue (has_name (defined_on w rest) t)
 unfolding defined_on
 names_within w [] rest each t k = cc
 names_within w (u ∷ us) rest each t k =
     go (names_within w us rest (λ r l. each r (second_of (int_eq r u) _ l)) t) (either (has_name (folded_names (object_at w u)) t) _ (sym (has_both (folded_names (object_at w u)) (defined_on w us) t) ∙ k))
   where
-    go : (IsTrue (has_name (defined_on w us) t) → IsTrue (has_name (defined_on w rest) t)) → IsTrue (has_name (folded_names (object_at w u)) t) ⊎ IsTrue (has_name (defined_on w us) t) → IsTrue (has_name (defined_on w rest) t)
+    go : (IsTrue (has_name (defined_on w us) t) → IsTrue (has_name (defined_on w rest) t))
+        → IsTrue (has_name (folded_names (object_at w u)) t) ⊎ IsTrue (has_name (defined_on w us) t) → IsTrue (has_name (defined_on w rest) t)
     go later (inl i) = name_of_member w rest u t (each u (first_of (int_eq u u) _ (integer_itself u))) i
     go later (inr i) = later i
 
@@ -64,7 +67,8 @@ none_shared (s ∷ ts) us each =
     λ i. each s (first_of (same_text s s) _ (text_itself s)) i || none_shared ts us (λ t k. each t (second_of (same_text t s) _ k)) i
 
 -- what stands above a member of a path stands on the path
-upper_members : (t : Nodes) (c : ℤ) (us : List ℤ) → Path t c (c ∷ us) → (q r0 : ℤ) (rest : List ℤ) → Path t q (r0 ∷ rest) → IsTrue (lists (r0 ∷ rest) c) → (r : ℤ) → IsTrue (lists us r) → IsTrue (lists rest r)
+upper_members : (t : Nodes) (c : ℤ) (us : List ℤ) → Path t c (c ∷ us) → (q r0 : ℤ) (rest : List ℤ) → Path t q (r0 ∷ rest)
+    → IsTrue (lists (r0 ∷ rest) c) → (r : ℤ) → IsTrue (lists us r) → IsTrue (lists rest r)
 upper_members t c us way q r0 [] h l r k = go (same_or_not c r0)
   where
     go : (c ≡ r0) ⊎ (int_eq c r0 ≡ false) → IsTrue (lists [] r)
@@ -76,7 +80,8 @@ upper_members t c us way q r0 [] h l r k = go (same_or_not c r0)
     go (inr e) = let clash : false ≡ true = ap (λ b. b || false) (sym e) ∙ l in absurd (cc (clash))
 upper_members t c us way q r0 (r1 ∷ rest) h l r k = go (same_or_not c r0) (upper_members t c us way h.1.0.0 r1 rest h.1.2)
   where
-    go : (c ≡ r0) ⊎ (int_eq c r0 ≡ false) → (IsTrue (lists (r1 ∷ rest) c) → (r : ℤ) → IsTrue (lists us r) → IsTrue (lists rest r)) → IsTrue (lists (r1 ∷ rest) r)
+    go : (c ≡ r0) ⊎ (int_eq c r0 ≡ false) → (IsTrue (lists (r1 ∷ rest) c) → (r : ℤ) → IsTrue (lists us r) → IsTrue (lists rest r))
+        → IsTrue (lists (r1 ∷ rest) r)
     go (inl e) later = let same : c ∷ us ≡ r0 ∷ r1 ∷ rest = one_path t q (c ∷ us) (r0 ∷ r1 ∷ rest) (subst (λ z. Path t z (c ∷ us)) (e ∙ h.0) way) h in subst (λ l. IsTrue (lists l r)) (ap tail same) k
       where
         tail : List ℤ → List ℤ
@@ -133,7 +138,8 @@ module _ (w : World) (o p c : ℤ) (cs : List ℤ) (h : Household w) (at_o : par
           way : (ps : List ℤ) × Path (parents w) q ps
           way = path_from (parents w) h.family q
 
-          apart : (ps : List ℤ) → Path (parents w) q ps → IsTrue (lists ps c) → IsTrue (names_once (defined_on w ps)) → (t : Text) → IsTrue (has_name (map fold_case y.defines) t) → has_name (defined_on w parent_way.0) t ≡ false
+          apart : (ps : List ℤ) → Path (parents w) q ps → IsTrue (lists ps c) → IsTrue (names_once (defined_on w ps)) → (t : Text)
+              → IsTrue (has_name (map fold_case y.defines) t) → has_name (defined_on w parent_way.0) t ≡ false
           apart [] qs l once t k = cc
           apart (r ∷ ps) qs l once t k = by (has_name (defined_on w parent_way.0) t) refl
             where
@@ -216,14 +222,16 @@ emptied v [] q = go (object_at v q)
 emptied v (c ∷ cs) q =
     emptied (change_object v c put_nowhere) cs q ∙ ap (option_map (λ y. cond (lists cs q) (put_nowhere y) y)) (at_change v c q put_nowhere) ∙ go (object_at v q) (int_eq q c) (lists cs q)
   where
-    go : (m : Option Object) (a b : Bool) → option_map (λ y. cond b (put_nowhere y) y) (option_map (λ y. cond a (put_nowhere y) y) m) ≡ option_map (λ y. cond (a || b) (put_nowhere y) y) m
+    go : (m : Option Object) (a b : Bool)
+        → option_map (λ y. cond b (put_nowhere y) y) (option_map (λ y. cond a (put_nowhere y) y) m) ≡ option_map (λ y. cond (a || b) (put_nowhere y) y) m
     go None a b = refl
     go (Some y) true true = refl
     go (Some y) true false = refl
     go (Some y) false true = refl
     go (Some y) false false = refl
 
-emptied_rest : (v : World) (cs : List ℤ) → (IsTrue (is_numbered v.objects) → IsTrue (is_numbered (to_nowhere v cs).objects)) × ((to_nowhere v cs).greatest ≡ v.greatest)
+emptied_rest : (v : World) (cs : List ℤ)
+    → (IsTrue (is_numbered v.objects) → IsTrue (is_numbered (to_nowhere v cs).objects)) × ((to_nowhere v cs).greatest ≡ v.greatest)
 emptied_rest v [] = ((λ h. h), refl)
 emptied_rest v (c ∷ cs) =
     let r = emptied_rest (change_object v c put_nowhere) cs in
@@ -264,7 +272,8 @@ module _ (v : World) (o p place : ℤ) (inside : List ℤ) (h : Household v) (at
   found : (q : ℤ) (z : Object) → object_at forgotten q ≡ Some z → (int_eq q o ≡ false) × ((y : Object) × (object_at v q ≡ Some y) × (z ≡ changes q y))
   found q z e = go (int_eq q o) refl (object_at v q) refl (sym (there_then q) ∙ e)
     where
-      go : (b : Bool) → int_eq q o ≡ b → (m : Option Object) → object_at v q ≡ m → cond b None (option_map (changes q) m) ≡ Some z → (int_eq q o ≡ false) × ((y : Object) × (object_at v q ≡ Some y) × (z ≡ changes q y))
+      go : (b : Bool) → int_eq q o ≡ b → (m : Option Object) → object_at v q ≡ m → cond b None (option_map (changes q) m) ≡ Some z
+          → (int_eq q o ≡ false) × ((y : Object) × (object_at v q ≡ Some y) × (z ≡ changes q y))
       go true s m k i = absurd (cc (i))
       go false s None k i = absurd (cc (i))
       go false s (Some y) k i = (s, (y, k, some_same (sym i)))
@@ -338,7 +347,8 @@ module _ (v : World) (o p place : ℤ) (inside : List ℤ) (h : Household v) (at
           is_inside : lists inside q ≡ int_eq y.header.location o
           is_inside = by (lists inside q) refl (same_or_not y.header.location o)
             where
-              by : (b : Bool) → lists inside q ≡ b → (y.header.location ≡ o) ⊎ (int_eq y.header.location o ≡ false) → lists inside q ≡ int_eq y.header.location o
+              by : (b : Bool) → lists inside q ≡ b → (y.header.location ≡ o) ⊎ (int_eq y.header.location o ≡ false)
+                  → lists inside q ≡ int_eq y.header.location o
               by true k d =
                   let z = h.whereabouts.below o (place, inside) q spot_o k in
                   let same : z.0 ≡ spot y = some_same (sym z.1 ∙ here) in
@@ -346,7 +356,8 @@ module _ (v : World) (o p place : ℤ) (inside : List ℤ) (h : Household v) (at
               by false k (inr d) = k ∙ sym d
               by false k (inl d) = on (h.whereabouts.above q (spot y) here)
                 where
-                  on : (y.header.location ≡ nowhere) ⊎ ((z : Node) × (places v y.header.location ≡ Some z) × IsTrue (lists z.1 q)) → lists inside q ≡ int_eq y.header.location o
+                  on : (y.header.location ≡ nowhere) ⊎ ((z : Node) × (places v y.header.location ≡ Some z) × IsTrue (lists z.1 q))
+                      → lists inside q ≡ int_eq y.header.location o
                   on (inl i) = let clash : None ≡ Some (place, inside) = sym (ap (places v) (sym d ∙ i) ∙ h.whereabouts.nobody) ∙ spot_o in absurd (cc (clash))
                   on (inr z) =
                       let same : z.0 ≡ (place, inside) = some_same (sym z.1 ∙ ap (places v) d ∙ spot_o) in

@@ -21,12 +21,14 @@ use Rattle.spec_world.proofs.PropertyChanges.{none_passes, below_is}
 -- ---- names and members of lists
 
 -- a name of a member is a name of the list
-pub name_of_member : (w : World) (us : List ℤ) (r : ℤ) (t : Text) → IsTrue (lists us r) → IsTrue (has_name (folded_names (object_at w r)) t) → IsTrue (has_name (defined_on w us) t)
+pub name_of_member : (w : World) (us : List ℤ) (r : ℤ) (t : Text) → IsTrue (lists us r) → IsTrue (has_name (folded_names (object_at w r)) t)
+    → IsTrue (has_name (defined_on w us) t)
 unfolding defined_on
 name_of_member w [] r t l k = cc
 name_of_member w (u ∷ us) r t l k = has_both (folded_names (object_at w u)) (defined_on w us) t ∙ go (name_of_member w us r t) (either (int_eq r u) _ l)
   where
-    go : (IsTrue (lists us r) → IsTrue (has_name (folded_names (object_at w r)) t) → IsTrue (has_name (defined_on w us) t)) → IsTrue (int_eq r u) ⊎ IsTrue (lists us r)
+    go : (IsTrue (lists us r) → IsTrue (has_name (folded_names (object_at w r)) t) → IsTrue (has_name (defined_on w us) t))
+        → IsTrue (int_eq r u) ⊎ IsTrue (lists us r)
         → IsTrue (has_name (folded_names (object_at w u)) t || has_name (defined_on w us) t)
     go later (inl e) = first_of _ _ (subst (λ z. IsTrue (has_name (folded_names (object_at w z)) t)) (same_integer r u e) k)
     go later (inr e) = second_of (has_name (folded_names (object_at w u)) t) _ (later e k)
@@ -41,7 +43,8 @@ names_among w (p ∷ ps) us t k = go (names_among w ps us t) (lists us p) refl k
     go later false e j = later j
     go later true e j = by (either (has_name (folded_names (object_at w p)) t) _ (sym (has_both (folded_names (object_at w p)) (defined_on w (filter (lists us) ps)) t) ∙ j))
       where
-        by : IsTrue (has_name (folded_names (object_at w p)) t) ⊎ IsTrue (has_name (defined_on w (filter (lists us) ps)) t) → IsTrue (has_name (defined_on w us) t)
+        by : IsTrue (has_name (folded_names (object_at w p)) t) ⊎ IsTrue (has_name (defined_on w (filter (lists us) ps)) t)
+            → IsTrue (has_name (defined_on w us) t)
         by (inl i) = name_of_member w us p t e i
         by (inr i) = later i
 
@@ -71,7 +74,8 @@ not_shared (s ∷ ts) us e t k = go (not_shared ts us (last_false (has_name us s
     go later (inr i) = later i
 
 -- the slots that an heir of an object, or of nobody, begins with
-pub slots_above : (w : World) (h : Household w) (p : ℤ) (us : List ℤ) → Path (parents w) p us → (t : Text) → is_some (named (slots_at (object_at w p)) t) ≡ has_name (defined_on w us) t
+pub slots_above : (w : World) (h : Household w) (p : ℤ) (us : List ℤ) → Path (parents w) p us → (t : Text)
+    → is_some (named (slots_at (object_at w p)) t) ≡ has_name (defined_on w us) t
 unfolding defined_on
 slots_above w h p us way t = go (object_at w p) refl us way
   where
@@ -111,7 +115,8 @@ module _ (w : World) (o p : ℤ) (x : Object) (is : object_at w o ≡ Some x) (h
   abbrev all_changes : ℤ → Object → Object
   all_changes q y = third_change q (second_change q (first_change q (heirs q y)))
 
-  there_hung : (q : ℤ) → object_at hung q ≡ option_map (third_change q) (option_map (second_change q) (option_map (first_change q) (option_map (heirs q) (object_at w q))))
+  there_hung : (q : ℤ)
+      → object_at hung q ≡ option_map (third_change q) (option_map (second_change q) (option_map (first_change q) (option_map (heirs q) (object_at w q))))
   there_hung q =
       at_change _ p q _ ∙ ap (option_map (third_change q)) (at_change _ o q _ ∙ ap (option_map (second_change q)) (at_change _ x.header.parent q _ ∙ ap (option_map (first_change q)) (at_each w q heirs)))
 
@@ -203,20 +208,23 @@ module _ (w : World) (o p : ℤ) (x : Object) (is : object_at w o ≡ Some x) (h
   spots y false false true = (refl, (refl, refl))
   spots y false false false = (refl, (refl, refl))
 
-  at_spot : (q : ℤ) (y : Object) → (spot (all_changes q y) ≡ spot (heirs q y)) × (((all_changes q y).slots ≡ (heirs q y).slots) × ((all_changes q y).defines ≡ (heirs q y).defines))
+  at_spot : (q : ℤ) (y : Object)
+      → (spot (all_changes q y) ≡ spot (heirs q y)) × (((all_changes q y).slots ≡ (heirs q y).slots) × ((all_changes q y).defines ≡ (heirs q y).defines))
   at_spot q y = spots (heirs q y) (int_eq q x.header.parent) (int_eq q o) (int_eq q p)
 
   hung_places : (q : ℤ) → places hung q ≡ places w q
   hung_places q = ap (option_map spot) (there_hung q) ∙ go (object_at w q)
     where
-      go : (m : Option Object) → option_map spot (option_map (third_change q) (option_map (second_change q) (option_map (first_change q) (option_map (heirs q) m)))) ≡ option_map spot m
+      go : (m : Option Object)
+          → option_map spot (option_map (third_change q) (option_map (second_change q) (option_map (first_change q) (option_map (heirs q) m)))) ≡ option_map spot m
       go None = refl
       go (Some y) = ap Some ((at_spot q y).0) ∙ (λ i. Some ((same_header q y i).location, same_contents q y i))
 
   same_names : (q : ℤ) → folded_names (object_at hung q) ≡ folded_names (object_at w q)
   same_names q = ap folded_names (there_hung q) ∙ go (object_at w q)
     where
-      go : (m : Option Object) → folded_names (option_map (third_change q) (option_map (second_change q) (option_map (first_change q) (option_map (heirs q) m)))) ≡ folded_names m
+      go : (m : Option Object)
+          → folded_names (option_map (third_change q) (option_map (second_change q) (option_map (first_change q) (option_map (heirs q) m)))) ≡ folded_names m
       go None = refl
       go (Some y) = ap (map fold_case) ((at_spot q y).1.1 ∙ same_defines q y)
 
@@ -283,7 +291,8 @@ module _ (w : World) (o p : ℤ) (x : Object) (is : object_at w o ≡ Some x) (h
 
   -- ---- the slots of an heir
 
-  heir_own : (q : ℤ) (y : Object) (ps : List ℤ) → object_at w q ≡ Some y → Path (parents w) q ps → IsTrue (lists ps o) → Own hung (heir_of w o p q y) (up_to o ps ++ us)
+  heir_own : (q : ℤ) (y : Object) (ps : List ℤ) → object_at w q ≡ Some y → Path (parents w) q ps → IsTrue (lists ps o)
+      → Own hung (heir_of w o p q y) (up_to o ps ++ us)
   heir_own q y ps e way l =
       record {
         sorted = both_sorted (slots_named (has_name kept) y.slots) (heir_slots y.header.owner (slots_at (object_at w p))) (kept_sorted (has_name kept) y.slots own.sorted);
@@ -327,7 +336,8 @@ module _ (w : World) (o p : ℤ) (x : Object) (is : object_at w o ≡ Some x) (h
           mapped None = refl
           mapped (Some z) = refl
 
-      found_is : (t : Text) → named (heir_of w o p q y).slots t ≡ or_first (cond (has_name kept t) (named y.slots t) None) (named (heir_slots y.header.owner (slots_at (object_at w p))) t)
+      found_is : (t : Text)
+          → named (heir_of w o p q y).slots t ≡ or_first (cond (has_name kept t) (named y.slots t) None) (named (heir_slots y.header.owner (slots_at (object_at w p))) t)
       found_is t =
           named_both (slots_named (has_name kept) y.slots) (heir_slots y.header.owner (slots_at (object_at w p))) t
           ∙ ap (λ m. or_first m (named (heir_slots y.header.owner (slots_at (object_at w p))) t)) (named_kept (has_name kept) y.slots t)
@@ -356,7 +366,8 @@ module _ (w : World) (o p : ℤ) (x : Object) (is : object_at w o ≡ Some x) (h
           subst (λ m. IsTrue (is_some (content_of m))) (sym (found_is t ∙ ap (λ b. or_first (cond b (named y.slots t) None) (named (heir_slots y.header.owner (slots_at (object_at w p))) t)) known))
           (first_filled (named y.slots t) (own.filled t k))
         where
-          first_filled : (m : Option Slot) → IsTrue (is_some (content_of m)) → IsTrue (is_some (content_of (or_first m (named (heir_slots y.header.owner (slots_at (object_at w p))) t))))
+          first_filled : (m : Option Slot) → IsTrue (is_some (content_of m))
+              → IsTrue (is_some (content_of (or_first m (named (heir_slots y.header.owner (slots_at (object_at w p))) t))))
           first_filled None j = cc
           first_filled (Some z) j = j
 
@@ -435,19 +446,22 @@ module _ (w : World) (o p : ℤ) (x : Object) (is : object_at w o ≡ Some x) (h
         own = each_own;
       }
 
-pub reparented_household : (w : World) (o p : ℤ) (x : Object) → object_at w o ≡ Some x → Household w → (p ≡ nowhere) ⊎ IsTrue (is_some (object_at w p)) → is_below w o p ≡ false → clashes w o p ≡ false
+pub reparented_household : (w : World) (o p : ℤ) (x : Object) → object_at w o ≡ Some x → Household w
+    → (p ≡ nowhere) ⊎ IsTrue (is_some (object_at w p)) → is_below w o p ≡ false → clashes w o p ≡ false
     → Household (reparented w o p)
 unfolding reparented
 reparented_household w o p x is h there outside clear =
     subst (λ b. Household (put_below (with_heirs w o p) o b p)) (sym (ap parent_of is)) (hung_household w o p x is h there outside clear)
 
-pub reparented_parents : (w : World) (o p : ℤ) (x : Object) → object_at w o ≡ Some x → (h : Household w) → (p ≡ nowhere) ⊎ IsTrue (is_some (object_at w p)) → is_below w o p ≡ false → clashes w o p ≡ false
+pub reparented_parents : (w : World) (o p : ℤ) (x : Object) → object_at w o ≡ Some x → (h : Household w)
+    → (p ≡ nowhere) ⊎ IsTrue (is_some (object_at w p)) → is_below w o p ≡ false → clashes w o p ≡ false
     → (q : ℤ) → parents (reparented w o p) q ≡ rehung (parents w) o p q
 unfolding reparented
 reparented_parents w o p x is h there outside clear q =
     ap (λ b. parents (put_below (with_heirs w o p) o b p) q) (ap parent_of is) ∙ hung_parents w o p x is h there outside clear q
 
-pub reparented_places : (w : World) (o p : ℤ) (x : Object) → object_at w o ≡ Some x → (h : Household w) → (p ≡ nowhere) ⊎ IsTrue (is_some (object_at w p)) → is_below w o p ≡ false → clashes w o p ≡ false
+pub reparented_places : (w : World) (o p : ℤ) (x : Object) → object_at w o ≡ Some x → (h : Household w)
+    → (p ≡ nowhere) ⊎ IsTrue (is_some (object_at w p)) → is_below w o p ≡ false → clashes w o p ≡ false
     → (q : ℤ) → places (reparented w o p) q ≡ places w q
 unfolding reparented
 reparented_places w o p x is h there outside clear q =

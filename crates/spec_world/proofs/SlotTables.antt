@@ -97,7 +97,8 @@ named_heirs owner (e ∷ es) t = go (named_heirs owner es t) (eq_by_cmp (slice_c
     go rest true = refl
     go rest false = rest
 
-heirs_above : (owner : ℤ) (k : Text) (es : Named Slot) → IsTrue (below_all (slice_cmp nat_cmp) k es) → IsTrue (below_all (slice_cmp nat_cmp) k (heir_slots owner es))
+heirs_above : (owner : ℤ) (k : Text) (es : Named Slot) → IsTrue (below_all (slice_cmp nat_cmp) k es)
+    → IsTrue (below_all (slice_cmp nat_cmp) k (heir_slots owner es))
 heirs_above owner k [] h = refl
 heirs_above owner k (e ∷ es) h = both_hold _ _ (first_holds _ _ h) (heirs_above owner k es (second_holds _ _ h))
 
@@ -127,11 +128,13 @@ named_kept test (e ∷ es) t = go (named_kept test es t) (text_or_not t e.0) (te
         ap (λ b. cond b (Some e.1) (named (slots_named test es) t)) (sought t e.0 ∙ s) ∙ rest ∙ ap (λ b. cond (test t) (cond b (Some e.1) (named es t)) None) (sym (sought t e.0 ∙ s))
     go rest (inr s) false h = rest ∙ ap (λ b. cond (test t) (cond b (Some e.1) (named es t)) None) (sym (sought t e.0 ∙ s))
 
-kept_above : (test : Text → Bool) (k : Text) (es : Named Slot) → IsTrue (below_all (slice_cmp nat_cmp) k es) → IsTrue (below_all (slice_cmp nat_cmp) k (slots_named test es))
+kept_above : (test : Text → Bool) (k : Text) (es : Named Slot) → IsTrue (below_all (slice_cmp nat_cmp) k es)
+    → IsTrue (below_all (slice_cmp nat_cmp) k (slots_named test es))
 kept_above test k [] h = refl
 kept_above test k (e ∷ es) h = go (kept_above test k es (second_holds _ _ h)) (test e.0)
   where
-    go : IsTrue (below_all (slice_cmp nat_cmp) k (slots_named test es)) → (b : Bool) → IsTrue (below_all (slice_cmp nat_cmp) k (cond b (e ∷ slots_named test es) (slots_named test es)))
+    go : IsTrue (below_all (slice_cmp nat_cmp) k (slots_named test es)) → (b : Bool)
+        → IsTrue (below_all (slice_cmp nat_cmp) k (cond b (e ∷ slots_named test es) (slots_named test es)))
     go rest true = both_hold _ _ (first_holds _ _ h) rest
     go rest false = rest
 
@@ -154,7 +157,8 @@ named_added es k t s = go (named es k) refl (text_or_not t k)
     same_first None = refl
     same_first (Some x) = refl
 
-    go : (o : Option Slot) → named es k ≡ o → (t ≡ k) ⊎ (same_text t k ≡ false) → named (added_slot es k s o) t ≡ or_first (named es t) (cond (same_text t k) (Some s) None)
+    go : (o : Option Slot) → named es k ≡ o → (t ≡ k) ⊎ (same_text t k ≡ false)
+        → named (added_slot es k s o) t ≡ or_first (named es t) (cond (same_text t k) (Some s) None)
     go None e (inl h) =
         named_with es k t s ∙ ap (λ b. cond b (Some s) (named es t)) (subst (λ u. same_text t u ≡ true) h (text_itself t))
         ∙ sym (ap (λ o. or_first o (cond (same_text t k) (Some s) None)) (ap (named es) h ∙ e) ∙ ap (λ b. cond b (Some s) None) (subst (λ u. same_text t u ≡ true) h (text_itself t)))

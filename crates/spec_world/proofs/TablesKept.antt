@@ -79,7 +79,8 @@ module _ {X : Type 0} (f : X → List ℤ) where
   held_put i x (e ∷ es) c l = go (held_put i x es c) (int_cmp i e.0) l
     where
       go : (IsTrue (lists (held_by (with es i x)) c) → IsTrue (lists (f x) c) ⊎ IsTrue (lists (held_by es) c)) → (r : Ordering)
-          → IsTrue (lists (held_by (by_order r ((i, x) ∷ e ∷ es) ((e.0, x) ∷ es) (e ∷ with es i x))) c) → IsTrue (lists (f x) c) ⊎ IsTrue (lists (f e.1 ++ held_by es) c)
+          → IsTrue (lists (held_by (by_order r ((i, x) ∷ e ∷ es) ((e.0, x) ∷ es) (e ∷ with es i x))) c)
+          → IsTrue (lists (f x) c) ⊎ IsTrue (lists (f e.1 ++ held_by es) c)
       go later Less l = either (lists (f x) c) _ (sym (lists_both (f x) (f e.1 ++ held_by es) c) ∙ l)
       go later Equal l = by (either (lists (f x) c) _ (sym (lists_both (f x) (held_by es) c) ∙ l))
         where
@@ -97,7 +98,8 @@ module _ {X : Type 0} (f : X → List ℤ) where
           by (inr k) = on (later k)
 
   -- an entry that holds what no other one holds
-  pub held_once : (i : ℤ) (x : X) (es : Numbered X) → IsTrue (once (f x)) → Disjoint (f x) (held_by es) → IsTrue (once (held_by es)) → IsTrue (once (held_by (with es i x)))
+  pub held_once : (i : ℤ) (x : X) (es : Numbered X) → IsTrue (once (f x)) → Disjoint (f x) (held_by es) → IsTrue (once (held_by es))
+      → IsTrue (once (held_by (with es i x)))
   unfolding held_by
   held_once i x [] h apart k = join_once (f x) [] h k apart
   held_once i x (e ∷ es) h apart k =
@@ -125,7 +127,8 @@ module _ {X : Type 0} (f : X → List ℤ) where
   held_left p [] c l = l
   held_left p (e ∷ es) c l = go (held_left p es c) (p e) l
     where
-      go : (IsTrue (lists (held_by (filter p es)) c) → IsTrue (lists (held_by es) c)) → (b : Bool) → IsTrue (lists (held_by (cond b (e ∷ filter p es) (filter p es))) c) → IsTrue (lists (f e.1 ++ held_by es) c)
+      go : (IsTrue (lists (held_by (filter p es)) c) → IsTrue (lists (held_by es) c)) → (b : Bool)
+          → IsTrue (lists (held_by (cond b (e ∷ filter p es) (filter p es))) c) → IsTrue (lists (f e.1 ++ held_by es) c)
       go later false l = lists_both (f e.1) (held_by es) c ∙ second_of (lists (f e.1) c) _ (later l)
       go later true l = lists_both (f e.1) (held_by es) c ∙ by (either (lists (f e.1) c) _ (sym (lists_both (f e.1) (held_by (filter p es)) c) ∙ l))
         where
@@ -164,7 +167,8 @@ module _ {X : Type 0} (f : X → List ℤ) where
           is_less Equal m = cc
           is_less Greater m = cc
 
-      go : (at es i ≡ Some y → f x ≡ f y → held_by (with es i x) ≡ held_by es) → (r : Ordering) → int_cmp i d.0 ≡ r → cond (is_eq r) (Some d.1) (at es i) ≡ Some y
+      go : (at es i ≡ Some y → f x ≡ f y → held_by (with es i x) ≡ held_by es) → (r : Ordering) → int_cmp i d.0 ≡ r
+          → cond (is_eq r) (Some d.1) (at es i) ≡ Some y
           → held_by (by_order r ((i, x) ∷ d ∷ es) ((d.0, x) ∷ es) (d ∷ with es i x)) ≡ f d.1 ++ held_by es
       go later Less l m = let clash : None ≡ Some y = sym (below_none i es (further d.0 es l (first_holds _ _ h))) ∙ m in absurd (cc (clash))
       go later Equal l m = ap (λ z. z ++ held_by es) (e ∙ ap f (sym (some_same m)))
@@ -175,7 +179,8 @@ module _ {X : Type 0} where
   at_with es i q x = find-put int_cmp int_cmp_total q i x es
 
   -- an entry that is found there is one of those that stay
-  pub at_left : (p : ℤ × X → Bool) (es : Numbered X) → IsTrue (is_numbered es) → (i : ℤ) (x : X) → at (filter p es) i ≡ Some x → (at es i ≡ Some x) × IsTrue (p (i, x))
+  pub at_left : (p : ℤ × X → Bool) (es : Numbered X) → IsTrue (is_numbered es) → (i : ℤ) (x : X) → at (filter p es) i ≡ Some x
+      → (at es i ≡ Some x) × IsTrue (p (i, x))
   at_left p [] h i x e = cc
   at_left p (d ∷ es) h i x e = go (at_left p es (second_holds _ _ h) i x) (same_or_not i d.0) (p d) refl e
     where

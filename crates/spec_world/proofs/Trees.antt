@@ -75,7 +75,8 @@ unfolding once
 once_more o [] h k = refl
 once_more o (x ∷ xs) h k = go (once_more o xs) (lists xs x) refl (same_or_not o x) h
   where
-    go : (IsTrue (once xs) → lists xs o ≡ false → IsTrue (once (xs ++ o ∷ []))) → (d : Bool) → lists xs x ≡ d → (o ≡ x) ⊎ (int_eq o x ≡ false) → IsTrue (not d && once xs) → IsTrue (not (lists (xs ++ o ∷ []) x) && once (xs ++ o ∷ []))
+    go : (IsTrue (once xs) → lists xs o ≡ false → IsTrue (once (xs ++ o ∷ []))) → (d : Bool) → lists xs x ≡ d → (o ≡ x) ⊎ (int_eq o x ≡ false)
+        → IsTrue (not d && once xs) → IsTrue (not (lists (xs ++ o ∷ []) x) && once (xs ++ o ∷ []))
     go rest true e s n = cc
     go rest false e (inl is) n = let clash : int_eq o x ≡ true = subst (λ z. int_eq o z ≡ true) is (integer_itself o) in absurd (cc (clash, k))
     go rest false e (inr s) n =
@@ -139,7 +140,8 @@ pub path_onward : (t : Nodes) (p o : ℤ) (ps : List ℤ) → Path t o ps → Is
 path_onward t p o [] h is = cc
 path_onward t p o (q ∷ ps) h is = go (same_or_not p q) (path_onward t p h.1.0.0 ps h.1.2)
   where
-    go : (p ≡ q) ⊎ (int_eq p q ≡ false) → (IsTrue (lists ps p) → (qs : List ℤ) × Path t p qs × (length qs ≤ length ps)) → (qs : List ℤ) × Path t p qs × (length qs ≤ suc (length ps))
+    go : (p ≡ q) ⊎ (int_eq p q ≡ false) → (IsTrue (lists ps p) → (qs : List ℤ) × Path t p qs × (length qs ≤ length ps))
+        → (qs : List ℤ) × Path t p qs × (length qs ≤ suc (length ps))
     go (inl e) later = (q ∷ ps, subst (λ z. Path t z (q ∷ ps)) (sym (e ∙ h.0)) h, omega arith)
     go (inr e) later = let r = later (ap (λ b. b || lists ps p) (sym e) ∙ is) in (r.0, r.1, omega (arith, r.2))
 
@@ -287,7 +289,8 @@ module _ (t : Nodes) (o p : ℤ) (x : Node) (is : t o ≡ Some x) (tree : IsTree
       at_place (inl none) s = inl none
       at_place (inr n) s = inr (node_now p n.0, there_now p n.0 n.1, subst (λ j. IsTrue (lists (leave_out o n.0.1 ++ hung_under o p p) j)) (sym s) (is_hung o p (leave_out o n.0.1)))
 
-      go : (z : Node) → t q ≡ Some z → y ≡ node_now q z → (q ≡ o) ⊎ (int_eq q o ≡ false) → (y.0 ≡ nowhere) ⊎ ((m : Node) × (after y.0 ≡ Some m) × IsTrue (lists m.1 q))
+      go : (z : Node) → t q ≡ Some z → y ≡ node_now q z → (q ≡ o) ⊎ (int_eq q o ≡ false)
+          → (y.0 ≡ nowhere) ⊎ ((m : Node) × (after y.0 ≡ Some m) × IsTrue (lists m.1 q))
       go z at_q same (inl s) =
           subst (λ j. (j ≡ nowhere) ⊎ ((m : Node) × (after j ≡ Some m) × IsTrue (lists m.1 q)))
           (sym (ap (λ (n : Node). n.0) same ∙ ap (λ b. cond b p z.0) (subst (λ j. int_eq q j ≡ true) s (integer_itself q)))) (at_place there s)
@@ -295,7 +298,8 @@ module _ (t : Nodes) (o p : ℤ) (x : Node) (is : t o ≡ Some x) (tree : IsTree
           subst (λ j. (j ≡ nowhere) ⊎ ((m : Node) × (after j ≡ Some m) × IsTrue (lists m.1 q)))
           (sym (ap (λ (n : Node). n.0) same ∙ ap (λ b. cond b p z.0) s)) (by (tree.above q z at_q))
         where
-          by : (z.0 ≡ nowhere) ⊎ ((n : Node) × (t z.0 ≡ Some n) × IsTrue (lists n.1 q)) → (z.0 ≡ nowhere) ⊎ ((m : Node) × (after z.0 ≡ Some m) × IsTrue (lists m.1 q))
+          by : (z.0 ≡ nowhere) ⊎ ((n : Node) × (t z.0 ≡ Some n) × IsTrue (lists n.1 q))
+              → (z.0 ≡ nowhere) ⊎ ((m : Node) × (after z.0 ≡ Some m) × IsTrue (lists m.1 q))
           by (inl none) = inl none
           by (inr n) =
               inr (node_now z.0 n.0, there_now z.0 n.0 n.1, still_listed o p z.0 q (leave_out o n.0.1) (left_out_lists o q n.0.1 s ∙ n.2))
@@ -414,7 +418,8 @@ module _ (t : Nodes) (o p : ℤ) (free : t o ≡ None) (somewhere : int_eq nowhe
       → (y.0 ≡ nowhere) ⊎ ((z : Node) × (with_new y.0 ≡ Some z) × IsTrue (lists z.1 q))
   above_then there q y e = go (which q y e) there
     where
-      by : (z : Node) → (z.0 ≡ nowhere) ⊎ ((n : Node) × (t z.0 ≡ Some n) × IsTrue (lists n.1 q)) → (z.0 ≡ nowhere) ⊎ ((m : Node) × (with_new z.0 ≡ Some m) × IsTrue (lists m.1 q))
+      by : (z : Node) → (z.0 ≡ nowhere) ⊎ ((n : Node) × (t z.0 ≡ Some n) × IsTrue (lists n.1 q))
+          → (z.0 ≡ nowhere) ⊎ ((m : Node) × (with_new z.0 ≡ Some m) × IsTrue (lists m.1 q))
       by z (inl none) = inl none
       by z (inr n) = inr (node_then z.0 n.0, there_then z.0 n.0 n.1, still_listed o p z.0 q n.0.1 n.2)
 
@@ -500,7 +505,8 @@ module _ (t : Nodes) (o : ℤ) (tree : IsTree t) where
   above_left q y e = let z = was_left q y e in go z.1.0 z.0 z.1.2 (same_or_not z.1.0.0 o) (tree.above q z.1.0 z.1.1)
     where
       go : (z : Node) → int_eq q o ≡ false → y ≡ node_left z → (z.0 ≡ o) ⊎ (int_eq z.0 o ≡ false)
-          → (z.0 ≡ nowhere) ⊎ ((n : Node) × (t z.0 ≡ Some n) × IsTrue (lists n.1 q)) → (y.0 ≡ nowhere) ⊎ ((m : Node) × (left y.0 ≡ Some m) × IsTrue (lists m.1 q))
+          → (z.0 ≡ nowhere) ⊎ ((n : Node) × (t z.0 ≡ Some n) × IsTrue (lists n.1 q))
+          → (y.0 ≡ nowhere) ⊎ ((m : Node) × (left y.0 ≡ Some m) × IsTrue (lists m.1 q))
       go z s same (inl d) up = inl (ap (λ (n : Node). n.0) same ∙ ap (λ b. cond b nowhere z.0) (subst (λ j. int_eq z.0 j ≡ true) d (integer_itself z.0)))
       go z s same (inr d) (inl none) = inl (ap (λ (n : Node). n.0) same ∙ ap (λ b. cond b nowhere z.0) d ∙ none)
       go z s same (inr d) (inr n) =

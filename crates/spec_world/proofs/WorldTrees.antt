@@ -59,7 +59,8 @@ number_back : (q : ℕ) (ps : List ℤ) → list_any (eqb q) (map nat_abs ps) �
 number_back q [] h = cc
 number_back q (p ∷ ps) h = go (number_back q ps) (either (eqb q (nat_abs p)) _ h)
   where
-    go : (list_any (eqb q) (map nat_abs ps) ≡ true → (p : ℤ) × (IsTrue (lists ps p)) × (nat_abs p ≡ q)) → IsTrue (eqb q (nat_abs p)) ⊎ IsTrue (list_any (eqb q) (map nat_abs ps))
+    go : (list_any (eqb q) (map nat_abs ps) ≡ true → (p : ℤ) × (IsTrue (lists ps p)) × (nat_abs p ≡ q))
+        → IsTrue (eqb q (nat_abs p)) ⊎ IsTrue (list_any (eqb q) (map nat_abs ps))
         → (r : ℤ) × (IsTrue (lists (p ∷ ps) r)) × (nat_abs r ≡ q)
     go later (inl e) = (p, first_of (int_eq p p) _ (integer_itself p), sym (eqb-true q (nat_abs p) e))
     go later (inr e) = let r = later e in (r.0, second_of (int_eq r.0 p) _ r.1, r.2)
@@ -104,7 +105,8 @@ module _ (up : Object → ℤ) (down : Object → List ℤ) (w : World) where
       go (Some x) e k = cc
   path_of (suc n) q h = go (path_of n) (object_at w q) refl h
     where
-      go : ((p : ℤ) → IsTrue (comes_out up n w p) → (ps : List ℤ) × Path nodes p ps) → (o : Option Object) → object_at w q ≡ o → IsTrue (ends_above (comes_out up n w) up o)
+      go : ((p : ℤ) → IsTrue (comes_out up n w p) → (ps : List ℤ) × Path nodes p ps) → (o : Option Object) → object_at w q ≡ o
+          → IsTrue (ends_above (comes_out up n w) up o)
           → (ps : List ℤ) × Path nodes q ps
       go above None e k = ([], ap (option_map node) e)
       go above (Some x) e k = let r = above (up x) k in (q ∷ r.0, (refl, (node x, node_there q x e, r.1)))
@@ -159,7 +161,8 @@ module _ (up : Object → ℤ) (down : Object → List ℤ) (w : World) where
       go None e k = cc
       go (Some x) e k = (x, e, k)
 
-  pub tree_of : OfEachObject w number_fits → OfEachObject w (λ v o x. comes_out up (line_bound v) v o) → OfEachObject w down_agrees → OfEachObject w up_agrees → IsTree nodes
+  pub tree_of : OfEachObject w number_fits → OfEachObject w (λ v o x. comes_out up (line_bound v) v o) → OfEachObject w down_agrees
+      → OfEachObject w up_agrees → IsTree nodes
   tree_of numbers ends downs ups =
       record { ends = ends_in; single = single_in; below = below_in; above = above_in; nobody = nobody_in }
     where
@@ -178,7 +181,8 @@ module _ (up : Object → ℤ) (down : Object → List ℤ) (w : World) where
       above_in : (o : ℤ) (y : Node) → nodes o ≡ Some y → (y.0 ≡ nowhere) ⊎ ((z : Node) × (nodes y.0 ≡ Some z) × IsTrue (lists z.1 o))
       above_in o y e = let x = object_there o y e in subst (λ (n : Node). (n.0 ≡ nowhere) ⊎ ((z : Node) × (nodes n.0 ≡ Some z) × IsTrue (lists z.1 o))) (sym x.2) (go x.0 (either (is_nowhere (up x.0)) _ (ups o x.0 x.1)))
         where
-          go : (x : Object) → IsTrue (is_nowhere (up x)) ⊎ IsTrue (on_object w (up x) (λ v. lists (down v) o)) → (up x ≡ nowhere) ⊎ ((z : Node) × (nodes (up x) ≡ Some z) × IsTrue (lists z.1 o))
+          go : (x : Object) → IsTrue (is_nowhere (up x)) ⊎ IsTrue (on_object w (up x) (λ v. lists (down v) o))
+              → (up x ≡ nowhere) ⊎ ((z : Node) × (nodes (up x) ≡ Some z) × IsTrue (lists z.1 o))
           go x (inl s) = inl (same_integer (up x) nowhere s)
           go x (inr s) = let z = passed (up x) (λ v. lists (down v) o) s in inr (node z.0, node_there (up x) z.0 z.1, z.2)
 

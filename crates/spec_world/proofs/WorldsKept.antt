@@ -54,7 +54,8 @@ SamePlayer f = (x : Object) → (f x).header.is_player ≡ x.header.is_player
 pub change_players : (w : World) (o : ℤ) (f : Object → Object) → SamePlayer f → PlayersStay w (change_object w o f)
 change_players w o f same q h = ap (λ m. passes m (λ x. x.header.is_player)) (at_change w o q f) ∙ go (object_at w q) (int_eq q o) h
   where
-    go : (m : Option Object) (b : Bool) → IsTrue (passes m (λ x. x.header.is_player)) → IsTrue (passes (option_map (λ y. cond b (f y) y) m) (λ x. x.header.is_player))
+    go : (m : Option Object) (b : Bool) → IsTrue (passes m (λ x. x.header.is_player))
+        → IsTrue (passes (option_map (λ y. cond b (f y) y) m) (λ x. x.header.is_player))
     go None b k = k
     go (Some y) true k = same y ∙ k
     go (Some y) false k = k
@@ -87,7 +88,8 @@ pub added_players : (w : World) (o : ℤ) (p : Text) (s : Slot) → PlayersStay 
 unfolding property_added
 added_players w o p s = each_players w _ same
   where
-    same : (q : ℤ) (x : Object) → (cond (int_eq q o) (defining x p s) (cond (is_below w o q) (with_own_slot x p (heir_slot x.header.owner s)) x)).header.is_player ≡ x.header.is_player
+    same : (q : ℤ) (x : Object)
+        → (cond (int_eq q o) (defining x p s) (cond (is_below w o q) (with_own_slot x p (heir_slot x.header.owner s)) x)).header.is_player ≡ x.header.is_player
     same q x = go (int_eq q o) (is_below w o q)
       where
         go : (b c : Bool) → (cond b (defining x p s) (cond c (with_own_slot x p (heir_slot x.header.owner s)) x)).header.is_player ≡ x.header.is_player
@@ -99,7 +101,8 @@ pub deleted_players : (w : World) (o : ℤ) (p : Text) → PlayersStay w (proper
 unfolding property_deleted
 deleted_players w o p = each_players w _ same
   where
-    same : (q : ℤ) (x : Object) → (cond (int_eq q o) (lose_slot (not_defining x p) p) (cond (is_below w o q) (lose_slot x p) x)).header.is_player ≡ x.header.is_player
+    same : (q : ℤ) (x : Object)
+        → (cond (int_eq q o) (lose_slot (not_defining x p) p) (cond (is_below w o q) (lose_slot x p) x)).header.is_player ≡ x.header.is_player
     same q x = go (int_eq q o) (is_below w o q)
       where
         go : (b c : Bool) → (cond b (lose_slot (not_defining x p) p) (cond c (lose_slot x p) x)).header.is_player ≡ x.header.is_player
@@ -193,13 +196,15 @@ recycled_players w o q s h = go (object_at w o)
         (change_players (to_nowhere (reparented_each w x.children x.header.parent) x.contents) x.header.parent (λ z. record z { children = leave_out o z.children }) (λ z. refl) q
         (nowhere_players (reparented_each w x.children x.header.parent) x.contents q (each_reparented w x.children x.header.parent q h)))
 
-pub created_players : (w : World) (p owner : ℤ) → ObjectsAgree w → IsTrue (int_le (next_object w) (pos 999999)) → (p ≡ nowhere) ⊎ IsTrue (is_some (object_at w p)) → PlayersStay w (created w p owner)
+pub created_players : (w : World) (p owner : ℤ) → ObjectsAgree w → IsTrue (int_le (next_object w) (pos 999999))
+    → (p ≡ nowhere) ⊎ IsTrue (is_some (object_at w p)) → PlayersStay w (created w p owner)
 unfolding created
 created_players w p owner h room there q k =
     change_players (with_object (record w { greatest = next_object w }) (next_object w) (child_of w p owner)) p (λ x. record x { children = x.children ++ next_object w ∷ [] }) (λ x. refl) q
     (ap (λ m. passes m (λ z. z.header.is_player)) (at_put (record w { greatest = next_object w }) (next_object w) q (child_of w p owner)) ∙ go (same_or_not q (next_object w)))
   where
-    go : (q ≡ next_object w) ⊎ (int_eq q (next_object w) ≡ false) → IsTrue (passes (cond (int_eq q (next_object w)) (Some (child_of w p owner)) (object_at w q)) (λ z. z.header.is_player))
+    go : (q ≡ next_object w) ⊎ (int_eq q (next_object w) ≡ false)
+        → IsTrue (passes (cond (int_eq q (next_object w)) (Some (child_of w p owner)) (object_at w q)) (λ z. z.header.is_player))
     go (inl s) =
         let none : object_at w q ≡ None = ap (object_at w) s ∙ free w p owner (household w h) room there in
         let clash : IsTrue (passes None (λ (z : Object). z.header.is_player)) = sym (ap (λ m. passes m (λ z. z.header.is_player)) none) ∙ k in absurd (cc (clash))
@@ -208,7 +213,8 @@ created_players w p owner h room there q k =
 -- ---- after a change of objects
 
 -- objects agree whatever the rest of their world is
-pub elsewhere : (w : World) (ts : Numbered Task) (ls : Numbered Link) (n : ℕ) (e : Bool) → ObjectsAgree w → ObjectsAgree (record w { tasks = ts; links = ls; next = n; ending = e })
+pub elsewhere : (w : World) (ts : Numbered Task) (ls : Numbered Link) (n : ℕ) (e : Bool) → ObjectsAgree w
+    → ObjectsAgree (record w { tasks = ts; links = ls; next = n; ending = e })
 elsewhere w ts ls n e h =
     let u : World = record w { tasks = ts; links = ls; next = n; ending = e } in
     objects_agree u (stays_household w u (household w h) refl h.objects_in_order (λ q. same (object_at w q)) (household w h).whereabouts)
@@ -235,7 +241,8 @@ queue_same w u r h =
     waits t idle k = k
     waits t (reading_on c) k = subst (λ ls. IsTrue (is_some (at ls c))) (sym r.links) k
 
-pub objects_changed : (w u : World) → Agrees w → ObjectsAgree u → Rest w u → ((c : ℤ) (k : Link) → at w.links c ≡ Some k → IsPlayer w k.person → IsPlayer u k.person) → Agrees u
+pub objects_changed : (w u : World) → Agrees w → ObjectsAgree u → Rest w u
+    → ((c : ℤ) (k : Link) → at w.links c ≡ Some k → IsPlayer w k.person → IsPlayer u k.person) → Agrees u
 objects_changed w u h objects r players =
     record {
       objects = objects;
@@ -254,7 +261,8 @@ objects_changed w u h objects r players =
         let old = h.links.links c k there in
         both_hold (is_connection c) _ (first_holds (is_connection c) _ old) (go (either (int_eq k.person (neg_ℤ (pos 3) -ℤ c)) _ (second_holds (is_connection c) _ old)) there)
       where
-        go : IsTrue (int_eq k.person (neg_ℤ (pos 3) -ℤ c)) ⊎ IsPlayer w k.person → at w.links c ≡ Some k → IsTrue (int_eq k.person (neg_ℤ (pos 3) -ℤ c) || on_object u k.person (λ x. x.header.is_player))
+        go : IsTrue (int_eq k.person (neg_ℤ (pos 3) -ℤ c)) ⊎ IsPlayer w k.person → at w.links c ≡ Some k
+            → IsTrue (int_eq k.person (neg_ℤ (pos 3) -ℤ c) || on_object u k.person (λ x. x.header.is_player))
         go (inl m) there = first_of (int_eq k.person (neg_ℤ (pos 3) -ℤ c)) _ m
         go (inr m) there = second_of (int_eq k.person (neg_ℤ (pos 3) -ℤ c)) _ (players c k there m)
 
@@ -296,7 +304,8 @@ task_put w i t h id waits stands holds apart =
           };
     }
   where
-    by_key : (P : ℤ → Task → Type 0) → P i t → ((j : ℤ) (s : Task) → at w.tasks j ≡ Some s → P j s) → (j : ℤ) (s : Task) → at (with w.tasks i t) j ≡ Some s → P j s
+    by_key : (P : ℤ → Task → Type 0) → P i t → ((j : ℤ) (s : Task) → at w.tasks j ≡ Some s → P j s) → (j : ℤ) (s : Task)
+        → at (with w.tasks i t) j ≡ Some s → P j s
     by_key P here each j s e = go (same_or_not j i)
       where
         go : (j ≡ i) ⊎ (int_eq j i ≡ false) → P j s
@@ -496,16 +505,19 @@ person_listed : (es : Numbered Link) (c : ℤ) (k : Link) → at es c ≡ Some k
 person_listed [] c k h = cc
 person_listed (e ∷ es) c k h = go (person_listed es c k) (int_eq c e.0) h
   where
-    go : (at es c ≡ Some k → IsTrue (lists (map (λ e. (e.1).person) es) k.person)) → (b : Bool) → cond b (Some e.1) (at es c) ≡ Some k → IsTrue (lists (map (λ e. (e.1).person) (e ∷ es)) k.person)
+    go : (at es c ≡ Some k → IsTrue (lists (map (λ e. (e.1).person) es) k.person)) → (b : Bool) → cond b (Some e.1) (at es c) ≡ Some k
+        → IsTrue (lists (map (λ e. (e.1).person) (e ∷ es)) k.person)
     go later true s = first_of (int_eq k.person (e.1).person) _ (subst (λ z. IsTrue (int_eq z (e.1).person)) (ap (λ (m : Link). m.person) (some_same s)) (integer_itself (e.1).person))
     go later false s = second_of (int_eq k.person (e.1).person) _ (later s)
 
 -- a person that is listed is that of a link
-pub person_found : (es : Numbered Link) (o : ℤ) → IsTrue (is_numbered es) → IsTrue (lists (map (λ e. (e.1).person) es) o) → (c : ℤ) × ((k : Link) × (at es c ≡ Some k) × (k.person ≡ o))
+pub person_found : (es : Numbered Link) (o : ℤ) → IsTrue (is_numbered es) → IsTrue (lists (map (λ e. (e.1).person) es) o)
+    → (c : ℤ) × ((k : Link) × (at es c ≡ Some k) × (k.person ≡ o))
 person_found [] o h l = cc
 person_found (e ∷ es) o h l = go (person_found es o (second_holds _ _ h)) (either (int_eq o (e.1).person) _ l)
   where
-    go : (IsTrue (lists (map (λ e. (e.1).person) es) o) → (c : ℤ) × ((k : Link) × (at es c ≡ Some k) × (k.person ≡ o))) → IsTrue (int_eq o (e.1).person) ⊎ IsTrue (lists (map (λ e. (e.1).person) es) o)
+    go : (IsTrue (lists (map (λ e. (e.1).person) es) o) → (c : ℤ) × ((k : Link) × (at es c ≡ Some k) × (k.person ≡ o)))
+        → IsTrue (int_eq o (e.1).person) ⊎ IsTrue (lists (map (λ e. (e.1).person) es) o)
         → (c : ℤ) × ((k : Link) × (at (e ∷ es) c ≡ Some k) × (k.person ≡ o))
     go later (inl s) = (e.0, (e.1, ap (λ b. cond b (Some e.1) (at es e.0)) (integer_itself e.0), sym (same_integer o (e.1).person s)))
     go later (inr s) = let r = later s in (r.0, (r.1.0, behind r.0 r.1.0 r.1.1, r.1.2))
@@ -528,11 +540,13 @@ fewer_persons : (es : Numbered Link) (c o : ℤ) → lists (map (λ e. (e.1).per
 fewer_persons [] c o h = refl
 fewer_persons (e ∷ es) c o h = go (fewer_persons es c o (last_no (int_eq o (e.1).person) _ h)) (int_eq c e.0)
   where
-    go : lists (map (λ e. (e.1).person) (without es c)) o ≡ false → (b : Bool) → lists (map (λ e. (e.1).person) (cond (not b) (e ∷ without es c) (without es c))) o ≡ false
+    go : lists (map (λ e. (e.1).person) (without es c)) o ≡ false → (b : Bool)
+        → lists (map (λ e. (e.1).person) (cond (not b) (e ∷ without es c) (without es c))) o ≡ false
     go later true = later
     go later false = neither _ _ (first_no (int_eq o (e.1).person) _ h) later
 
-closed_person : (es : Numbered Link) (c o : ℤ) → IsTrue (once (map (λ e. (e.1).person) es)) → connection_among es o ≡ Some c → lists (map (λ e. (e.1).person) (without es c)) o ≡ false
+closed_person : (es : Numbered Link) (c o : ℤ) → IsTrue (once (map (λ e. (e.1).person) es)) → connection_among es o ≡ Some c
+    → lists (map (λ e. (e.1).person) (without es c)) o ≡ false
 unfolding once
 closed_person [] c o h k = refl
 closed_person (e ∷ es) c o h k = go (closed_person es c o (second_holds _ _ h)) (same_or_not (e.1).person o) k
@@ -542,7 +556,8 @@ closed_person (e ∷ es) c o h k = go (closed_person es c o (second_holds _ _ h)
     denied false m = refl
 
     go : (connection_among es o ≡ Some c → lists (map (λ e. (e.1).person) (without es c)) o ≡ false) → ((e.1).person ≡ o) ⊎ (int_eq (e.1).person o ≡ false)
-        → cond (int_eq (e.1).person o) (Some e.0) (connection_among es o) ≡ Some c → lists (map (λ e. (e.1).person) (cond (not (int_eq c e.0)) (e ∷ without es c) (without es c))) o ≡ false
+        → cond (int_eq (e.1).person o) (Some e.0) (connection_among es o) ≡ Some c
+        → lists (map (λ e. (e.1).person) (cond (not (int_eq c e.0)) (e ∷ without es c) (without es c))) o ≡ false
     go later (inl s) m =
         let hit : int_eq (e.1).person o ≡ true = subst (λ z. int_eq (e.1).person z ≡ true) s (integer_itself (e.1).person) in
         let here : e.0 ≡ c = some_same (sym (ap (λ b. cond b (Some e.0) (connection_among es o)) hit) ∙ m) in
@@ -550,7 +565,8 @@ closed_person (e ∷ es) c o h k = go (closed_person es c o (second_holds _ _ h)
         ∙ fewer_persons es c o (subst (λ z. lists (map (λ e. (e.1).person) es) z ≡ false) s (denied _ (first_holds _ _ h)))
     go later (inr s) m = by (int_eq c e.0) (later (sym (ap (λ b. cond b (Some e.0) (connection_among es o)) s) ∙ m))
       where
-        by : (b : Bool) → lists (map (λ e. (e.1).person) (without es c)) o ≡ false → lists (map (λ e. (e.1).person) (cond (not b) (e ∷ without es c) (without es c))) o ≡ false
+        by : (b : Bool) → lists (map (λ e. (e.1).person) (without es c)) o ≡ false
+            → lists (map (λ e. (e.1).person) (cond (not b) (e ∷ without es c) (without es c))) o ≡ false
         by true r = r
         by false r = neither _ _ (turned (e.1).person o s) r
 
@@ -564,7 +580,8 @@ pub connection_open : (es : Numbered Link) (c o : ℤ) → connection_among es o
 connection_open [] c o h = cc
 connection_open (e ∷ es) c o h = go (connection_open es c o) (int_eq (e.1).person o) h
   where
-    go : (connection_among es o ≡ Some c → IsTrue (is_some (at es c))) → (b : Bool) → cond b (Some e.0) (connection_among es o) ≡ Some c → IsTrue (is_some (cond (int_eq c e.0) (Some e.1) (at es c)))
+    go : (connection_among es o ≡ Some c → IsTrue (is_some (at es c))) → (b : Bool) → cond b (Some e.0) (connection_among es o) ≡ Some c
+        → IsTrue (is_some (cond (int_eq c e.0) (Some e.1) (at es c)))
     go later true s = ap (λ b. is_some (cond b (Some e.1) (at es c))) (subst (λ z. int_eq z e.0 ≡ true) (some_same s) (integer_itself e.0))
     go later false s = by (int_eq c e.0) (later s)
       where
@@ -578,7 +595,8 @@ unfolding links_read
 none_reads [] c h = refl
 none_reads (e ∷ es) c h = go (none_reads es c) (e.1).waiting h
   where
-    go : (reader_among es c ≡ None → lists (links_read es) c ≡ false) → (why : Waiting) → cond (reads_on c why) (Some e.0) (reader_among es c) ≡ None → lists (read_by why ++ links_read es) c ≡ false
+    go : (reader_among es c ≡ None → lists (links_read es) c ≡ false) → (why : Waiting) → cond (reads_on c why) (Some e.0) (reader_among es c) ≡ None
+        → lists (read_by why ++ links_read es) c ≡ false
     go later (forked m) s = later s
     go later (timed m v) s = later s
     go later idle s = later s

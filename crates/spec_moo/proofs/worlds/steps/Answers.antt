@@ -1,5 +1,5 @@
 -- Steps and lists of steps.
-use Rattle.spec_moo.proofs.StepWorlds.{steps_keep, lists_keep, stays_well_formed, play_goes_on}
+use Rattle.spec_moo.proofs.StepWorlds.{steps_keep, lists_keep, next_follows, stays_well_formed, play_goes_on}
 use Rattle.spec_moo.proofs.worlds.steps.Goals as goal
 
 pub returns-clause-steps : goal.returns-clause-steps
@@ -13,3 +13,6 @@ returns-clause-sum c = play_goes_on
 
 pub returns-clause-whole : goal.returns-clause-whole
 returns-clause-whole c = stays_well_formed
+
+pub returns-clause-next : goal.returns-clause-next
+returns-clause-next c = next_follows

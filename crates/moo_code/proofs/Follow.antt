@@ -15,7 +15,7 @@ use Rattle.spec_moo.specs.Pending.{Focus, begin, hand, aim, operate, next, leave
 use Rattle.spec_moo.specs.Tables.{effect, step_ticks}
 use Rattle.spec_moo.specs.Effect.{Effect}
 use Rattle.spec_moo.specs.Turn.{ticks_of, piece, value_among, completed, on_tree, on_part, at_point, reach, receiving, turn_on, turn}
-use Rattle.spec_moo.specs.Segment.{stopped, runs, stops, led, paying, after}
+use Rattle.spec_moo.specs.Segment.{advance, stopped, runs, stops, led, paying, after}
 use Rattle.moo_code.specs.Instruction.{Operation, Unraised, open_list, perform, arity, unraised, placed}
 use Rattle.moo_code.specs.Layout.{Around, within, Reception, straight, received, Link, Layout, stop, own, inner, gap, front, reception_size, size, rest, reached, entry, opens, layout, code_of}
 use Rattle.moo_code.specs.Performing.{onto, performed}
@@ -45,6 +45,15 @@ rest_next (suc n) stop = refl
 rest_next (suc n) (own op ns l) = rest_next (suc n) l
 rest_next (suc n) (inner k a l) = rest_next n l
 rest_next (suc n) (gap l) = rest_next n l
+
+-- what follows a turn follows from before it
+pub before : (player : ℤ) (t : ℕ) (s : Scene) (p : Pending) (x : Step) → Follows player (advance t s p) x → Follows player (runs t s p) x
+unfolding after
+before player t s p x h = later player (runs t s p) (advance t s p) x (1, refl) h
+
+free_turn : (f : Verb) (t : ℕ) (s : Scene) (vars : Named Datum) (g : Focus) (ps : List Piece) (x : Step) → ticks_of g ≡ 0 → Follows f.player (led t (turn_on s (pending f vars g ps) g ps)) x → Follows f.player (advance t s (pending f vars g ps)) x
+unfolding turn
+free_turn f t s vars g ps x free h = subst (λ k. Follows f.player (paying k t s (pending f vars g ps)) x) (sym free) h
 
 -- a step is paid for before it is taken
 paid : (player : ℤ) (k t : ℕ) (s : Scene) (p seen_by : Pending) → trace p ≡ trace seen_by → (go : ℕ → Scene → Step) → ((left : ℕ) (u : Scene) → Follows player (led left (turn u p)) (go left u)) → Follows player (paying k t s p) (charged seen_by k t s go)
@@ -200,7 +209,7 @@ module _ (fit : AllFit) (f : Verb) (ks : List Outer) (waiting_are : AllWait f.ou
       first (gap l) z = absurd z
 
   steps : (c : Construct) (n : ℕ) (vs : List Datum) (ps : List Piece) (pc : ℕ) (st : List Datum) → Operates root c n vs ps pc st → (vars : Named Datum) (t : ℕ) (s : Scene)
-      → Follows f.player (runs t s (pending f vars (operate c n vs) ps)) (Machine vars s pc st t)
+      → Follows f.player (advance t s (pending f vars (operate c n vs) ps)) (Machine vars s pc st t)
   unfolding after turn turn_on
   steps c n vs ps pc st h vars t s =
       let op = h.operation in
@@ -219,12 +228,11 @@ module _ (fit : AllFit) (f : Verb) (ks : List Outer) (waiting_are : AllWait f.ou
       ∙ ap (λ x. charged (seen f.player k ks) x t s (λ left u. doing_it left u (performed u (seen f.player k ks) (operands ps) op vs))) (row s).1 in
       let traces : trace p ≡ trace (seen f.player k ks) = ap (λ z. traced f.player f.call ∷ z) (same_trace f.player f.outer ks waiting_are) in
       let handled = handled_at_operation fit f.whole c ps n pc op h.parts_led_to l h.linked h.there h.place in
-      subst (Follows f.player (runs t s p)) (sym e)
-      (later f.player (runs t s p) (paying (step_ticks c n vs) t s p) _ (1, refl)
+      subst (Follows f.player (advance t s p)) (sym e)
       (paid f.player (step_ticks c n vs) t s p (seen f.player k ks) traces (λ left u. doing_it left u (performed u (seen f.player k ks) (operands ps) op vs))
       (λ left u.
       subst (λ x. Follows f.player (led left (turn u p)) (doing_it left u x)) (sym (row u).0)
-      (calling.does fit f ks waiting_are outs ended ps h.counted pc handled l (place_for (suc pc) places) c h.linked (falls c n ps op h.parts_led_to l pc h.there h.place).0 vars (unraised op) (effect u p c n vs) (operate c n vs) ps left u (row u).2))))
+      (calling.does fit f ks waiting_are outs ended ps h.counted pc handled l (place_for (suc pc) places) c h.linked (falls c n ps op h.parts_led_to l pc h.there h.place).0 vars (unraised op) (effect u p c n vs) (operate c n vs) ps left u (row u).2)))
 
   -- ---- turns that take no instruction
 
@@ -250,9 +258,9 @@ module _ (fit : AllFit) (f : Verb) (ks : List Outer) (waiting_are : AllWait f.ou
 
   -- a construct begins, with an empty list or with nothing
   begin_on : (k : ℕ) → Goal k → (c : Construct) (ps : List Piece) (pc : ℕ) (st : List Datum) → Begins root c ps pc st → weight (body ps c) + burden ps < k → (vars : Named Datum) (t : ℕ) (s : Scene)
-      → Follows f.player (runs t s (pending f vars (begin c) ps)) (Machine vars s pc st t)
+      → Follows f.player (advance t s (pending f vars (begin c) ps)) (Machine vars s pc st t)
   unfolding turn_on
-  begin_on k go c ps pc st h small vars t s = one_turn f t s vars (begin c) ps _ refl (by (opens c) refl)
+  begin_on k go c ps pc st h small vars t s = free_turn f t s vars (begin c) ps _ refl (by (opens c) refl)
     where
       opening : (ps : List Piece) → Linked c ps root → opens c ≡ true → suc pc ≡ start ps → slice_get (code_of f.whole) pc ≡ Some open_list
       opening [] l o at = no_root (sym (ap opens l) ∙ o)
@@ -287,7 +295,7 @@ module _ (fit : AllFit) (f : Verb) (ks : List Outer) (waiting_are : AllWait f.ou
   handed c [] s p q ps w h = ap (λ z. reach s p q.construct q.part z ps) (sym (append-nil q.held))
   handed c (v ∷ vs) s p q ps w h = absurd (omega (arith, h))
 
-  end_of_program : (c : Construct) (vs : List Datum) (pc : ℕ) (st : List Datum) → Done root c vs [] pc st → (vars : Named Datum) (t : ℕ) (s : Scene) → Follows f.player (runs t s (pending f vars (completed c vs) [])) (Machine vars s pc st t)
+  end_of_program : (c : Construct) (vs : List Datum) (pc : ℕ) (st : List Datum) → Done root c vs [] pc st → (vars : Named Datum) (t : ℕ) (s : Scene) → Follows f.player (advance t s (pending f vars (completed c vs) [])) (Machine vars s pc st t)
   unfolding turn_on after
   end_of_program c vs pc st d vars t s =
       let whole = body [] root in
@@ -295,14 +303,14 @@ module _ (fit : AllFit) (f : Verb) (ks : List Outer) (waiting_are : AllWait f.ou
       let n : pc ≡ 0 + size whole = d.place ∙ ap (λ x. 0 + size (body [] x)) d.linked in
       let past : length (code_of f.whole) ≤ pc = omega (arith, n, code_size whole) in
       let e : Machine vars s pc st t ≡ out_of f.player t ks s (returned (integer (pos 0))) = ap (M.act f.player s (kept f vars pc st) ks t) (slice_get_past (code_of f.whole) pc past) in
-      subst (λ x. Follows f.player (runs t s (pending f vars x [])) (Machine vars s pc st t)) (sym last)
-      (subst (Follows f.player (runs t s (pending f vars next []))) (sym e)
-      (one_turn f t s vars next [] _ refl (one_turn f t s vars (leave (returned (integer (pos 0)))) [] _ refl (outs vars (leave (returned (integer (pos 0)))) [] (returned (integer (pos 0))) t s))))
+      subst (λ x. Follows f.player (advance t s (pending f vars x [])) (Machine vars s pc st t)) (sym last)
+      (subst (Follows f.player (advance t s (pending f vars next []))) (sym e)
+      (free_turn f t s vars next [] _ refl (one_turn f t s vars (leave (returned (integer (pos 0)))) [] _ refl (outs vars (leave (returned (integer (pos 0)))) [] (returned (integer (pos 0))) t s))))
 
   -- a value that a list receives
   received_back : (e : Expr) (v : Datum) (q : Piece) (ps : List Piece) (pc : ℕ) (st : List Datum) (d : Done root (of_expr e) (v ∷ []) (q ∷ ps) pc st) (w : Way) (n : ℕ) (u : Unraised)
       → (points.piece fit ps q (of_expr e) d.linked.0).link.reception ≡ received w n u → Receives (around ps) q.construct (received w n u) q.part (part_count (part_at q.construct q.part)) (of_expr e)
-      → (vars : Named Datum) (t : ℕ) (s : Scene) → Follows f.player (runs t s (pending f vars (hand v) (q ∷ ps))) (Machine vars s pc st t)
+      → (vars : Named Datum) (t : ℕ) (s : Scene) → Follows f.player (advance t s (pending f vars (hand v) (q ∷ ps))) (Machine vars s pc st t)
   unfolding turn_on
   received_back e v q ps pc st d w n u is h vars t s =
       let c = of_expr e in
@@ -315,7 +323,7 @@ module _ (fit : AllFit) (f : Verb) (ks : List Outer) (waiting_are : AllWait f.ou
       let all : List Datum → Step = λ x. with_operands 1 [] x (λ us z. with_operands n [] z (λ held below. M.receives f.player s k' ks t u end_ below (held_with w held (value_among us)))) in
       let m : Machine vars s pc st t ≡ go_on q.held (operands ps) =
       ap (M.act f.player s k' ks t) there ∙ ap all d.stack ∙ operands_taken n q.held (operands ps) go_on n_is in
-      one_turn f t s vars (hand v) (q ∷ ps) _ refl
+      free_turn f t s vars (hand v) (q ∷ ps) _ refl
       (subst (λ y. Follows f.player (led t (receiving s (pending f vars (hand v) (q ∷ ps)) q ps (held_with y q.held v))) (Machine vars s pc st t)) (sym h.0)
       (subst (Follows f.player (led t (receiving s (pending f vars (hand v) (q ∷ ps)) q ps (held_with w q.held v)))) (sym m) (got sized n_is (held_with w q.held v) refl)))
     where
@@ -331,7 +339,7 @@ module _ (fit : AllFit) (f : Verb) (ks : List Outer) (waiting_are : AllWait f.ou
 
   received_case : (c : Construct) (vs : List Datum) (q : Piece) (ps : List Piece) (pc : ℕ) (st : List Datum) (d : Done root c vs (q ∷ ps) pc st) (w : Way) (n : ℕ) (u : Unraised)
       → (points.piece fit ps q c d.linked.0).link.reception ≡ received w n u → Receives (around ps) q.construct (received w n u) q.part (part_count (part_at q.construct q.part)) c
-      → (vars : Named Datum) (t : ℕ) (s : Scene) → Follows f.player (runs t s (pending f vars (completed c vs) (q ∷ ps))) (Machine vars s pc st t)
+      → (vars : Named Datum) (t : ℕ) (s : Scene) → Follows f.player (advance t s (pending f vars (completed c vs) (q ∷ ps))) (Machine vars s pc st t)
   received_case (of_expr e) [] q ps pc st d w n u is h vars t s = absurd (omega (arith, d.count))
   received_case (of_expr e) (v ∷ []) q ps pc st d w n u is h vars t s = received_back e v q ps pc st d w n u is h vars t s
   received_case (of_expr e) (v ∷ y ∷ vs) q ps pc st d w n u is h vars t s = absurd (omega (arith, d.count))
@@ -341,19 +349,19 @@ module _ (fit : AllFit) (f : Verb) (ks : List Outer) (waiting_are : AllWait f.ou
   received_case (of_program x) vs q ps pc st d w n u is h vars t s = absurd h.3
 
   comes_back : (k : ℕ) → Goal k → (c : Construct) (vs : List Datum) (ps : List Piece) (pc : ℕ) (st : List Datum) → Done root c vs ps pc st → burden ps < suc k → (vars : Named Datum) (t : ℕ) (s : Scene)
-      → Follows f.player (runs t s (pending f vars (completed c vs) ps)) (Machine vars s pc st t)
+      → Follows f.player (advance t s (pending f vars (completed c vs) ps)) (Machine vars s pc st t)
   comes_back k go c vs [] pc st d small vars t s = end_of_program c vs pc st d vars t s
   comes_back k go c vs (q ∷ ps) pc st d small vars t s = by (points.piece fit ps q c d.linked.0).link.reception refl (points.piece fit ps q c d.linked.0).receives
     where
       by : (z : Reception) → (points.piece fit ps q c d.linked.0).link.reception ≡ z → Receives (around ps) q.construct z q.part (part_count (part_at q.construct q.part)) c
-          → Follows f.player (runs t s (pending f vars (completed c vs) (q ∷ ps))) (Machine vars s pc st t)
+          → Follows f.player (advance t s (pending f vars (completed c vs) (q ∷ ps))) (Machine vars s pc st t)
       by straight is h =
           let r = points.piece fit ps q c d.linked.0 in
           let none : reception_size r.link.reception ≡ 0 = ap reception_size is in
           let at : pc ≡ start (q ∷ ps) + size (body (q ∷ ps) c) + reception_size r.link.reception = omega (arith, d.place, none) in
           let plus : length q.held + outcome c ≡ length (q.held ++ vs) = omega (arith, d.count, length-append q.held vs) in
           let many : length (q.held ++ vs) ≡ after_count r.link.reception (length q.held) (outcome c) = sym plus ∙ ap (λ x. after_count x (length q.held) (outcome c)) (sym is) in
-          one_turn f t s vars (completed c vs) (q ∷ ps) _ (free_end c vs)
+          free_turn f t s vars (completed c vs) (q ∷ ps) _ (free_end c vs)
           (subst (λ x. Follows f.player (led t x) (Machine vars s pc st t)) (sym (handed c vs s (pending f vars (completed c vs) (q ∷ ps)) q ps h d.count))
           (go q.construct q.part (q.held ++ vs) ps pc st (back q ps c d.linked.0 d.linked.1 d.counted (q.held ++ vs) pc st many at (d.stack ∙ sym (onto_append q.held vs (operands ps)))) (omega (arith, small)) vars (completed c vs) (q ∷ ps) t s))
       by (received w n u) is h = received_case c vs q ps pc st d w n u is h vars t s
@@ -369,7 +377,7 @@ module _ (fit : AllFit) (f : Verb) (ks : List Outer) (waiting_are : AllWait f.ou
       at_layout : Goal k → (l : Layout) (P : List Part) → rest n (body ps c) ≡ l → drop n (parts c) ≡ P → Fits (around ps) c n (length vs) P l → weight l + burden ps < suc k → Follows f.player (led t (reach s (pending f vars g qs) c n vs ps)) (Machine vars s pc st t)
       at_layout go (own op ns l) P e d m less =
           subst (λ b. Follows f.player (led t (at_point s (pending f vars g qs) c n vs ps b)) (Machine vars s pc st t)) (sym m.0)
-          (steps c n vs ps pc st (record { linked = h.linked; counted = h.counted; begun = h.begun; operation = op; parts_led_to = ns; after = l; there = e; count = m.1; place = h.place; stack = h.stack }) vars t s)
+          (before f.player t s _ _ (steps c n vs ps pc st (record { linked = h.linked; counted = h.counted; begun = h.begun; operation = op; parts_led_to = ns; after = l; there = e; count = m.1; place = h.place; stack = h.stack }) vars t s))
       at_layout go (inner j a l) [] e d m less = absurd m
       at_layout go (inner j a l) (p ∷ P) e d m less =
           let there : nth (parts c) n ≡ Some p = nth_drop n (parts c) ∙ ap (λ x. nth x 0) d in
@@ -382,24 +390,24 @@ module _ (fit : AllFit) (f : Verb) (ks : List Outer) (waiting_are : AllWait f.ou
           let rest_is : weight (rest (suc n) (body ps c)) ≡ weight l = ap weight after_it in
           let size_is : weight (body (q ∷ ps) x) ≡ weight a = ap (λ z. weight (layout (within (around ps) c (suc n) z) x)) (ap part_count there) ∙ ap weight (sym same) in
           subst (λ o. Follows f.player (led t (on_tree s (pending f vars g qs) c n vs ps o)) (Machine vars s pc st t)) (sym tree)
-          (begin_on k go x (q ∷ ps) pc st (part_begins c n vs ps pc st h p x j a l there tree m.1 e) (omega (arith, size_is, rest_is, less)) vars t s))))
+          (before f.player t s _ _ (begin_on k go x (q ∷ ps) pc st (part_begins c n vs ps pc st h p x j a l there tree m.1 e) (omega (arith, size_is, rest_is, less)) vars t s)))))
       at_layout go stop (p ∷ P) e d m less = absurd m
       at_layout go stop [] e d m less =
           let there : nth (parts c) n ≡ None = nth_drop n (parts c) ∙ ap (λ x. nth x 0) d in
           subst (λ b. Follows f.player (led t (at_point s (pending f vars g qs) c n vs ps b)) (Machine vars s pc st t)) (sym m.0)
           (subst (λ o. Follows f.player (led t (on_part s (pending f vars g qs) c n vs ps o)) (Machine vars s pc st t)) (sym there)
-          (comes_back k go c vs ps pc st (whole_done c n vs ps pc st h e m.1) (omega (arith, less)) vars t s))
+          (before f.player t s _ _ (comes_back k go c vs ps pc st (whole_done c n vs ps pc st h e m.1) (omega (arith, less)) vars t s)))
       at_layout go (gap l) [] e d m less = absurd m
       at_layout go (gap l) (p ∷ P) e d m less = absurd m
 
   one : (n : ℕ) → n < suc n
   one n = omega arith
 
-  pub follows_here : (g : Focus) (ps : List Piece) (vars : Named Datum) (s : Scene) (pc t : ℕ) (st : List Datum) → Means root g ps pc st → Follows f.player (runs t s (pending f vars g ps)) (Machine vars s pc st t)
+  pub follows_here : (g : Focus) (ps : List Piece) (vars : Named Datum) (s : Scene) (pc t : ℕ) (st : List Datum) → Means root g ps pc st → Follows f.player (advance t s (pending f vars g ps)) (Machine vars s pc st t)
   follows_here (begin c) ps vars s pc t st m = begin_on (suc (weight (body ps c) + burden ps)) (reach_on _) c ps pc st m (one _) vars t s
   follows_here (hand v) ps vars s pc t st m = comes_back (burden ps) (reach_on (burden ps)) (of_expr m.0) (v ∷ []) ps pc st m.1 (one _) vars t s
   follows_here (aim vs) ps vars s pc t st m = comes_back (burden ps) (reach_on (burden ps)) (of_target m.0) vs ps pc st m.1 (one _) vars t s
   follows_here next ps vars s pc t st m =
-      subst (λ x. Follows f.player (runs t s (pending f vars x ps)) (Machine vars s pc st t)) m.1 (comes_back (burden ps) (reach_on (burden ps)) m.0 [] ps pc st m.2 (one _) vars t s)
+      subst (λ x. Follows f.player (advance t s (pending f vars x ps)) (Machine vars s pc st t)) m.1 (comes_back (burden ps) (reach_on (burden ps)) m.0 [] ps pc st m.2 (one _) vars t s)
   follows_here (operate c n vs) ps vars s pc t st m = steps c n vs ps pc st m vars t s
   follows_here (leave l) ps vars s pc t st m = absurd m

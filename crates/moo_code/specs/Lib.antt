@@ -6,3 +6,4 @@ pub mod Machine
 pub mod Stands
 pub mod Runs
 pub mod Paths
+pub mod Opened

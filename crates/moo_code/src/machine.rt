@@ -1,6 +1,6 @@
 //! Laws of the machine.
 ghost use Rattle.moo_code.specs.Paths.{CallsWait, IsFound, IsPlaced};
-ghost use Rattle.moo_code.specs.Runs.{RunsStopAsSegments, TasksGoOn, VerbsBegin};
+ghost use Rattle.moo_code.specs.Runs.{RunsEnd, RunsStopAsSegments, TasksGoOn, VerbsBegin};
 ghost use Rattle.moo_code.specs.Stands.{StepsFollow};
 
 /// One instruction does what some turns of the definition do, for every program: the operands, places and handlers of a
@@ -9,12 +9,13 @@ pub fn steps()
     ensures { StepsFollow }
 {}
 
-/// A verb begins so; a task that waited goes on so; and where a run stops, the segment of the definition stops, with the
-/// same scene and ticks.
+/// A verb begins so; a task that waited goes on so; every run ends; and where it stops, the segment of the definition
+/// stops, with the same scene and ticks.
 pub fn runs()
     ensures begins { VerbsBegin }
     ensures goes_on { TasksGoOn }
     ensures stops { RunsStopAsSegments }
+    ensures ends { RunsEnd }
 {}
 
 /// The instruction of a construct is found at the path of its pieces, the path leads back to the place of a call, and a

@@ -1,8 +1,6 @@
 //! One run of the program.
 use crate::files::read_script;
-use moo_server::command_line::{
-    as_texts, cannot_read, read_words, refuse_options, refuse_words,
-};
+use moo_server::command_line::{as_texts, cannot_read, read_words, refuse_options, refuse_words};
 use moo_server::fixture::fixture;
 use moo_server::given::Options;
 use moo_server::play::{play_script, read_workers, refuse, stopped};

@@ -1,6 +1,6 @@
 use super::fault::FaultKind;
 use super::parse::parse;
-use moo_tree::expression::{Expression, ExpressionNode, Target};
+use moo_tree::expression::{Expression, ExpressionNode, TargetNode};
 use moo_tree::statement::StatementNode;
 use moo_value::value::Shown;
 use std::alloc::{AllocError, Global};
@@ -31,15 +31,18 @@ fn show(alloc: Global, out: &mut String, expression: &Expression) -> Result<(), 
             show(alloc, out, name)?;
             out.push_str("]")?;
         }
-        ExpressionNode::Assignment(Target::Property(object, name), value) => {
+        ExpressionNode::Assignment(target, value) => {
             out.push_str("{")?;
-            show(alloc, out, object)?;
-            out.push_str(" ")?;
-            show(alloc, out, name)?;
+            if let TargetNode::Property(object, name) = &target.node {
+                show(alloc, out, object)?;
+                out.push_str(" ")?;
+                show(alloc, out, name)?;
+            }
             out.push_str(" = ")?;
             show(alloc, out, value)?;
             out.push_str("}")?;
         }
+        _ => out.push_str("other")?,
     }
     Ok(())
 }
@@ -59,6 +62,7 @@ fn answer_of(alloc: Global, text: &str) -> Result<String, AllocError> {
                 out.push_str("return ")?;
                 show(alloc, &mut out, expression)?;
             }
+            _ => out.push_str("other")?,
         }
         out.push_str(";")?;
     }

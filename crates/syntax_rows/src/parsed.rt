@@ -1,5 +1,5 @@
-use super::fault::FaultKind;
-use super::parse::parse;
+use moo_syntax::fault::FaultKind;
+use moo_syntax::parse::parse;
 use moo_tree::expression::{Expression, ExpressionNode, TargetNode};
 use moo_tree::statement::StatementNode;
 use moo_value::value::Shown;

@@ -1,5 +1,5 @@
-use super::token::{ErrorName, Keyword, Token};
-use super::tokens::tokens_of;
+use moo_token::token::{ErrorName, Keyword, Token};
+use moo_token::tokens::tokens_of;
 use std::alloc::{AllocError, Global};
 use std::test::Fail;
 

@@ -139,6 +139,11 @@ quiet "its crate's name"
 call "$work/alone/play" a ' b'
 runs "a link of another name" moo_play
 quiet "a link of another name"
+printf '#!/bin/sh\nCALLED_AS=$0 exec "%s/moo-play" "$@"\n' "$root" >"$work/alone/moo-server"
+chmod +x "$work/alone/moo-server"
+call "$work/alone/moo-server" a ' b'
+runs "a script that hands on" moo_daemon
+quiet "a script that hands on"
 cp "$root/moo-play" "$root/moo-none"
 call "$root/moo-none"
 [ "$status" -eq 2 ] || fail "no such program: status $status"

@@ -7,7 +7,8 @@ use Rattle.moo_compiler.proofs.Crossing.{program_send, program_sync}
 use Rattle.footprint.specs.contracts.change.Change as change
 use Rattle.footprint.specs.contracts.header.Header as header
 use Rattle.footprint.specs.contracts.link.Link as link
-use Rattle.footprint.specs.contracts.object.Lists as lists
+use Rattle.footprint.specs.contracts.lists.Names as names
+use Rattle.footprint.specs.contracts.lists.Objects as objects
 use Rattle.footprint.specs.contracts.object.Object as object
 use Rattle.footprint.specs.contracts.question.Answer as answer
 use Rattle.footprint.specs.contracts.question.Question as question
@@ -52,26 +53,32 @@ verb_sync = search (sendable, crosses, text_sync, program_sync) depth 60
 pub verbs_send : IsSend verbs.the_row
 verbs_send = search (sendable, crosses, verb_send, verb_sync) depth 60
 
-lists_send : IsSend lists.the_row
-lists_send = search (sendable, crosses, text_send) depth 60
+names_send : IsSend names.the_row
+names_send = search (sendable, crosses, text_send, text_sync) depth 60
+
+objects_send : IsSend objects.the_row
+objects_send = search (sendable, crosses) depth 60
 
 pub verbs_sync : IsSync verbs.the_row
 verbs_sync = search (sendable, crosses, verb_send, verb_sync) depth 60
 
-lists_sync : IsSync lists.the_row
-lists_sync = search (sendable, crosses, text_sync) depth 60
+names_sync : IsSync names.the_row
+names_sync = search (sendable, crosses, text_send, text_sync) depth 60
+
+objects_sync : IsSync objects.the_row
+objects_sync = search (sendable, crosses) depth 60
 
 pub object_send : IsSend object.the_row
-object_send = search (sendable, crosses, header_send, slots_send, verbs_send, lists_send, lists_sync) depth 60
+object_send = search (sendable, crosses, header_send, slots_send, verbs_send, names_send, objects_send) depth 60
 
 pub object_sync : IsSync object.the_row
-object_sync = search (sendable, crosses, header_sync, slots_sync, verbs_sync, lists_send, lists_sync) depth 60
+object_sync = search (sendable, crosses, header_sync, slots_sync, verbs_sync, names_sync, objects_sync) depth 60
 
 question_send : IsSend question.the_row
 question_send = search (sendable, crosses, text_send) depth 60
 
 answer_send : IsSend answer.the_row
-answer_send = search (sendable, crosses, header_send, slot_send, verbs_send, link_send) depth 60
+answer_send = search (sendable, crosses, header_send, names_send, objects_send, slot_send, verbs_send, link_send) depth 60
 
 read_send : IsSend read.the_row
 read_send = declared_send read.the_type (question_send, (answer_send, tt))

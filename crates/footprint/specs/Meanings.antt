@@ -1,27 +1,33 @@
 -- What the records and the questions of this crate mean.
-use Rattle.std.specs.Prelude.{List, map}
-use Rattle.spec_world.specs.World.{ObjectPart, no_object, any_object, this_object, PrepositionPart, no_preposition, any_preposition, preposition_set}
 use Rattle.spec_world.specs.Questions as meant
-use Rattle.spec_world.specs.Questions.{about_header, about_slot, about_verbs, about_link, about_ending, the_header, the_slot, the_verbs, the_link, the_ending, new_value, new_next}
+use Rattle.spec_world.specs.Questions.{about_header, about_children, about_contents, about_defines, about_slot, about_verbs, about_link, about_greatest, about_ending, the_header, the_children, the_contents, the_defines, the_slot, the_verbs, the_link, the_greatest, the_ending, new_value, new_next}
 use Rattle.footprint.specs.declared.question.Question.{Question}
-use Rattle.footprint.specs.declared.question.Question.TheVariants.{Header as HeaderOf, Slot as SlotOf, Verbs as VerbsOf, Link as LinkOf, Ending as EndingOf}
+use Rattle.footprint.specs.declared.question.Question.TheVariants.{Header as HeaderOf, Children as ChildrenOf, Contents as ContentsOf, Defines as DefinesOf, Slot as SlotOf, Verbs as VerbsOf, Link as LinkOf, Greatest as GreatestOf, Ending as EndingOf}
 use Rattle.footprint.specs.declared.question.Answer.{Answer}
-use Rattle.footprint.specs.declared.question.Answer.TheVariants.{Header, Slot, Verbs, Link, Ending}
+use Rattle.footprint.specs.declared.question.Answer.TheVariants.{Header, Children, Contents, Defines, Slot, Verbs, Link, Greatest, Ending}
 use Rattle.footprint.specs.declared.change.Change.{Change}
 use Rattle.footprint.specs.declared.change.Change.TheVariants.{Value, Next}
 
 abbrev pub question_of : Question → meant.Question
 question_of (HeaderOf o) = about_header o
+question_of (ChildrenOf o) = about_children o
+question_of (ContentsOf o) = about_contents o
+question_of (DefinesOf o) = about_defines o
 question_of (SlotOf o p) = about_slot o p
 question_of (VerbsOf o) = about_verbs o
 question_of (LinkOf c) = about_link c
+question_of GreatestOf = about_greatest
 question_of EndingOf = about_ending
 
 abbrev pub answer_of : Answer → meant.Answer
 answer_of (Header h) = the_header h
+answer_of (Children os) = the_children os
+answer_of (Contents os) = the_contents os
+answer_of (Defines ts) = the_defines ts
 answer_of (Slot s) = the_slot s
 answer_of (Verbs vs) = the_verbs vs
 answer_of (Link k) = the_link k
+answer_of (Greatest o) = the_greatest o
 answer_of (Ending b) = the_ending b
 
 abbrev pub change_of : Change → meant.Change

@@ -2,7 +2,7 @@
 use Rattle.std.specs.Prelude.{◌≡◌, refl}
 use Rattle.std.specs.Coded.{Coded, code_by, coded×}
 use Rattle.spec_world.specs.Questions as meant
-use Rattle.spec_world.specs.Questions.{about_header, about_slot, about_verbs, about_link, about_ending, the_header, the_slot, the_verbs, the_link, the_ending, new_value, new_next}
+use Rattle.spec_world.specs.Questions.{about_header, about_children, about_contents, about_defines, about_slot, about_verbs, about_link, about_greatest, about_ending, the_header, the_children, the_contents, the_defines, the_slot, the_verbs, the_link, the_greatest, the_ending, new_value, new_next}
 use Rattle.footprint.specs.Meanings.{question_of, answer_of, change_of}
 use Rattle.footprint.specs.contracts.change.Change as change
 use Rattle.footprint.specs.contracts.question.Answer as answer
@@ -10,24 +10,32 @@ use Rattle.footprint.specs.contracts.question.Question as question
 use Rattle.footprint.specs.declared.change.Change.{Change}
 use Rattle.footprint.specs.declared.change.Change.TheVariants.{Value, Next}
 use Rattle.footprint.specs.declared.question.Answer.{Answer}
-use Rattle.footprint.specs.declared.question.Answer.TheVariants.{Header, Slot, Verbs, Link, Ending}
+use Rattle.footprint.specs.declared.question.Answer.TheVariants.{Header, Children, Contents, Defines, Slot, Verbs, Link, Greatest, Ending}
 use Rattle.footprint.specs.declared.question.Question.{Question}
-use Rattle.footprint.specs.declared.question.Question.TheVariants.{Header as HeaderOf, Slot as SlotOf, Verbs as VerbsOf, Link as LinkOf, Ending as EndingOf}
+use Rattle.footprint.specs.declared.question.Question.TheVariants.{Header as HeaderOf, Children as ChildrenOf, Contents as ContentsOf, Defines as DefinesOf, Slot as SlotOf, Verbs as VerbsOf, Link as LinkOf, Greatest as GreatestOf, Ending as EndingOf}
 
 -- ---- questions
 
 abbrev pub from_question : meant.Question → Question
 from_question (about_header o) = HeaderOf o
+from_question (about_children o) = ChildrenOf o
+from_question (about_contents o) = ContentsOf o
+from_question (about_defines o) = DefinesOf o
 from_question (about_slot o p) = SlotOf o p
 from_question (about_verbs o) = VerbsOf o
 from_question (about_link c) = LinkOf c
+from_question about_greatest = GreatestOf
 from_question about_ending = EndingOf
 
 pub question_back : (q : meant.Question) → question_of (from_question q) ≡ q
 question_back (about_header o) = refl
+question_back (about_children o) = refl
+question_back (about_contents o) = refl
+question_back (about_defines o) = refl
 question_back (about_slot o p) = refl
 question_back (about_verbs o) = refl
 question_back (about_link c) = refl
+question_back about_greatest = refl
 question_back about_ending = refl
 
 abbrev pub question_code : Coded meant.Question
@@ -37,16 +45,24 @@ question_code = code_by Question question.the_row.coded from_question question_o
 
 abbrev pub from_answer : meant.Answer → Answer
 from_answer (the_header h) = Header h
+from_answer (the_children os) = Children os
+from_answer (the_contents os) = Contents os
+from_answer (the_defines ts) = Defines ts
 from_answer (the_slot s) = Slot s
 from_answer (the_verbs vs) = Verbs vs
 from_answer (the_link k) = Link k
+from_answer (the_greatest o) = Greatest o
 from_answer (the_ending b) = Ending b
 
 pub answer_back : (a : meant.Answer) → answer_of (from_answer a) ≡ a
 answer_back (the_header h) = refl
+answer_back (the_children os) = refl
+answer_back (the_contents os) = refl
+answer_back (the_defines ts) = refl
 answer_back (the_slot s) = refl
 answer_back (the_verbs vs) = refl
 answer_back (the_link k) = refl
+answer_back (the_greatest o) = refl
 answer_back (the_ending b) = refl
 
 abbrev pub answer_code : Coded meant.Answer

@@ -8,6 +8,7 @@
 pub mod change;
 pub mod header;
 pub mod link;
+pub mod lists;
 pub mod object;
 pub mod question;
 pub mod reads;

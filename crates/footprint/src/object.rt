@@ -4,6 +4,7 @@ ghost use Rattle.spec_value.specs.Datum.{fold_case};
 ghost use Rattle.spec_value.specs.Table.{named, with_name};
 
 use crate::header::Header;
+use crate::lists::{Names, Objects};
 use crate::slot::Slot;
 use crate::slots::Slots;
 use crate::verb::Verbs;
@@ -11,13 +12,14 @@ use moo_value::text::Text;
 use moo_value::value::Value;
 use std::alloc::{AllocError, Global};
 use std::marker::Model;
-use std::sync::Arc;
 
 /// An object with all that it has. Its parts are shared with the objects that were made from it.
 #[derive(Drop)]
 pub struct Object {
     header: Header,
-    lists: Arc<Lists>,
+    children: Objects,
+    contents: Objects,
+    defines: Names,
     slots: Slots,
     verbs: Verbs,
 }
@@ -31,7 +33,6 @@ pub struct Lists {
 }
 
 impl Model for Object {
-    ghost use Rattle.std.specs.Arc.{arc_value};
     ghost use Rattle.spec_world.specs.World.{Object as Meant};
     ghost use Rattle.spec_world.specs.WorldCode.{object_code};
 
@@ -41,9 +42,9 @@ impl Model for Object {
 
     ghost view = { λ a. record {
       header = a.header;
-      children = (arc_value a.lists).children.items;
-      contents = (arc_value a.lists).contents.items;
-      defines = (arc_value a.lists).defines.items;
+      children = a.children;
+      contents = a.contents;
+      defines = a.defines;
       slots = a.slots;
       verbs = a.verbs;
     } };
@@ -69,10 +70,16 @@ impl Object {
           verbs = verbs;
         }) }
     {
-        let lists = Arc::new(alloc, lists)?;
+        let Lists {
+            children,
+            contents,
+            defines,
+        } = lists;
         Ok(Object {
             header,
-            lists,
+            children: Objects::new(alloc, children)?,
+            contents: Objects::new(alloc, contents)?,
+            defines: Names::new(alloc, defines)?,
             slots,
             verbs,
         })
@@ -86,24 +93,24 @@ impl Object {
     }
 
     /// The children, in their order.
-    pub fn children(&self) -> &[i32]
+    pub fn children(&self) -> &Objects
         ensures { result.now ≡ self.now.children }
     {
-        self.lists.children.as_slice()
+        &self.children
     }
 
     /// The contents, in their order.
-    pub fn contents(&self) -> &[i32]
+    pub fn contents(&self) -> &Objects
         ensures { result.now ≡ self.now.contents }
     {
-        self.lists.contents.as_slice()
+        &self.contents
     }
 
     /// The names of the properties that it defines, in the order of definition.
-    pub fn defines(&self) -> &[Text]
+    pub fn defines(&self) -> &Names
         ensures { result.now ≡ self.now.defines }
     {
-        self.lists.defines.as_slice()
+        &self.defines
     }
 
     /// The slots.
@@ -136,7 +143,9 @@ impl Object {
         };
         Ok(Some(Object {
             header: self.header.clone()?,
-            lists: self.lists.clone()?,
+            children: self.children.clone()?,
+            contents: self.contents.clone()?,
+            defines: self.defines.clone()?,
             slots,
             verbs: self.verbs.clone()?,
         }))

@@ -3,6 +3,7 @@ ghost use Rattle.std.specs.Prelude.{◌≡◌, IfOk};
 
 use crate::header::Header;
 use crate::link::Link;
+use crate::lists::{Names, Objects};
 use crate::slot::Slot;
 use crate::verb::Verbs;
 use moo_value::text::Text;
@@ -13,12 +14,20 @@ use std::alloc::AllocError;
 pub enum Question {
     /// An object's header.
     Header(i32),
+    /// An object's children.
+    Children(i32),
+    /// An object's contents.
+    Contents(i32),
+    /// The names of the properties that an object defines.
+    Defines(i32),
     /// A property's slot on an object, by the property's name; case is ignored.
     Slot(i32, Text),
     /// An object's own verbs.
     Verbs(i32),
     /// The link of a number.
     Link(i32),
+    /// The greatest number that an object has had, -1 where there was none.
+    Greatest,
     /// Whether the server is about to end.
     Ending,
 }
@@ -27,9 +36,13 @@ pub enum Question {
 #[derive(Drop)]
 pub enum Answer {
     Header(Option<Header>),
+    Children(Option<Objects>),
+    Contents(Option<Objects>),
+    Defines(Option<Names>),
     Slot(Option<Slot>),
     Verbs(Option<Verbs>),
     Link(Option<Link>),
+    Greatest(i32),
     Ending(bool),
 }
 
@@ -39,9 +52,13 @@ impl Clone for Question {
     fn clone(&self) -> Result<Question, AllocError> {
         match self {
             Question::Header(object) => Ok(Question::Header(*object)),
+            Question::Children(object) => Ok(Question::Children(*object)),
+            Question::Contents(object) => Ok(Question::Contents(*object)),
+            Question::Defines(object) => Ok(Question::Defines(*object)),
             Question::Slot(object, name) => Ok(Question::Slot(*object, name.clone()?)),
             Question::Verbs(object) => Ok(Question::Verbs(*object)),
             Question::Link(number) => Ok(Question::Link(*number)),
+            Question::Greatest => Ok(Question::Greatest),
             Question::Ending => Ok(Question::Ending),
         }
     }

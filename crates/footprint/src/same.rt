@@ -1,10 +1,11 @@
 //! Comparisons of records and answers. None takes memory.
 ghost use Rattle.std.specs.Prelude.{◌≡◌, ◌↔◌, IsTrue, option_map};
-ghost use Rattle.spec_world.specs.Questions.{the_header, the_slot, the_verbs, the_link, the_ending};
+ghost use Rattle.spec_world.specs.Questions.{the_header, the_children, the_contents, the_defines, the_slot, the_verbs, the_link, the_greatest, the_ending};
 ghost use Rattle.footprint.specs.Meanings.{answer_of};
 
 use crate::header::Header;
 use crate::link::Link;
+use crate::lists::{Names, Objects};
 use crate::object::Object;
 use crate::question::Answer;
 use crate::slot::Slot;
@@ -138,9 +139,27 @@ impl Object {
 fn same_lists(a: &Object, b: &Object) -> bool
     ensures { IsTrue result ↔ (a.now.children ≡ b.now.children) × (a.now.contents ≡ b.now.contents) × (a.now.defines ≡ b.now.defines) }
 {
-    same_numbers(a.children(), b.children())
-        && same_numbers(a.contents(), b.contents())
-        && same_names(a.defines(), b.defines())
+    a.children().same(b.children())
+        && a.contents().same(b.contents())
+        && a.defines().same(b.defines())
+}
+
+impl Objects {
+    /// Whether two lists of objects are the same.
+    pub fn same(&self, other: &Objects) -> bool
+        ensures { IsTrue result ↔ self.now ≡ other.now }
+    {
+        same_numbers(self.as_slice(), other.as_slice())
+    }
+}
+
+impl Names {
+    /// Whether two lists of names are the same, the case of letters counted.
+    pub fn same(&self, other: &Names) -> bool
+        ensures { IsTrue result ↔ self.now ≡ other.now }
+    {
+        same_names(self.as_slice(), other.as_slice())
+    }
 }
 
 fn same_numbers(xs: &[i32], ys: &[i32]) -> bool
@@ -201,6 +220,39 @@ impl Answer {
         }
     }
 
+    /// Whether the answer is these children, or that there is no such object.
+    pub fn is_children(&self, found: Option<&Objects>) -> bool
+        ensures { IsTrue result ↔ the_children (option_map (λ x. x.now) found.entry) ≡ answer_of self.now }
+    {
+        match (found, self) {
+            (Some(a), Answer::Children(Some(b))) => a.same(b),
+            (None, Answer::Children(None)) => true,
+            _ => false,
+        }
+    }
+
+    /// Whether the answer is these contents, or that there is no such object.
+    pub fn is_contents(&self, found: Option<&Objects>) -> bool
+        ensures { IsTrue result ↔ the_contents (option_map (λ x. x.now) found.entry) ≡ answer_of self.now }
+    {
+        match (found, self) {
+            (Some(a), Answer::Contents(Some(b))) => a.same(b),
+            (None, Answer::Contents(None)) => true,
+            _ => false,
+        }
+    }
+
+    /// Whether the answer is these names of properties, or that there is no such object.
+    pub fn is_defines(&self, found: Option<&Names>) -> bool
+        ensures { IsTrue result ↔ the_defines (option_map (λ x. x.now) found.entry) ≡ answer_of self.now }
+    {
+        match (found, self) {
+            (Some(a), Answer::Defines(Some(b))) => a.same(b),
+            (None, Answer::Defines(None)) => true,
+            _ => false,
+        }
+    }
+
     /// Whether the answer is this slot, or that there is none.
     pub fn is_slot(&self, found: Option<&Slot>) -> bool
         ensures { IsTrue result ↔ the_slot (option_map (λ x. x.now) found.entry) ≡ answer_of self.now }
@@ -234,6 +286,16 @@ impl Answer {
         }
     }
 
+    /// Whether the answer is this greatest number.
+    pub fn is_greatest(&self, greatest: i32) -> bool
+        ensures { IsTrue result ↔ the_greatest greatest ≡ answer_of self.now }
+    {
+        match self {
+            Answer::Greatest(other) => greatest == *other,
+            _ => false,
+        }
+    }
+
     /// Whether the answer is this ending flag.
     pub fn is_ending(&self, ending: bool) -> bool
         ensures { IsTrue result ↔ the_ending ending ≡ answer_of self.now }
@@ -250,9 +312,13 @@ impl Answer {
     {
         match self {
             Answer::Header(found) => other.is_header(found.as_ref()),
+            Answer::Children(found) => other.is_children(found.as_ref()),
+            Answer::Contents(found) => other.is_contents(found.as_ref()),
+            Answer::Defines(found) => other.is_defines(found.as_ref()),
             Answer::Slot(found) => other.is_slot(found.as_ref()),
             Answer::Verbs(found) => other.is_verbs(found.as_ref()),
             Answer::Link(found) => other.is_link(found.as_ref()),
+            Answer::Greatest(greatest) => other.is_greatest(*greatest),
             Answer::Ending(ending) => other.is_ending(*ending),
         }
     }

@@ -28,13 +28,6 @@ with_character t (c ∷ d ∷ u) i h e = absurd (omega arith)
 pub part_of_list : (xs : List Datum) (n m : ℕ) → first_items n (later_items m (of_list xs)) ≡ of_list (take n (drop m xs))
 part_of_list xs n m = ap (first_items n) (later_items-of_list m xs) ∙ first_items-of_list n (drop m xs)
 
-pub around_part : (xs ys : List Datum) (n m : ℕ) → joined (first_items n (of_list xs)) (joined (of_list ys) (later_items m (of_list xs))) ≡ of_list (take n xs ++ (ys ++ drop m xs))
-around_part xs ys n m =
-    ap (λ a. joined a (joined (of_list ys) (later_items m (of_list xs)))) (first_items-of_list n xs)
-    ∙ ap (λ b. joined (of_list (take n xs)) (joined (of_list ys) b)) (later_items-of_list m xs)
-    ∙ ap (joined (of_list (take n xs))) (sym (of_list-append ys (drop m xs)))
-    ∙ sym (of_list-append (take n xs) (ys ++ drop m xs))
-
 -- ---- what the calls answer, by the places that were found
 
 pub index_of_text : (t : List ℕ) (i : ℤ) (p : ℕ) → Some p ≡ place_in (length t) i → p < length t → gives (text (take 1 (drop p t))) ≡ text_index t (place_in (length t) i)
@@ -51,12 +44,6 @@ no_range_of_list xs a b e = rw (item_count-of_list xs, ← e) refl
 
 pub range_of_list : (xs : List Datum) (a b : ℤ) (s n : ℕ) → Some (s, n) ≡ part_of (length xs) a b → gives (list (of_list (take (n - s) (drop s xs)))) ≡ list_part (of_list xs) (part_of (item_count (of_list xs)) a b)
 range_of_list xs a b s n e = rw (item_count-of_list xs, ← e, part_of_list xs (n - s) s) refl
-
-pub no_set_range : (xs ys : List Datum) (a b : ℤ) → None ≡ cut_of (length xs) a b → raises range_error ≡ list_with_part (of_list xs) (cut_of (item_count (of_list xs)) a b) (of_list ys)
-no_set_range xs ys a b e = rw (item_count-of_list xs, ← e) refl
-
-pub set_range_of_list : (xs ys : List Datum) (a b : ℤ) (s n : ℕ) → Some (s, n) ≡ cut_of (length xs) a b → limited (list (of_list (take s xs ++ (ys ++ drop n xs)))) ≡ list_with_part (of_list xs) (cut_of (item_count (of_list xs)) a b) (of_list ys)
-set_range_of_list xs ys a b s n e = rw (item_count-of_list xs, ← e, around_part xs ys s n) refl
 
 pub set_in_text : (t u : List ℕ) (i : ℤ) (p : ℕ) → Some p ≡ place_in (length t) i → p < length t → length u ≡ 1 → limited (text (take p t ++ (u ++ drop (p + 1) t))) ≡ text_with t (place_in (length t) i) u
 set_in_text t u i p e h k = rw (← e) (sym (with_character t u p h k))

@@ -5,12 +5,14 @@
 ghost use Rattle.std.specs.Prelude.{◌≡◌, ◌<◌, ◌≤◌, ◌++◌, length, IfOk, IfSome, OnOk, IsTrue};
 ghost use Rattle.spec_value.specs.Answer.{limited as limited_of};
 ghost use Rattle.spec_value.specs.Datum.{is_text, of_list};
-ghost use Rattle.spec_value.specs.Indexing.{natural as natural_of, place_in as place_in_of, part_of, cut_of, text_index as text_index_of, list_index as list_index_of, text_part, list_part, text_with, text_with_part, list_with_part, index_value, range_value, set_index_value, set_range_value};
+ghost use Rattle.spec_value.specs.Indexing.{natural as natural_of, place_in as place_in_of, part_of, cut_of, text_index as text_index_of, list_index as list_index_of, text_part, list_part, text_with, text_with_part, index_value, range_value, set_index_value, set_range_value};
 ghost use Rattle.spec_value.specs.Places.{item_count, length_of_list, list_with};
 ghost use Rattle.moo_value.specs.Answers.{answer_of};
+ghost use Rattle.moo_value.specs.Parts.{list_with_part};
 
 use moo_value::answer::{Answer, limited};
 use moo_value::error::MooError;
+use moo_value::items::push_all;
 use moo_value::text::{Text, back, front};
 use moo_value::value::{Shown, Value};
 use std::alloc::{AllocError, Global};
@@ -128,15 +130,16 @@ fn set_character(
     Ok(limited(Value::text(text)))
 }
 
-/// The base with another part from one place to another: what lies before the first, then the value, then what lies behind the last.
+/// The base with another part from one place to another: what lies before the first, then the value, then what lies behind the last. A list that
+/// has no other owner is changed in place, where the first place is not behind the last but one.
 pub fn set_range(
     alloc: Global,
-    base: &Value,
+    base: Value,
     first: &Value,
     last: &Value,
     value: &Value,
 ) -> Result<Answer, AllocError>
-    ensures { IfOk result (λ r. answer_of r ≡ set_range_value base.now first.now last.now value.now) }
+    ensures { IfOk result (λ r. answer_of r ≡ set_range_value base first.now last.now value.now) }
 {
     base.know();
     value.know();
@@ -145,7 +148,10 @@ pub fn set_range(
             set_text_range(alloc, text, first, last, between)
         }
         (Shown::List(items), Shown::Integer(first), Shown::Integer(last), Shown::List(between)) => {
-            set_list_range(alloc, items, first, last, between)
+            match item_cut(items, first, last) {
+                Some((start, end)) => set_part(base, start, end, between),
+                None => Ok(Err(MooError::RangeError)),
+            }
         }
         _ => Ok(Err(MooError::TypeMismatch)),
     }
@@ -169,26 +175,19 @@ fn set_text_range(
     Ok(limited(Value::text(text)))
 }
 
-fn set_list_range(
-    alloc: Global,
-    items: &[Value],
-    first: i32,
-    last: i32,
+// The list with other items in the place of a part.
+fn set_part(
+    mut list: Value,
+    start: usize,
+    end: usize,
     between: &[Value],
 ) -> Result<Answer, AllocError>
-    ensures { IfOk result (λ r. answer_of r ≡ list_with_part (of_list items.now) (cut_of (item_count (of_list items.now)) first last) (of_list between.now)) }
+    requires starts { start ≤ length_of_list list }
+    requires ends { end ≤ length_of_list list }
+    ensures { IfOk result (λ r. answer_of r ≡ limited_of (list_with_part list start end (of_list between.now))) }
 {
-    let Some((start, end)) = cut(items.len(), first, last) else {
-        return Ok(Err(MooError::RangeError));
-    };
-    let count = start
-        .saturating_add(between.len())
-        .saturating_add(items.len().saturating_sub(end));
-    let mut chosen = Vec::with_capacity(alloc, count)?;
-    push_all(&mut chosen, &items[..start])?;
-    push_all(&mut chosen, between)?;
-    push_all(&mut chosen, &items[end..])?;
-    Ok(limited(Value::list(chosen)?))
+    list.replace_part(start, end, between)?;
+    Ok(limited(list))
 }
 
 // The list with another item at a place.
@@ -198,15 +197,6 @@ fn set_item(mut list: Value, place: usize, item: Value) -> Result<Answer, AllocE
 {
     list.replace(place, item)?;
     Ok(limited(list))
-}
-
-pub(crate) fn push_all(items: &mut Vec<Value>, more: &[Value]) -> Result<(), AllocError>
-    ensures { OnOk result (items.new.items ≡ items.old.items ++ more.now) }
-{
-    for item in more {
-        items.push(item.clone()?)?;
-    }
-    Ok(())
 }
 
 /// A place that is counted from 1, among so many, counted from 0.
@@ -255,6 +245,14 @@ fn cut(count: usize, first: i32, last: i32) -> Option<(usize, usize)>
         return None;
     }
     Some((start, natural(last).min(count)))
+}
+
+// The same among the items of a list.
+fn item_cut(items: &[Value], first: i32, last: i32) -> Option<(usize, usize)>
+    ensures cut { result ≡ cut_of (item_count (of_list items.now)) first last }
+    ensures inside { IfSome result (λ p. (p.0 ≤ item_count (of_list items.now)) × (p.1 ≤ item_count (of_list items.now))) }
+{
+    cut(items.len(), first, last)
 }
 
 /// The number, or 0 for a negative one.

@@ -5,8 +5,8 @@ ghost use Rattle.spec_value.specs.Scatter.{required_count as required_count_of, 
 ghost use Rattle.spec_value.specs.Places.{item_count, first_items, later_items};
 ghost use Rattle.moo_arith.specs.Targets.{kind_of, scattering_of};
 
-use crate::index::push_all;
 use moo_value::error::MooError;
+use moo_value::items::push_all;
 use moo_value::value::{Shown, Value};
 use std::alloc::{AllocError, Global};
 

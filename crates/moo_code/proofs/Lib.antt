@@ -1,2 +1,16 @@
 pub mod Places
 pub mod Handled
+pub mod Fits
+pub mod Stacks
+pub mod Points
+pub mod Waiting
+pub mod Surroundings
+pub mod Doing
+pub mod Calling
+pub mod Holding
+pub mod Follow
+pub mod Out
+pub mod Suiting
+pub mod Rows
+pub mod Runs
+pub mod Paths

@@ -4,3 +4,6 @@ pub mod Names
 pub mod Performing
 pub mod Machine
 pub mod Stands
+pub mod Runs
+pub mod Paths
+pub mod Opened

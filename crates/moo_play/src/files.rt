@@ -1,5 +1,6 @@
 //! What the words name: the bytes of files and of the standard input.
-use std::alloc::{AllocError, Global};
+use moo_server::command_line::cannot_read;
+use std::alloc::AllocError;
 use std::io::Read;
 use std::rt::Files;
 use std::{fs, io};
@@ -26,9 +27,4 @@ fn read_input<R: Input + AllocGlobal>(rt: &R) -> io::Result<Vec<u8>> {
     let mut reader = rt.reader();
     reader.read_to_end(&mut bytes)?;
     Ok(bytes)
-}
-
-/// The line of a file that cannot be read.
-pub fn cannot_read(alloc: Global, name: &str) -> Result<String, AllocError> {
-    format!(in alloc; "cannot read {name}")
 }

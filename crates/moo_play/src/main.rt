@@ -3,7 +3,6 @@
 
 mod files;
 mod run;
-mod words;
 
 use moo_server::play::stopped;
 use std::process::ExitCode;

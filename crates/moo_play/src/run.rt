@@ -1,6 +1,6 @@
 //! One run of the program.
-use crate::files::{cannot_read, read_script};
-use crate::words::{as_texts, read_words, refuse_options, refuse_words};
+use crate::files::read_script;
+use moo_server::command_line::{as_texts, cannot_read, read_words, refuse_options, refuse_words};
 use moo_server::fixture::fixture;
 use moo_server::given::Options;
 use moo_server::play::{play_script, read_workers, refuse, stopped};
@@ -21,7 +21,7 @@ pub fn run<R: Print + Eprint + Input + AllocGlobal + Files + Env + Threads + Wai
 ) -> u8 {
     let words = match read_words(rt) {
         Ok(words) => words,
-        Err(error) => return refuse_words(rt, errors, &error),
+        Err(error) => return refuse_words(rt, errors, "moo-play", &error),
     };
     let Ok(words) = as_texts(rt.alloc(), &words) else {
         return stopped(errors, 0);

@@ -8,6 +8,7 @@ ghost use Rattle.moo_server.specs.Printed.{stopped_line};
 ghost use Rattle.moo_server.specs.Runs.{Ran, RanInPart, conclusion};
 ghost use Rattle.moo_server.specs.Workers.{NamesWorkers};
 
+use crate::command_line;
 use crate::parts::{Played, play_steps};
 use moo_script::fault::ScriptFault;
 use moo_script::number::read_number;
@@ -103,8 +104,7 @@ fn tell_stopped<E: Write>(errors: &mut E, count: usize) -> io::Result<()>
 pub fn refuse<E: Write>(errors: &mut E, fault: &str) -> u8
     ensures { result ≡ 2 }
 {
-    let _ = writeln!(errors, "moo-play: {fault}");
-    FAULT
+    command_line::refuse(errors, "moo-play", fault)
 }
 
 // The number of the first step. A world whose numbers are used up has one that is out of range; its list is then refused.

@@ -2,22 +2,29 @@
 
 use thiserror::Error;
 
-/// What is wrong.
+/// What is wrong. Its text is its name.
 #[derive(Clone, Copy, Debug, Drop, Error, PartialEq, Eq)]
 pub enum FaultKind {
-    #[error("unknown character")]
+    /// A character that no token has there.
+    #[error("Character")]
     Character,
-    #[error("string not closed")]
+    /// A string that is not closed on its line.
+    #[error("Unclosed")]
     Unclosed,
-    #[error("no program goes on like this")]
+    /// A token, or an end, with which no program goes on.
+    #[error("Token")]
     Token,
-    #[error("nested too deep")]
+    /// A statement or an expression that nests too deep.
+    #[error("Nesting")]
     Nesting,
-    #[error("number out of range")]
+    /// A number out of range.
+    #[error("Number")]
     Number,
-    #[error("no such loop here")]
+    /// A `break` or `continue` of no loop around it.
+    #[error("Loop name")]
     LoopName,
-    #[error("out of memory")]
+    /// No memory is left.
+    #[error("Memory")]
     Memory,
 }
 

@@ -10,6 +10,4 @@ pub mod nesting;
 pub mod parse;
 pub mod put;
 pub mod step_error;
-#[cfg(test)]
-mod tests;
 pub mod text;

@@ -7,3 +7,5 @@ pub mod Cuts
 pub mod Complete
 pub mod Loop
 pub mod Sound
+pub mod Meanings
+pub mod Meant

@@ -3,8 +3,6 @@
 
 pub mod cutter;
 pub mod fault;
-#[cfg(test)]
-mod tests;
 pub mod token;
 pub mod tokens;
 pub mod words;

@@ -5,6 +5,8 @@ ghost use Rattle.std.specs.List.{list_all};
 ghost use Rattle.spec_value.specs.Datum.{Text};
 ghost use Rattle.moo_token.specs.Tokens.{Place, Ending, IsText, faulty, is_sound, tokens_in};
 ghost use Rattle.moo_token.specs.Views.{places, ending_of};
+ghost use Rattle.moo_token.specs.Meaning.{all_meant};
+ghost use Rattle.spec_program.specs.Tokens.{tokens_of as tokens_meant};
 
 use crate::cutter::{CutError, Cutter};
 use crate::fault::{FaultKind, TokenFault};
@@ -36,6 +38,8 @@ pub fn tokens_of(alloc: Global, text: &[u8]) -> Result<Tokens, AllocError>
     // The text is nothing else.
     ensures only_tokens { (ps : List Place) (e : Ending) → IsText 1 text.now ps e → IfOk result (λ v. places v.tokens.items ≡ ps) }
     ensures only_ending { (ps : List Place) (e : Ending) → IsText 1 text.now ps e → IfOk result (λ v. ending_of v.fault ≡ e) }
+    // These are the tokens of the definitions.
+    ensures meaning { IfOk result (λ v. all_meant (places v.tokens.items) (ending_of v.fault) ≡ tokens_meant text.now) }
 {
     let mut cutter = Cutter::new(alloc);
     for (place, byte) in text.iter().enumerate() {

@@ -6,12 +6,13 @@ use Rattle.std.specs.List.{AllZip}
 use Rattle.std.proofs.lemmas.List.Elements.{same_from_all_zip}
 use Rattle.spec_value.specs.Datum.{is_value, are_values, weight, data_weight}
 use Rattle.spec_value.specs.Datum.{Datum, Data, no_data, item, list, of_list, to_list, append, joined}
-use Rattle.std.proofs.lemmas.List.{take_all}
+use Rattle.std.proofs.lemmas.List.{take_all, drop_all}
 use Rattle.std.proofs.Common.{length-drop, insert, remove, Option, Some, ◌==◌, min, ◌^◌, ◌-◌}
 use Rattle.std.proofs.Math.ListN.{set}
 use Rattle.spec_value.specs.Places.{item_count, item_at, with_item, inserted, without, first_items, later_items}
 use Rattle.moo_value.specs.Depth.{depth, data_depth}
 use Rattle.spec_value.specs.Literal.{literal, more_text, data_text}
+use Rattle.moo_value.specs.Parts.{with_part}
 
 pub to_list-of_list : (ds : List Datum) → to_list (of_list ds) ≡ ds
 to_list-of_list [] = refl
@@ -193,3 +194,65 @@ later_items-of_list (suc n) (x ∷ xs) = later_items-of_list n xs
 pub of_list-append : (xs ys : List Datum) → of_list (xs ++ ys) ≡ joined (of_list xs) (of_list ys)
 of_list-append [] ys = refl
 of_list-append (x ∷ xs) ys = ap (item x) (of_list-append xs ys)
+
+-- ---- lists with other items in the place of a part
+
+pub around_part : (xs ys : List Datum) (n m : ℕ) → with_part (of_list xs) n m (of_list ys) ≡ of_list (take n xs ++ (ys ++ drop m xs))
+around_part xs ys n m =
+    ap (λ a. joined a (joined (of_list ys) (later_items m (of_list xs)))) (first_items-of_list n xs)
+    ∙ ap (λ b. joined (of_list (take n xs)) (joined (of_list ys) b)) (later_items-of_list m xs)
+    ∙ ap (joined (of_list (take n xs))) (sym (of_list-append ys (drop m xs)))
+    ∙ sym (of_list-append (take n xs) (ys ++ drop m xs))
+
+pub data_weight-joined : (xs ys : Data) → data_weight (joined xs ys) ≡ data_weight xs + data_weight ys
+data_weight-joined no_data ys = omega arith
+data_weight-joined (item x xs) ys = omega (arith, data_weight-joined xs ys)
+
+pub data_weight-cut : (n : ℕ) (xs : List Datum) → data_weight (of_list xs) ≡ data_weight (of_list (take n xs)) + data_weight (of_list (drop n xs))
+data_weight-cut zero xs = omega arith
+data_weight-cut (suc n) [] = omega arith
+data_weight-cut (suc n) (x ∷ xs) = omega (arith, data_weight-cut n xs)
+
+pub data_weight-three : (xs : List Datum) (n m : ℕ) → n ≤ m →
+    data_weight (of_list xs) ≡ (data_weight (of_list (take n xs)) + data_weight (of_list (take (m - n) (drop n xs)))) + data_weight (of_list (drop m xs))
+data_weight-three xs zero m h = let e : take {A = Datum} (m - 0) (drop {A = Datum} 0 xs) ≡ take m xs = ap (λ k. take k xs) (omega arith) in rw e (omega (arith, data_weight-cut m xs))
+data_weight-three [] (suc n) m h =
+    let here : take {A = Datum} (m - suc n) [] ≡ [] = take_all (m - suc n) [] (omega arith) in
+    let behind : drop {A = Datum} m [] ≡ [] = drop_all m [] (omega arith) in
+    rw (here, behind) (omega arith)
+data_weight-three (x ∷ xs) (suc n) zero h = absurd (omega arith)
+data_weight-three (x ∷ xs) (suc n) (suc m) h =
+    let e : suc m - suc n ≡ m - n = omega arith in
+    rw e (omega (arith, data_weight-three xs n m (omega arith)))
+
+pub are_values-joined : (xs ys : Data) → IsTrue (are_values xs) → IsTrue (are_values ys) → IsTrue (are_values (joined xs ys))
+are_values-joined no_data ys h k = k
+are_values-joined (item x xs) ys h k =
+    let rest = are_values-joined xs ys (grind (arith, nat_tests)) k in
+    grind (arith, nat_tests)
+
+pub are_values-first : (n : ℕ) (xs : Data) → IsTrue (are_values xs) → IsTrue (are_values (first_items n xs))
+are_values-first zero xs h = grind (arith, nat_tests)
+are_values-first (suc n) no_data h = h
+are_values-first (suc n) (item x xs) h =
+    let rest = are_values-first n xs (grind (arith, nat_tests)) in
+    grind (arith, nat_tests)
+
+pub are_values-later : (n : ℕ) (xs : Data) → IsTrue (are_values xs) → IsTrue (are_values (later_items n xs))
+are_values-later zero xs h = h
+are_values-later (suc n) no_data h = h
+are_values-later (suc n) (item x xs) h = are_values-later n xs (grind (arith, nat_tests))
+
+-- o: what stays weighs; v: what the other items weigh
+pub sound-with_part : (xs : List Datum) (n m w o v u : ℕ) (ys : List Datum) → IsSound (of_list xs) w → IsTrue (are_values (of_list ys)) →
+    o ≡ min (data_weight (of_list (take n xs)) + data_weight (of_list (drop m xs))) (2 ^ 64 - 1) → v ≡ min (data_weight (of_list ys)) (2 ^ 64 - 1) → u ≡ min (o + v) (2 ^ 64 - 1) →
+    IsSound (with_part (of_list xs) n m (of_list ys)) u
+sound-with_part xs n m w o v u ys h k e f g =
+    let old = sound_values (of_list xs) w h in
+    let values = are_values-joined (first_items n (of_list xs)) (joined (of_list ys) (later_items m (of_list xs))) (are_values-first n (of_list xs) old)
+    (are_values-joined (of_list ys) (later_items m (of_list xs)) k (are_values-later m (of_list xs) old)) in
+    let whole = data_weight-joined (first_items n (of_list xs)) (joined (of_list ys) (later_items m (of_list xs))) in
+    let rest = data_weight-joined (of_list ys) (later_items m (of_list xs)) in
+    let first = ap data_weight (first_items-of_list n xs) in
+    let later = ap data_weight (later_items-of_list m xs) in
+    sound (with_part (of_list xs) n m (of_list ys)) u values (omega (arith, whole, rest, first, later))

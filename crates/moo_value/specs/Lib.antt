@@ -3,6 +3,7 @@ pub mod Depth
 pub mod Errors
 pub mod Falls
 pub mod Operators
+pub mod Parts
 pub mod Read
 pub mod Shown
 pub mod View

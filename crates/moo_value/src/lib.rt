@@ -6,11 +6,9 @@
 pub mod answer;
 pub mod compare;
 pub mod error;
-mod items;
+pub mod items;
 pub mod operator;
 pub mod read;
-#[cfg(test)]
-mod tests;
 pub mod text;
 pub mod value;
 pub mod write;

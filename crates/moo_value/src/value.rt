@@ -246,6 +246,34 @@ impl Value {
     }
 }
 
+impl Value {
+    ghost use Rattle.spec_value.specs.Places.{length_of_list};
+    ghost use Rattle.moo_value.specs.Parts.{list_with_part};
+
+    /// Puts copies of items in the place of a part of a list: what lies before the start, then those items, then what lies from the end on. It is
+    /// done in place where no other owner shares the list and the part does not end before it starts.
+    pub fn replace_part(
+        &mut self,
+        start: usize,
+        end: usize,
+        between: &[Value],
+    ) -> Result<(), AllocError>
+        requires starts { start ≤ length_of_list self.old }
+        requires ends { end ≤ length_of_list self.old }
+        ensures { self.new ≡ (if is_ok result then list_with_part self.old start end (of_list between.now) else self.old) }
+    {
+        items::know_all(between);
+        let added = items::weight(between);
+        let Node::List(items, weight) = &mut self.node else {
+            return Ok(());
+        };
+        let others = items::weight_around(items, *weight, start, end);
+        items::replace_part(items, start, end, between)?;
+        *weight = others.saturating_add(added);
+        Ok(())
+    }
+}
+
 impl Clone for Value {
     ghost is_clone = { λ v copy. copy ≡ v };
 

@@ -2,12 +2,15 @@
 use crate::row::{KEY, TWO_COUNTED, TWO_COUNTS, play, script};
 use footprint::question::{Answer, Question};
 use moo_value::text::Text;
+use moo_value::value::Value;
 use row_support::integers::integer_in;
 use speculate::gate::Free;
 use std::alloc::{AllocError, Global};
 use std::sync::Wait;
 use std::test::Fail;
 use std::thread::Threads;
+use view::live::Live;
+use view::readers::write_value;
 use world::worlds::World;
 use world_fixture::fixture::fixture;
 
@@ -95,6 +98,37 @@ fn worlds_at_the_end(rt: HostRuntime) -> Result<(), Fail> {
     assert_eq!(rt; others(&rt, &AFTER)?.as_str(), "");
     Ok(())
 }
+
+// The fixture with a text in the counter, which cannot count on.
+fn uncountable(alloc: Global) -> Result<World, AllocError> {
+    let mut world = fixture(alloc)?;
+    let mut live = Live::open(&mut world);
+    let text = Value::text(Text::from_str(alloc, "x")?);
+    write_value(&mut live, ROOM, &Text::from_str(alloc, "n")?, text)?;
+    live.keep();
+    Ok(world)
+}
+
+// An error that nothing handles tells the player who ran the verb, with the verb's definer and name; another word in between is told as ever.
+#[test]
+fn raised(rt: HostRuntime) -> Result<(), Fail> {
+    let world = uncountable(rt.alloc())?;
+    let lines = b"line 1 count\nline 1 looks\nline 2 COUNT\n";
+    let (others, world) = played_on(&rt, world, lines, RAISED)?;
+    assert_eq!(rt; others.as_str(), "");
+    assert!(rt; world.is_some());
+    Ok(())
+}
+
+const RAISED: &str = "step 1 raised E_TYPE ticks 2
+> 1 #3:count: Type mismatch
+> 1 (End of traceback)
+step 2 none ticks 0
+> 1 I couldn't understand that.
+step 3 raised E_TYPE ticks 2
+> 2 #3:COUNT: Type mismatch
+> 2 (End of traceback)
+";
 
 // A run goes on where the world stands: with its counter and its next step.
 #[test]

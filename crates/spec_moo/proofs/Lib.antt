@@ -5,5 +5,12 @@ pub mod Lighter
 pub mod Sizes
 pub mod Stages
 pub mod TurnsStay
+pub mod NativeWorlds
+pub mod ObjectRows
+pub mod PropertyRows
+pub mod TaskRows
+pub mod TurnWorlds
+pub mod SegmentWorlds
+pub mod StepWorlds
 pub mod Courses
 pub mod NativeStages

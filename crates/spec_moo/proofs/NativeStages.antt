@@ -1,7 +1,7 @@
 -- A built-in that has got the value of a verb calls another verb as a later stage alone.
 use Rattle.std.proofs.Common.{ℕ, zero, suc, ◌<◌, Bool, true, false, ℤ, List, [], ◌∷◌, Option, Some, None, arith, if◌then◌else◌}
 use Rattle.std.specs.Prelude.{◌&&◌, ◌||◌, not}
-use Rattle.spec_value.specs.Datum.{Datum, integer, object, text, error, list, Data, Text, is_true, invalid_argument, recursive_move, move_refused}
+use Rattle.spec_value.specs.Datum.{Datum, object, Data, Text, is_true, invalid_argument, recursive_move, move_refused}
 use Rattle.spec_world.specs.World.{Native, NativeName, move_native, create_native, recycle_native, eval_native}
 use Rattle.spec_world.specs.VerbsSought.{Sought, find_verb}
 use Rattle.spec_world.specs.Permissions.{is_wizard}
@@ -11,7 +11,7 @@ use Rattle.spec_moo.specs.NativeEffect as N
 use Rattle.spec_moo.specs.NativeEffect.{Caller, NativeEffect}
 use Rattle.spec_moo.specs.Natives.{native_turn}
 use Rattle.spec_moo.specs.Natives.Rows.{Check, unless, wants, is_valid, is_valid_or_none}
-use Rattle.spec_moo.specs.Natives.Objects.{calls_found, calls_if_there, is_there, told_to_enter, gone_over, move_now, move_checked, asked, accepted, staged}
+use Rattle.spec_moo.specs.Natives.Objects.{calls_found, is_there, told_to_enter, gone_over, move_now, move_checked, accepted, staged}
 use Rattle.spec_moo.specs.Sizes.{native_stages}
 use Rattle.spec_moo.specs.Laws.{StagesRise}
 

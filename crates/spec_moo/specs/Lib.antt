@@ -17,4 +17,5 @@ pub mod Standing
 pub mod Laws
 pub mod Telling
 pub mod Steps
+pub mod Worlds
 pub mod Opened

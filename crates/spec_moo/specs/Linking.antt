@@ -1,5 +1,5 @@
 -- Links that a task closes, and what it tells (Programmer's Manual, "Operations on Network Connections").
-use Rattle.std.specs.Prelude.{suc, nat_lt, ℤ, List, [], ◌∷◌, ◌++◌, Bool, true, Option, Some, None}
+use Rattle.std.specs.Prelude.{suc, nat_lt, ℤ, [], ◌∷◌, ◌++◌, Bool, true, Option, Some, None}
 use Rattle.spec_value.specs.Datum.{Text}
 use Rattle.spec_world.specs.Links.{connection_of, close_link}
 use Rattle.spec_moo.specs.Scene.{Scene}

@@ -2,3 +2,4 @@
 #![tactic(auto)]
 
 pub mod segments;
+pub mod worlds;

@@ -1,3 +1,16 @@
+pub mod Trees
+pub mod WorldTrees
+pub mod SlotTables
+pub mod Households
+pub mod ObjectChanges
+pub mod NewObjects
+pub mod PropertyChanges
+pub mod PropertyRemoval
+pub mod Reparenting
+pub mod Recycling
+pub mod ObjectsKept
+pub mod TablesKept
+pub mod WorldsKept
 pub mod Lines
 pub mod Shapes
 pub mod SlotChanges

@@ -1,12 +1,12 @@
 -- The text of a world, as it is kept in a file (in the manner of the Programmer's Manual's database files): one text a world.
-use Rattle.std.specs.Prelude.{ℕ, ℤ, pos, Bool, true, false, List, [], ◌∷◌, ◌++◌, length, if◌then◌else◌, Option, Some, None, codes}
+use Rattle.std.specs.Prelude.{ℕ, ℤ, pos, Bool, true, false, List, [], ◌∷◌, ◌++◌, length, Option, Some, None, codes}
 use Rattle.std.specs.Fmt.{decimal, signed_decimal}
 use Rattle.spec_value.specs.Datum.{Datum, integer, object, text, list, of_list, Text}
 use Rattle.spec_value.specs.Literal.{literal}
 use Rattle.spec_value.specs.Table.{Named}
 use Rattle.spec_program.specs.Construct.{Piece}
 use Rattle.spec_program.specs.Spelling.{canonical_lines}
-use Rattle.spec_world.specs.World.{World, Object, Slot, Verb, ObjectPart, no_object, any_object, this_object, PrepositionPart, no_preposition, any_preposition, preposition_set, Call, Start, Frame, NativeName, move_native, create_native, recycle_native, eval_native, Native, Entry, frame_entry, native_entry, Waiting, forked, timed, idle, reading_on, Task, Programming, Link, object_at}
+use Rattle.spec_world.specs.World.{World, Object, Slot, Verb, ObjectPart, no_object, any_object, this_object, PrepositionPart, no_preposition, any_preposition, preposition_set, Call, Start, Frame, NativeName, move_native, create_native, recycle_native, eval_native, Entry, frame_entry, native_entry, Waiting, forked, timed, idle, reading_on, Task, Programming, Link, object_at}
 use Rattle.spec_world.specs.Inherit.{ancestors, slot_at}
 
 -- ---- words of a line

@@ -2,8 +2,10 @@ pub mod World
 pub mod WorldCode
 pub mod Inherit
 pub mod WellFormed
+pub mod Agreeing
 pub mod Questions
 pub mod Laws
+pub mod ObjectLaws
 pub mod Permissions
 pub mod VerbNames
 pub mod Prepositions

@@ -2,4 +2,6 @@
 #![tactic(auto)]
 
 pub mod inheritance;
+pub mod objects;
 pub mod slots;
+pub mod worlds;

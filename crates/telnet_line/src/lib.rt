@@ -7,8 +7,6 @@ mod event;
 pub mod laws;
 mod line_buffer;
 mod reader;
-#[cfg(test)]
-mod tests;
 
 pub use event::Event;
 pub use reader::Reader;

@@ -5,6 +5,7 @@ use moo_arith::binary::binary;
 use moo_arith::index::{index, range, set_index, set_range};
 use moo_value::answer::Answer;
 use moo_value::error::MooError;
+use moo_value::items::copied;
 use moo_value::operator::{BinaryOperator, UnaryOperator};
 use moo_value::read::from_literal;
 use moo_value::value::{Shown, Value};
@@ -56,8 +57,19 @@ pub(crate) fn apply(alloc: Global, name: &str, operands: &[Value]) -> Result<Ans
             "x[a..b]" => range(alloc, base, first, last),
             _ => set_index(alloc, base.clone()?, first, last.clone()?),
         },
-        [base, first, last, value] => set_range(alloc, base, first, last, value),
+        [base, first, last, value] => match name {
+            "x[a..b] = v, alone" => set_range(alloc, alone(alloc, base)?, first, last, value),
+            _ => set_range(alloc, base.clone()?, first, last, value),
+        },
         _ => Ok(Err(MooError::NoError)),
+    }
+}
+
+// The value with items that no other owner shares, so that it is changed in place.
+fn alone(alloc: Global, value: &Value) -> Result<Value, AllocError> {
+    match value.shown() {
+        Shown::List(items) => Value::list(copied(alloc, items)?),
+        _ => value.clone(),
     }
 }
 

@@ -73,9 +73,39 @@ const RANGES: [Row; 44] = [
     ("x[a..b] = v", r#"{E_NONE, 1, 1, E_NONE}"#, "E_TYPE"),
 ];
 
+// Of a list that has no other owner: part of the list, all of it, none, more and fewer items, a part that ends before it starts.
+const ALONE: [Row; 9] = [
+    (
+        "x[a..b] = v, alone",
+        r#"{{1, 2, 3}, 2, 2, {7}}"#,
+        "{1, 7, 3}",
+    ),
+    ("x[a..b] = v, alone", r#"{{1, 2, 3}, 1, 3, {}}"#, "{}"),
+    (
+        "x[a..b] = v, alone",
+        r#"{{1, 2, 3}, 2, 1, {{7}, "x"}}"#,
+        r#"{1, {7}, "x", 2, 3}"#,
+    ),
+    ("x[a..b] = v, alone", r#"{{1, 2, 3}, 1, 2, {}}"#, "{3}"),
+    (
+        "x[a..b] = v, alone",
+        r#"{{1, 2, 3}, 4, 3, {4, 5}}"#,
+        "{1, 2, 3, 4, 5}",
+    ),
+    (
+        "x[a..b] = v, alone",
+        r#"{{1, 2, 3}, 3, 1, {7}}"#,
+        "{1, 2, 7, 2, 3}",
+    ),
+    ("x[a..b] = v, alone", r#"{{}, 1, 0, {}}"#, "{}"),
+    ("x[a..b] = v, alone", r#"{{1, 2, 3}, 5, 4, {7}}"#, "E_RANGE"),
+    ("x[a..b] = v, alone", r#"{{1, 2, 3}, 1, 1, 7}"#, "E_TYPE"),
+];
+
 #[test]
 fn changes(rt: HostRuntime) -> Result<(), Fail> {
     assert_eq!(rt; others(rt.alloc(), &ITEMS)?.as_str(), "");
     assert_eq!(rt; others(rt.alloc(), &RANGES)?.as_str(), "");
+    assert_eq!(rt; others(rt.alloc(), &ALONE)?.as_str(), "");
     Ok(())
 }

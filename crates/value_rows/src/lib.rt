@@ -10,6 +10,8 @@ mod changes;
 #[cfg(test)]
 mod comparisons;
 #[cfg(test)]
+mod hostile;
+#[cfg(test)]
 mod kinds;
 #[cfg(test)]
 mod limits;

@@ -9,7 +9,7 @@ use Rattle.spec_value.specs.Datum.{Datum, Text, fold_case}
 use Rattle.spec_value.specs.Table.{named, with_name}
 use Rattle.spec_world.specs.World.{World, Object, Slot, object_at, with_object}
 use Rattle.spec_world.specs.Inherit.{slot_of, slot_at, put_slot, with_slot}
-use Rattle.spec_world.specs.Questions.{Question, about_header, about_slot, about_verbs, about_link, about_ending, Answer, the_header, the_slot, the_verbs, ask, Change, new_value, new_next, put_value, apply, apply_all}
+use Rattle.spec_world.specs.Questions.{Question, about_header, about_children, about_contents, about_defines, about_slot, about_verbs, about_link, about_greatest, about_ending, Answer, the_header, the_children, the_contents, the_defines, the_slot, the_verbs, ask, Change, new_value, new_next, put_value, apply, apply_all}
 
 abbrev same_number : ℤ → ℤ → Bool
 same_number = eq_by_cmp int_cmp
@@ -77,9 +77,13 @@ here w o q p r e =
 -- where there was no such slot
 nothing_after : (w : World) (o : ℤ) (p : Text) (v : Datum) → slot_at w o p ≡ None → (q : Question) → ask w q ≡ after (new_value o p v) q (ask w q)
 nothing_after w o p v none (about_header q) = refl
+nothing_after w o p v none (about_children q) = refl
+nothing_after w o p v none (about_contents q) = refl
+nothing_after w o p v none (about_defines q) = refl
 nothing_after w o p v none (about_slot q r) = ap the_slot (unchanged _ v (slot_at w q r) (λ e. here w o q p r e ∙ none))
 nothing_after w o p v none (about_verbs q) = refl
 nothing_after w o p v none (about_link c) = refl
+nothing_after w o p v none about_greatest = refl
 nothing_after w o p v none about_ending = refl
 
 abbrev revalued : Object → Text → Slot → Object
@@ -105,9 +109,13 @@ slot_after w o q p r v x s is at_p =
 something_after : (w : World) (o : ℤ) (p : Text) (v : Datum) (x : Object) (s : Slot) → object_at w o ≡ Some x → named x.slots (fold_case p) ≡ Some s
     → (q : Question) → ask (with_object w o (revalued x p (filled s v))) q ≡ after (new_value o p v) q (ask w q)
 something_after w o p v x s is at_p (about_header q) = ap the_header (facet_stays (λ z. z.header) w o q x (revalued x p (filled s v)) is refl)
+something_after w o p v x s is at_p (about_children q) = ap the_children (facet_stays (λ z. z.children) w o q x (revalued x p (filled s v)) is refl)
+something_after w o p v x s is at_p (about_contents q) = ap the_contents (facet_stays (λ z. z.contents) w o q x (revalued x p (filled s v)) is refl)
+something_after w o p v x s is at_p (about_defines q) = ap the_defines (facet_stays (λ z. z.defines) w o q x (revalued x p (filled s v)) is refl)
 something_after w o p v x s is at_p (about_slot q r) = ap the_slot (slot_after w o q p r v x s is at_p)
 something_after w o p v x s is at_p (about_verbs q) = ap the_verbs (facet_stays (λ z. z.verbs) w o q x (revalued x p (filled s v)) is refl)
 something_after w o p v x s is at_p (about_link c) = refl
+something_after w o p v x s is at_p about_greatest = refl
 something_after w o p v x s is at_p about_ending = refl
 
 one_after : (c : Change) (w : World) (q : Question) → ask (apply c w) q ≡ after c q (ask w q)
@@ -125,9 +133,13 @@ one_after (new_next n) w q = untouched q
   where
     untouched : (q : Question) → ask (record w { next = max (min n 33554432) w.next }) q ≡ after (new_next n) q (ask w q)
     untouched (about_header o) = refl
+    untouched (about_children o) = refl
+    untouched (about_contents o) = refl
+    untouched (about_defines o) = refl
     untouched (about_slot o p) = refl
     untouched (about_verbs o) = refl
     untouched (about_link c) = refl
+    untouched about_greatest = refl
     untouched about_ending = refl
 
 -- worlds that answer a question alike still do after changes

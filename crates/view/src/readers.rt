@@ -2,7 +2,7 @@
 ghost use Rattle.std.specs.Prelude.{◌≡◌, IfOk, OnOk};
 ghost use Rattle.spec_value.specs.Table.{at};
 ghost use Rattle.spec_world.specs.Inherit.{slot_at};
-ghost use Rattle.spec_world.specs.Questions.{header_at, verbs_at, apply, new_value, new_next};
+ghost use Rattle.spec_world.specs.Questions.{header_at, children_at, contents_at, defines_at, verbs_at, apply, new_value, new_next};
 ghost use Rattle.footprint.specs.Meanings.{change_of};
 ghost use Rattle.view.specs.Law.{Goes, Keeps, Lasts, StaysSound, Tells};
 
@@ -10,6 +10,7 @@ use crate::law::View;
 use footprint::change::Change;
 use footprint::header::Header;
 use footprint::link::Link;
+use footprint::lists::{Names, Objects};
 use footprint::question::{Answer, Question};
 use footprint::slot::Slot;
 use footprint::verb::Verbs;
@@ -25,6 +26,42 @@ pub fn read_header<V: View>(view: &mut V, object: i32) -> Result<Option<Header>,
 {
     match view.get(&Question::Header(object))? {
         Answer::Header(header) => Ok(header),
+        _ => unreachable!(),
+    }
+}
+
+/// An object's children, or None where there is no such object.
+pub fn read_children<V: View>(view: &mut V, object: i32) -> Result<Option<Objects>, AllocError>
+    ensures lasts { Lasts V.holds V.home V.anchor view.old view.new result }
+    ensures left { IfOk result (λ a. Tells V.holds V.now view.old view.new (λ w. children_at w object ≡ a)) }
+    ensures sound { OnOk result (StaysSound V.home V.now view.old view.new) }
+{
+    match view.get(&Question::Children(object))? {
+        Answer::Children(children) => Ok(children),
+        _ => unreachable!(),
+    }
+}
+
+/// An object's contents, or None where there is no such object.
+pub fn read_contents<V: View>(view: &mut V, object: i32) -> Result<Option<Objects>, AllocError>
+    ensures lasts { Lasts V.holds V.home V.anchor view.old view.new result }
+    ensures left { IfOk result (λ a. Tells V.holds V.now view.old view.new (λ w. contents_at w object ≡ a)) }
+    ensures sound { OnOk result (StaysSound V.home V.now view.old view.new) }
+{
+    match view.get(&Question::Contents(object))? {
+        Answer::Contents(contents) => Ok(contents),
+        _ => unreachable!(),
+    }
+}
+
+/// The names of the properties that an object defines, or None where there is no such object.
+pub fn read_defines<V: View>(view: &mut V, object: i32) -> Result<Option<Names>, AllocError>
+    ensures lasts { Lasts V.holds V.home V.anchor view.old view.new result }
+    ensures left { IfOk result (λ a. Tells V.holds V.now view.old view.new (λ w. defines_at w object ≡ a)) }
+    ensures sound { OnOk result (StaysSound V.home V.now view.old view.new) }
+{
+    match view.get(&Question::Defines(object))? {
+        Answer::Defines(names) => Ok(names),
         _ => unreachable!(),
     }
 }
@@ -65,6 +102,18 @@ pub fn read_link<V: View>(view: &mut V, number: i32) -> Result<Option<Link>, All
 {
     match view.get(&Question::Link(number))? {
         Answer::Link(link) => Ok(link),
+        _ => unreachable!(),
+    }
+}
+
+/// The greatest number that an object has had, -1 where there was none.
+pub fn read_greatest<V: View>(view: &mut V) -> Result<i32, AllocError>
+    ensures lasts { Lasts V.holds V.home V.anchor view.old view.new result }
+    ensures left { IfOk result (λ a. Tells V.holds V.now view.old view.new (λ w. w.greatest ≡ a)) }
+    ensures sound { OnOk result (StaysSound V.home V.now view.old view.new) }
+{
+    match view.get(&Question::Greatest)? {
+        Answer::Greatest(greatest) => Ok(greatest),
         _ => unreachable!(),
     }
 }

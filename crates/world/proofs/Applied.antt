@@ -1,9 +1,10 @@
 -- What a change does to a world's objects.
-use Rattle.std.proofs.Common.{◌≡◌, ℕ, ℤ, Option, Some, None, refl, sym, ◌∙◌, ap, subst, option_map}
+use Rattle.std.proofs.Common.{◌≡◌, ℤ, Option, Some, None, Ok, Err, IsTrue, is_some, refl, sym, ◌∙◌, ap, option_map}
+use Rattle.std.specs.Prelude.{Result, IfOk, MatchOption}
 use Rattle.spec_value.specs.Datum.{Datum, Text, fold_case}
 use Rattle.spec_value.specs.Table.{named, with_name}
 use Rattle.spec_world.specs.World.{World, Object, Slot, object_at, with_object}
-use Rattle.spec_world.specs.Inherit.{slot_of, slot_at, put_slot, with_slot}
+use Rattle.spec_world.specs.Inherit.{slot_of, put_slot, with_slot}
 use Rattle.spec_world.specs.Questions.{apply, new_value, put_value}
 
 -- an object with another value in a slot, where it has that slot
@@ -37,3 +38,14 @@ put_on w o p v x y (Some s) e is =
 -- else that object changes alone
 pub object_changes : (w : World) (o : ℤ) (p : Text) (v : Datum) (x y : Object) → object_at w o ≡ Some x → Some y ≡ revalued x p v → apply (new_value o p v) w ≡ with_object w o y
 object_changes w o p v x y e is = ap (λ (z : Option Object). put_value w o p v (slot_of z p)) e ∙ put_on w o p v x y (named x.slots (fold_case p)) e is
+
+-- either nothing changes, or that object alone
+one_change : (w : World) (o : ℤ) (p : Text) (v : Datum) (x : Object) (y : Option Object) → object_at w o ≡ Some x → y ≡ revalued x p v
+    → MatchOption y (apply (new_value o p v) w ≡ w) (λ z. IsTrue (is_some (object_at w o)) × (apply (new_value o p v) w ≡ with_object w o z))
+one_change w o p v x None is e = no_slot_changes w o p v x is e
+one_change w o p v x (Some y) is e = (ap is_some is, object_changes w o p v x y is e)
+
+pub changed_one : {E : Type 0} (w : World) (o : ℤ) (p : Text) (v : Datum) (x : Object) (r : Result (Option Object) E) → object_at w o ≡ Some x → IfOk r (λ y. y ≡ revalued x p v)
+    → IfOk r (λ y. MatchOption y (apply (new_value o p v) w ≡ w) (λ z. IsTrue (is_some (object_at w o)) × (apply (new_value o p v) w ≡ with_object w o z)))
+changed_one w o p v x (Ok y) is e = one_change w o p v x y is e
+changed_one w o p v x (Err e) is h = tt

@@ -3,7 +3,7 @@ ghost use Rattle.std.specs.Prelude.{◌≡◌, ◌↔◌, ◌<◌, ℕ, ℤ, pos
 ghost use Rattle.spec_value.specs.Table.{at, with};
 ghost use Rattle.spec_world.specs.World.{object_at, with_object};
 ghost use Rattle.spec_world.specs.Inherit.{slot_at};
-ghost use Rattle.spec_world.specs.Questions.{header_at, verbs_at, ask, Agrees, apply, apply_all, new_value, new_next};
+ghost use Rattle.spec_world.specs.Questions.{header_at, children_at, contents_at, defines_at, verbs_at, ask, Agrees, apply, apply_all, new_value, new_next};
 ghost use Rattle.footprint.specs.Meanings.{question_of, answer_of, change_of};
 ghost use Rattle.world.specs.Numbered.{numbered};
 
@@ -11,6 +11,7 @@ use crate::records::{put_record, record_at, same_records};
 use footprint::change::Change;
 use footprint::header::Header;
 use footprint::link::Link;
+use footprint::lists::{Names, Objects};
 use footprint::object::Object;
 use footprint::question::{Answer, Question};
 use footprint::reads::Reads;
@@ -143,6 +144,24 @@ impl Draft {
         Some(self.object(number)?.header())
     }
 
+    fn children(&self, number: i32) -> Option<&Objects>
+        ensures { option_map (λ os. os.now) result ≡ children_at self.now number }
+    {
+        Some(self.object(number)?.children())
+    }
+
+    fn contents(&self, number: i32) -> Option<&Objects>
+        ensures { option_map (λ os. os.now) result ≡ contents_at self.now number }
+    {
+        Some(self.object(number)?.contents())
+    }
+
+    fn defines(&self, number: i32) -> Option<&Names>
+        ensures { option_map (λ ts. ts.now) result ≡ defines_at self.now number }
+    {
+        Some(self.object(number)?.defines())
+    }
+
     fn slot(&self, number: i32, name: &Text) -> Option<&Slot>
         ensures { option_map (λ s. s.now) result ≡ slot_at self.now number name.now }
     {
@@ -167,9 +186,13 @@ impl Draft {
     {
         match question {
             Question::Header(object) => Ok(Answer::Header(self.header(*object).cloned()?)),
+            Question::Children(object) => Ok(Answer::Children(self.children(*object).cloned()?)),
+            Question::Contents(object) => Ok(Answer::Contents(self.contents(*object).cloned()?)),
+            Question::Defines(object) => Ok(Answer::Defines(self.defines(*object).cloned()?)),
             Question::Slot(object, name) => Ok(Answer::Slot(self.slot(*object, name).cloned()?)),
             Question::Verbs(object) => Ok(Answer::Verbs(self.verbs(*object).cloned()?)),
             Question::Link(number) => Ok(Answer::Link(self.link(*number).cloned()?)),
+            Question::Greatest => Ok(Answer::Greatest(self.greatest)),
             Question::Ending => Ok(Answer::Ending(self.ending)),
         }
     }
@@ -180,9 +203,13 @@ impl Draft {
     {
         match question {
             Question::Header(object) => answer.is_header(self.header(*object)),
+            Question::Children(object) => answer.is_children(self.children(*object)),
+            Question::Contents(object) => answer.is_contents(self.contents(*object)),
+            Question::Defines(object) => answer.is_defines(self.defines(*object)),
             Question::Slot(object, name) => answer.is_slot(self.slot(*object, name)),
             Question::Verbs(object) => answer.is_verbs(self.verbs(*object)),
             Question::Link(number) => answer.is_link(self.link(*number)),
+            Question::Greatest => answer.is_greatest(self.greatest),
             Question::Ending => answer.is_ending(self.ending),
         }
     }
@@ -236,7 +263,7 @@ impl Draft {
     }
 
     // The object with another value in a slot, if there is one.
-    #[tactic(auto, using(crate::proofs::Applied::no_object_changes, crate::proofs::Applied::no_slot_changes, crate::proofs::Applied::object_changes))]
+    #[tactic(auto, using(crate::proofs::Applied::no_object_changes))]
     fn with_value(
         &self,
         number: i32,

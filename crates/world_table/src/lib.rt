@@ -8,7 +8,5 @@
 
 mod place;
 mod table;
-#[cfg(test)]
-mod tests;
 
 pub use table::Table;

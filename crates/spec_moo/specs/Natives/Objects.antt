@@ -3,7 +3,7 @@ use Rattle.std.specs.Prelude.{ℕ, zero, suc, ℤ, pos, not, int_le, List, [], �
 use Rattle.std.specs.Ordering.{int_eq}
 use Rattle.spec_value.specs.Datum.{Datum, object, Data, no_data, item, Text, is_true, permission_denied, invalid_argument, recursive_move, move_refused, limit_exceeded}
 use Rattle.spec_value.specs.Answer.{truth}
-use Rattle.spec_world.specs.World.{World, Object, Native, NativeName, move_native, create_native, recycle_native, object_at}
+use Rattle.spec_world.specs.World.{Object, Native, NativeName, move_native, create_native, recycle_native, object_at}
 use Rattle.spec_world.specs.Permissions.{is_wizard, of_object, change_owner, have_child, change_object, administer, may}
 use Rattle.spec_world.specs.VerbsSought.{Sought, find_verb}
 use Rattle.spec_world.specs.Naming.{location_of}
@@ -12,7 +12,7 @@ use Rattle.spec_world.specs.Families.{nowhere, next_object, parent_of, is_below,
 use Rattle.spec_world.specs.Whereabouts.{is_inside, moved}
 use Rattle.spec_moo.specs.Scene.{Scene, in_world}
 use Rattle.spec_moo.specs.Linking.{link_closed}
-use Rattle.spec_moo.specs.NativeEffect.{Caller, NativeEffect, begins, refuses}
+use Rattle.spec_moo.specs.NativeEffect.{Caller, NativeEffect, begins}
 use Rattle.spec_moo.specs.Calling.{verb_call}
 use Rattle.spec_moo.specs.Natives.Rows.{an_object, any_value, Row, in_group, unless, wants, is_valid, is_valid_or_none, answers_with, zero_value, list_value, of_other_kinds}
 

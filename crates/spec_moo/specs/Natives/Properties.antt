@@ -1,9 +1,9 @@
 -- Built-in functions over properties (Programmer's Manual, "Operations on Properties"): `properties` to `clear_property`.
-use Rattle.std.specs.Prelude.{ℤ, Bool, true, false, not, ◌&&◌, ◌||◌, ◌==◌, ◌++◌, List, [], ◌∷◌, is_none, is_some, if◌then◌else◌, Option, Some, None, codes}
+use Rattle.std.specs.Prelude.{ℤ, Bool, true, false, not, ◌&&◌, ◌==◌, ◌++◌, List, [], ◌∷◌, is_none, Option, Some, None, codes}
 use Rattle.std.specs.List.{list_any, list_all}
 use Rattle.spec_value.specs.Datum.{Datum, object, text, list, item, no_data, Text, fold_case, property_not_found, invalid_argument}
 use Rattle.spec_value.specs.Answer.{truth}
-use Rattle.spec_world.specs.World.{World, Object, Slot, object_at}
+use Rattle.spec_world.specs.World.{World, Object, Slot}
 use Rattle.spec_world.specs.Inherit.{slot_at, with_slot}
 use Rattle.spec_world.specs.WellFormed.{folded_names, has_name}
 use Rattle.spec_world.specs.Permissions.{read_slot, write_slot, list_members, change_members, change_owner}

@@ -1,9 +1,9 @@
 -- How a built-in function is called (Programmer's Manual, "Built-in Functions"): the arguments that it takes, and its errors in their order.
-use Rattle.std.specs.Prelude.{ℕ, ◌+◌, ℤ, neg_ℤ, pos, nat_le, Bool, true, false, ◌&&◌, ◌||◌, List, [], ◌∷◌, length, if◌then◌else◌, is_some, Option, Some, None, option_map}
+use Rattle.std.specs.Prelude.{◌+◌, ℤ, neg_ℤ, pos, nat_le, Bool, true, false, ◌&&◌, ◌||◌, List, [], ◌∷◌, length, if◌then◌else◌, is_some, Option, Some, None, option_map}
 use Rattle.std.specs.Ordering.{int_eq}
 use Rattle.spec_value.specs.Datum.{Datum, integer, object, text, list, Data, no_data, item, of_list, Text, ErrorCode, type_mismatch, permission_denied, wrong_argument_count, invalid_argument}
 use Rattle.spec_value.specs.Answer.{gives}
-use Rattle.spec_world.specs.World.{World, Object, object_at}
+use Rattle.spec_world.specs.World.{Object, object_at}
 use Rattle.spec_world.specs.Permissions.{Act, may}
 use Rattle.spec_moo.specs.Properties.{row_of}
 use Rattle.spec_moo.specs.Scene.{Scene}

@@ -1,11 +1,10 @@
 -- Built-in functions over verbs and programs (Programmer's Manual, "Operations Involving Verbs"): `verbs` to `set_verb_code`, and `eval`.
-use Rattle.std.specs.Prelude.{ℕ, zero, suc, ℤ, pos, Bool, true, false, not, ◌&&◌, ◌==◌, ◌++◌, List, [], ◌∷◌, map, if◌then◌else◌, is_some, Option, Some, None, option_map, codes}
-use Rattle.spec_value.specs.Datum.{Datum, integer, object, text, list, Data, no_data, item, of_list, Text, fold_case, same_text, verb_not_found, invalid_argument}
-use Rattle.spec_value.specs.Answer.{truth}
-use Rattle.spec_program.specs.Tree.{Program, the_end}
+use Rattle.std.specs.Prelude.{ℕ, zero, suc, ℤ, pos, Bool, true, false, not, ◌&&◌, ◌++◌, List, [], ◌∷◌, if◌then◌else◌, Option, Some, None, option_map, codes}
+use Rattle.spec_value.specs.Datum.{Datum, integer, object, text, list, Data, no_data, item, Text, fold_case, same_text, verb_not_found, invalid_argument}
+use Rattle.spec_program.specs.Tree.{the_end}
 use Rattle.spec_program.specs.Spelling.{canonical_lines}
 use Rattle.spec_program.specs.ReadPrograms.{Parsed, program, faulty, Fault, parsed, parsed_lines, fault_text}
-use Rattle.spec_world.specs.World.{World, Object, Verb, ObjectPart, no_object, any_object, this_object, PrepositionPart, no_preposition, any_preposition, preposition_set, Native, eval_native, object_at}
+use Rattle.spec_world.specs.World.{Verb, ObjectPart, no_object, any_object, this_object, PrepositionPart, no_preposition, any_preposition, preposition_set, eval_native}
 use Rattle.spec_world.specs.Permissions.{in_place, list_members, change_members, change_owner, read_verb, write_verb, program_verb, evaluate}
 use Rattle.spec_world.specs.VerbNames.{names_in, any_spells}
 use Rattle.spec_world.specs.Prepositions.{Phrase, sets}

@@ -1,21 +1,21 @@
 -- What the server does with a new connection, a line, a connection that ends, and a task that is due (Programmer's Manual, "Server Commands and Database Assumptions").
-use Rattle.std.specs.Prelude.{ℕ, ℤ, pos, neg_ℤ, nat_le, Bool, true, false, ◌&&◌, List, [], ◌∷◌, ◌++◌, if◌then◌else◌, Option, Some, None, codes}
+use Rattle.std.specs.Prelude.{ℕ, ℤ, nat_le, Bool, true, false, ◌&&◌, [], ◌∷◌, if◌then◌else◌, Option, Some, None, codes}
 use Rattle.std.specs.Ordering.{int_eq}
 use Rattle.spec_value.specs.Datum.{Datum, object, text, Data, no_data, item, of_list, Text}
 use Rattle.spec_value.specs.Table.{at, without}
-use Rattle.spec_world.specs.World.{World, Object, Verb, Link, Programming, Call, Start, Task, Waiting, forked, timed, idle, reading_on, frame_entry, object_at}
+use Rattle.spec_world.specs.World.{World, Object, Link, Programming, Call, Start, Task, Waiting, forked, timed, frame_entry, object_at}
 use Rattle.spec_world.specs.Words.{words, expanded}
-use Rattle.spec_world.specs.Links.{connection_object, connection_of, reader_of, open_link, close_link}
+use Rattle.spec_world.specs.Links.{connection_object, reader_of, open_link, close_link}
 use Rattle.spec_world.specs.Naming.{location_of}
 use Rattle.spec_world.specs.VerbsSought.{Sought, Named}
-use Rattle.spec_world.specs.CommandLines.{Parts, Meant, Command, nothing_said, programming, calls_verb, calls_huh, not_understood, command_said}
+use Rattle.spec_world.specs.CommandLines.{Parts, Command, nothing_said, programming, calls_verb, calls_huh, not_understood, command_said}
 use Rattle.spec_moo.specs.Scene.{Scene, in_world, has_ids, next_id, id_taken, enqueued}
 use Rattle.spec_moo.specs.Linking.{link_closed}
 use Rattle.spec_moo.specs.Pending.{Pending, Stop, done}
 use Rattle.spec_moo.specs.Natives.Properties.{as_texts}
 use Rattle.spec_moo.specs.Steps.Outcomes as outcome
 use Rattle.spec_moo.specs.Steps.Outcomes.{Event, line_of, ready_task, Step, Result, Outcome, none, absent, early, opening_scene, comes_to, idle_with}
-use Rattle.spec_moo.specs.Steps.Running.{Ran, run, came_to, told_on, system_task, system, system_call, unnamed, on_system, begun, gone_on}
+use Rattle.spec_moo.specs.Steps.Running.{Ran, run, came_to, told_on, system_task, system, on_system, begun, gone_on}
 use Rattle.spec_moo.specs.Steps.Programming.{says, requested, collected}
 
 -- a foreground task has twice the ticks of a queued one

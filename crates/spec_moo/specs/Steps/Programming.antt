@@ -1,7 +1,7 @@
 -- `.program`: lines that a player types for a verb's code (Programmer's Manual, "Built-in Commands").
-use Rattle.std.specs.Prelude.{ℕ, ℤ, Bool, true, false, not, ◌++◌, List, [], ◌∷◌, if◌then◌else◌, Option, Some, None, codes}
+use Rattle.std.specs.Prelude.{ℕ, ℤ, ◌++◌, List, [], ◌∷◌, if◌then◌else◌, Option, Some, None, codes}
 use Rattle.std.specs.Fmt.{signed_decimal}
-use Rattle.spec_value.specs.Datum.{Datum, text, list, of_list, Text, same_text}
+use Rattle.spec_value.specs.Datum.{list, of_list, Text, same_text}
 use Rattle.spec_value.specs.Answer.{is_allowed}
 use Rattle.spec_program.specs.ReadPrograms.{Parsed, program, faulty, parsed_lines, fault_text}
 use Rattle.spec_world.specs.World.{World, Object, Link, Programming, object_at}

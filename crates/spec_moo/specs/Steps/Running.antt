@@ -1,13 +1,13 @@
 -- A task that a step runs: how it begins, or goes on, and what its end does (Programmer's Manual, "Tasks").
-use Rattle.std.specs.Prelude.{ℕ, ◌-◌, ℤ, pos, neg_ℤ, List, [], ◌∷◌, ◌++◌, Option, Some, None, codes}
+use Rattle.std.specs.Prelude.{ℕ, ◌-◌, ℤ, pos, List, [], ◌∷◌, ◌++◌, Option, Some, None}
 use Rattle.spec_value.specs.Datum.{Datum, Data, Text}
 use Rattle.spec_program.specs.Tree.{Program}
 use Rattle.spec_program.specs.Construct.{of_program}
-use Rattle.spec_world.specs.World.{World, Call, Start, Frame, Entry, frame_entry, native_entry, Task, Waiting, forked, timed, idle, reading_on}
+use Rattle.spec_world.specs.World.{World, Call, Start, Entry, frame_entry, native_entry, Task, Waiting, forked, timed, reading_on}
 use Rattle.spec_world.specs.Links.{connection_of}
 use Rattle.spec_world.specs.VerbsSought.{Sought, find_verb}
 use Rattle.spec_moo.specs.Scene.{Scene, enqueued}
-use Rattle.spec_moo.specs.Pending.{Focus, begin, hand, Pending, Stop, done, raised, out_of_ticks, waiting, killed, going_on}
+use Rattle.spec_moo.specs.Pending.{begin, hand, Pending, Stop, done, raised, out_of_ticks, waiting, killed, going_on}
 use Rattle.spec_moo.specs.Segment.{Ended, segment}
 use Rattle.spec_moo.specs.Telling.{stop_lines}
 use Rattle.spec_moo.specs.Calling.{nowhere, starting}

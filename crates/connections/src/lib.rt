@@ -1,0 +1,10 @@
+//! Links: the threads that read and write sockets, and the rings of lines between them and the server's loop.
+#![tactic(auto)]
+
+pub mod door;
+pub mod lines;
+mod link;
+pub mod links;
+mod reading;
+mod shared;
+mod writing;

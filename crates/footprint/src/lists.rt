@@ -1,0 +1,101 @@
+//! Lists of objects and of names.
+ghost use Rattle.std.specs.Prelude.{◌≡◌, IfOk};
+
+use moo_value::text::Text;
+use std::alloc::{AllocError, Global};
+use std::marker::Model;
+use std::sync::Arc;
+
+/// Objects in their order, shared by their owners: a clone is a count.
+#[derive(Drop)]
+pub struct Objects {
+    items: Arc<Vec<i32>>,
+}
+
+impl Model for Objects {
+    ghost use Rattle.std.specs.Prelude.{List, ℤ};
+    ghost use Rattle.std.specs.Arc.{arc_value};
+    ghost use Rattle.spec_world.specs.WorldCode.{integers_code};
+
+    ghost Value = { List ℤ };
+
+    ghost coded = { integers_code };
+
+    ghost view = { λ a. (arc_value a.items).items };
+}
+
+impl Objects {
+    /// These objects.
+    pub fn new(alloc: Global, objects: Vec<i32>) -> Result<Objects, AllocError>
+        ensures { IfOk result (λ os. os ≡ objects.items) }
+    {
+        Ok(Objects {
+            items: Arc::new(alloc, objects)?,
+        })
+    }
+
+    /// The objects, in their order.
+    pub fn as_slice(&self) -> &[i32]
+        ensures { result.now ≡ self.now }
+    {
+        self.items.as_slice()
+    }
+}
+
+impl Clone for Objects {
+    ghost is_clone = { λ objects copy. copy ≡ objects };
+
+    fn clone(&self) -> Result<Objects, AllocError> {
+        Ok(Objects {
+            items: self.items.clone()?,
+        })
+    }
+}
+
+/// Names in their order, shared by their owners: a clone is a count.
+#[derive(Drop)]
+pub struct Names {
+    items: Arc<Vec<Text>>,
+}
+
+impl Model for Names {
+    ghost use Rattle.std.specs.Prelude.{List};
+    ghost use Rattle.std.specs.Coded.{coded_list};
+    ghost use Rattle.std.specs.Arc.{arc_value};
+    ghost use Rattle.spec_value.specs.Datum.{Text as Characters};
+    ghost use Rattle.spec_world.specs.WorldCode.{text_code};
+
+    ghost Value = { List Characters };
+
+    ghost coded = { coded_list text_code };
+
+    ghost view = { λ a. (arc_value a.items).items };
+}
+
+impl Names {
+    /// These names.
+    pub fn new(alloc: Global, names: Vec<Text>) -> Result<Names, AllocError>
+        ensures { IfOk result (λ ts. ts ≡ names.items) }
+    {
+        Ok(Names {
+            items: Arc::new(alloc, names)?,
+        })
+    }
+
+    /// The names, in their order.
+    pub fn as_slice(&self) -> &[Text]
+        ensures { result.now ≡ self.now }
+    {
+        self.items.as_slice()
+    }
+}
+
+impl Clone for Names {
+    ghost is_clone = { λ names copy. copy ≡ names };
+
+    fn clone(&self) -> Result<Names, AllocError> {
+        Ok(Names {
+            items: self.items.clone()?,
+        })
+    }
+}

@@ -1,0 +1,27 @@
+//! Laws of the machine.
+ghost use Rattle.moo_code.specs.Paths.{CallsWait, IsFound, IsPlaced};
+ghost use Rattle.moo_code.specs.Runs.{RunsEnd, RunsStopAsSegments, TasksGoOn, VerbsBegin};
+ghost use Rattle.moo_code.specs.Stands.{StepsFollow};
+
+/// One instruction does what some turns of the definition do, for every program: the operands, places and handlers of a
+/// machine are told by the definition's own pieces, in the innermost verb and in each that waits.
+pub fn steps()
+    ensures { StepsFollow }
+{}
+
+/// A verb begins so; a task that waited goes on so; every run ends; and where it stops, the segment of the definition
+/// stops, with the same scene and ticks.
+pub fn runs()
+    ensures begins { VerbsBegin }
+    ensures goes_on { TasksGoOn }
+    ensures stops { RunsStopAsSegments }
+    ensures ends { RunsEnd }
+{}
+
+/// The instruction of a construct is found at the path of its pieces, the path leads back to the place of a call, and a
+/// verb that stands at a call of its program waits there.
+pub fn places()
+    ensures found { IsFound }
+    ensures placed { IsPlaced }
+    ensures waits { CallsWait }
+{}

@@ -1,0 +1,8 @@
+//! The one canonical spelling of a program (Programmer's Manual, "The MOO Programming Language", and `verb_code()`).
+#![tactic(auto)]
+
+mod expression;
+mod level;
+mod name;
+pub mod print;
+mod statement;

@@ -1,0 +1,4 @@
+pub mod Sessions
+pub mod Drafts
+pub mod Texts
+pub mod Refusals

@@ -1,0 +1,22 @@
+use Rattle.spec_value.specs.Datum.{of_list}
+use Rattle.moo_value.proofs.Listing.{sound-with_part, up_to}
+use Rattle.moo_value.proofs.value.Value.replace_part.Goals as goal
+
+pub weight_around-others-requires-clause-starts : goal.weight_around-others-requires-clause-starts
+weight_around-others-requires-clause-starts c = rw (c.deref-2.ensures.value, c.deref.ensures) (up_to c.in-List.items.value.items c.args.start (rw (← c.self.view_is, c.in-List.is) at c.requires.starts))
+
+pub weight_around-others-requires-clause-ends : goal.weight_around-others-requires-clause-ends
+weight_around-others-requires-clause-ends c = rw (c.deref-2.ensures.value, c.deref.ensures) (up_to c.in-List.items.value.items c.args.end (rw (← c.self.view_is, c.in-List.is) at c.requires.ends))
+
+pub replace_part-requires-clause-starts : goal.replace_part-requires-clause-starts
+replace_part-requires-clause-starts c = up_to c.in-List.items.value.items c.args.start (rw (← c.self.view_is, c.in-List.is) at c.requires.starts)
+
+pub replace_part-requires-clause-ends : goal.replace_part-requires-clause-ends
+replace_part-requires-clause-ends c = up_to c.in-List.items.value.items c.args.end (rw (← c.self.view_is, c.in-List.is) at c.requires.ends)
+
+pub invariant_of-self-2 : goal.invariant_of-self-2
+invariant_of-self-2 c =
+    let kept = rw c.in-List.is at c.self.invariant in
+    let others = rw (c.deref-2.ensures.value, c.deref.ensures) at c.weight_around-others.ensures in
+    rw c.in_ok-replace_part.ensures (sound-with_part c.in-List.items.value.items c.args.start c.args.end c.in-List.weight c.weight_around-others.result c.weight-added.result c.saturating_add.result
+    c.args.between.now kept c.know_all.ensures others c.weight-added.ensures c.saturating_add.ensures)

@@ -1,0 +1,42 @@
+use moo_printer::print::print;
+use moo_syntax::parse::parse;
+use moo_tree::statement::Tree;
+use std::alloc::{AllocError, Global};
+use std::test::Fail;
+
+// The lines of a program, each with its end.
+pub fn lines_of(alloc: Global, tree: &Tree) -> Result<String, AllocError> {
+    let mut text = String::new(alloc);
+    for line in print(alloc, tree)?.iter() {
+        text.push_str(line.as_str())?;
+        text.push_str("\n")?;
+    }
+    Ok(text)
+}
+
+#[test]
+fn read_and_spelled(rt: HostRuntime) -> Result<(), Fail> {
+    let alloc = rt.alloc();
+    let rows = [
+        ("", ""),
+        (";;", ""),
+        ("return;", "return;\n"),
+        ("return 1+2+3;", "return 1 + 2 + 3;\n"),
+        ("1+(2+3);(1+2)+3;", "1 + (2 + 3);\n1 + 2 + 3;\n"),
+        (
+            "This.n=this.n\n+1;RETURN this.n;",
+            "this.n = this.n + 1;\nreturn this.n;\n",
+        ),
+        ("((a.b)).c=(d.e=1);", "a.b.c = d.e = 1;\n"),
+        ("(a+b).c;", "(a + b).c;\n"),
+        ("2147483648;", "2147483648;\n"),
+    ];
+    for (text, expected) in rows.iter() {
+        let tree = parse(alloc, text.as_bytes())?;
+        let lines = lines_of(alloc, &tree)?;
+        assert_eq!(rt; lines.as_str(), *expected, "for {text}");
+        let again = parse(alloc, lines.as_bytes())?;
+        assert!(rt; again.same(&tree), "for {text}");
+    }
+    Ok(())
+}

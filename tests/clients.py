@@ -1,0 +1,307 @@
+#!/usr/bin/env python3
+"""clients.py PORT PID [descriptors]: clients of a moo-server over the fixture on this port, whose process is known. Says what went wrong, and ends with
+status 1 then. With `descriptors`, the server has but a few descriptors."""
+import os
+import socket
+import struct
+import sys
+import threading
+import time
+
+port, pid = int(sys.argv[1]), int(sys.argv[2])
+UNKNOWN = b"I couldn't understand that.\r\n"
+failures = 0
+
+
+def fail(text):
+    global failures
+    failures += 1
+    print(f"tests/clients.py: {text}", file=sys.stderr)
+
+
+def wants(name, got, wanted):
+    if got != wanted:
+        fail(f"{name}: got {got!r}, not {wanted!r}")
+
+
+def connect(seconds=5.0):
+    link = socket.create_connection(("127.0.0.1", port), timeout=seconds)
+    link.setsockopt(socket.IPPROTO_TCP, socket.TCP_NODELAY, 1)
+    return link
+
+
+def read(link, count):
+    """So many bytes, or those before the end."""
+    got = b""
+    while len(got) < count:
+        try:
+            piece = link.recv(65536)
+        except (ConnectionResetError, TimeoutError):
+            break
+        if not piece:
+            break
+        got += piece
+    return got
+
+
+def is_shut(link, seconds=5.0):
+    """Whether the server ends the link."""
+    link.settimeout(seconds)
+    try:
+        return link.recv(1) == b""
+    except ConnectionResetError:
+        return True
+    except TimeoutError:
+        return False
+
+
+def answers(link):
+    """Whether this link is told what it asks for: the fixture's links 1 and 2 are."""
+    link.sendall(b"looks\r\n")
+    return read(link, len(UNKNOWN)) == UNKNOWN
+
+
+def settle():
+    """Lets the server see what was closed."""
+    time.sleep(0.3)
+
+
+def status_of(name):
+    with open(f"/proc/{pid}/status") as lines:
+        return int([line for line in lines if line.startswith(name + ":")][0].split()[1])
+
+
+def ticks():
+    with open(f"/proc/{pid}/stat") as line:
+        fields = line.read().rsplit(")", 1)[1].split()
+    return int(fields[11]) + int(fields[12])
+
+
+def lines_and_replies():
+    link = connect()
+    for piece in [b"loo", b"ks\r", b"\n\xff\xfd\x01cou", b"nt\n\xff\xf6LOOKS\n", b"\xff\xfa\x01\r\n\xff\xf0looks\r\0\n"]:
+        link.sendall(piece)
+        time.sleep(0.05)
+    got = read(link, 3 + 7 + 3 * len(UNKNOWN))
+    wants("pieces", sorted(got.replace(b"\xff\xfc\x01", b"WONT\r\n").split(b"\r\n")), sorted([b"WONT", b"[Yes]", b""] + 3 * [UNKNOWN[:-2]]))
+    link.close()
+    settle()
+
+
+def half_closed():
+    """What a list tells reaches a link that its client has half-closed, and then the link ends."""
+    for count in (1, 2, 500):
+        link = connect()
+        link.sendall(count * b"looks\n")
+        link.shutdown(socket.SHUT_WR)
+        wants(f"half-closed after {count}", len(read(link, 1 << 30)), count * len(UNKNOWN))
+        link.close()
+        settle()
+
+
+def in_order():
+    """Replies and lines come whole, and as many as were asked for."""
+    link = connect()
+    link.sendall(300 * b"looks\r\n\xff\xf6")
+    got = read(link, 300 * (len(UNKNOWN) + 7))
+    wants("whole lines", (got.count(UNKNOWN), got.count(b"[Yes]\r\n"), len(got)), (300, 300, 300 * (len(UNKNOWN) + 7)))
+    link.close()
+    settle()
+
+
+def numbers():
+    """A socket gets the least number that is free; the fixture's links are 1 and 2."""
+    one, two, three = connect(), connect(), connect()
+    settle()
+    if not (answers(one) and answers(two)):
+        fail("the first two links are not told anything")
+    three.settimeout(0.3)
+    if answers(three):
+        fail("a third link is told something")
+    two.close()
+    settle()
+    four = connect()
+    if not answers(four):
+        fail("the number of a link that was closed is not given again")
+    for link in (one, three, four):
+        link.close()
+    settle()
+
+
+def crowd():
+    """64 links, a 65th, and a place that comes free."""
+    links = []
+    for _ in range(64):
+        links.append(connect())
+        time.sleep(0.005)
+    settle()
+    if not (answers(links[0]) and answers(links[1])):
+        fail("with 64 links the first two are not told anything")
+    extra = connect()
+    if not is_shut(extra):
+        fail("a 65th socket is not refused")
+    extra.close()
+    for _ in range(5):
+        links[0].close()
+        settle()
+        links[0] = connect()
+        if not answers(links[0]):
+            fail("with 64 links and one that has ended, a new one finds no place")
+    for link in links:
+        link.close()
+    settle()
+    link = connect()
+    if not answers(link):
+        fail("after a crowd the first link is not told anything")
+    link.close()
+    settle()
+
+
+def beside(name, action):
+    """Another link is answered while this goes on."""
+    other = connect()
+    wrong, over = [], threading.Event()
+
+    def ask():
+        while not over.is_set():
+            start = time.monotonic()
+            if not answers(other):
+                wrong.append("no answer")
+                return
+            if time.monotonic() - start > 3:
+                wrong.append("an answer after more than 3 s")
+            time.sleep(0.01)
+
+    thread = threading.Thread(target=ask)
+    thread.start()
+    action()
+    over.set()
+    thread.join()
+    for text in wrong[:1]:
+        fail(f"{name}: another link gets {text}")
+    other.close()
+    settle()
+
+
+def never_reads():
+    """A client that sends and never reads is cut."""
+    link = connect(10.0)
+    sent, end = 0, time.monotonic() + 60
+    try:
+        while time.monotonic() < end:
+            link.sendall(1000 * b"looks\r\n")
+            sent += 1000
+        fail(f"a client that never reads goes on after {sent} lines")
+    except TimeoutError:
+        fail(f"a client that never reads waits after {sent} lines")
+    except (ConnectionResetError, BrokenPipeError):
+        pass
+    link.close()
+
+
+def no_line_end():
+    """100 MB without a line end: memory stays flat."""
+    link, blob = connect(20.0), (1 << 20) * b"x"
+    for _ in range(100):
+        link.sendall(blob)
+    resident = status_of("VmRSS")
+    link.sendall(b"\r\n")
+    wants("100 MB without a line end", read(link, len(UNKNOWN)), UNKNOWN)
+    if resident > 20_000:
+        fail(f"100 MB without a line end: {resident} kB are resident")
+    link.close()
+
+
+def replies_never_read():
+    """A client that asks for replies and never reads waits, and takes neither memory nor time."""
+    link = connect(2.0)
+    try:
+        for _ in range(2000):
+            link.sendall(5000 * b"\xff\xf6")
+        fail("replies that nobody reads: the client never waits")
+    except TimeoutError:
+        pass
+    before = ticks()
+    time.sleep(1)
+    if ticks() - before > 20:
+        fail("replies that nobody reads take time")
+    if status_of("VmRSS") > 20_000:
+        fail(f"replies that nobody reads: {status_of('VmRSS')} kB are resident")
+    link.close()
+
+
+def resets():
+    """Clients that reset their sockets."""
+    for text in (b"", b"loo", 200 * b"looks\r\n"):
+        for _ in range(20):
+            link = connect()
+            link.setsockopt(socket.SOL_SOCKET, socket.SO_LINGER, struct.pack("ii", 1, 0))
+            link.sendall(text)
+            link.close()
+    settle()
+    link = connect()
+    if not answers(link):
+        fail("after resets the first link is not told anything")
+    link.close()
+    settle()
+
+
+def noise():
+    """Any bytes."""
+    for _ in range(20):
+        link = connect()
+        try:
+            link.sendall(os.urandom(20000))
+        except (ConnectionResetError, BrokenPipeError):
+            fail("noise ends a link")
+        link.close()
+    settle()
+
+
+def idle():
+    """No time is taken where nothing comes, and no thread is left of links that have ended."""
+    link = connect()
+    answers(link)
+    settle()
+    before = ticks()
+    time.sleep(3)
+    wants("ticks of 3 idle seconds", ticks() - before, 0)
+    wants("threads with one link", status_of("Threads"), 5)
+    link.close()
+    settle()
+    wants("threads with no link", status_of("Threads"), 3)
+
+
+def few_descriptors():
+    """More sockets than the server has descriptors for: links that are open go on, and new ones get in when others are closed."""
+    links = [connect(), connect()]
+    settle()
+    links += [connect() for _ in range(30)]
+    settle()
+    if not (answers(links[0]) and answers(links[1])):
+        fail("without descriptors the first two links are not told anything")
+    for link in links:
+        link.close()
+    time.sleep(1)
+    link = connect()
+    if not answers(link):
+        fail("with descriptors again a new link is not told anything")
+    link.close()
+
+
+if sys.argv[3:] == ["descriptors"]:
+    few_descriptors()
+else:
+    lines_and_replies()
+    half_closed()
+    in_order()
+    numbers()
+    crowd()
+    beside("never reads", never_reads)
+    beside("no line end", no_line_end)
+    beside("replies", replies_never_read)
+    beside("resets", resets)
+    beside("noise", noise)
+    if os.path.exists(f"/proc/{pid}/stat"):
+        idle()
+sys.exit(failures > 0)

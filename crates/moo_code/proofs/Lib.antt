@@ -14,3 +14,4 @@ pub mod Suiting
 pub mod Rows
 pub mod Runs
 pub mod Paths
+pub mod Lasting

@@ -7,3 +7,4 @@ pub mod Stands
 pub mod Runs
 pub mod Paths
 pub mod Opened
+pub mod Lasting

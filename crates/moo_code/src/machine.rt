@@ -1,4 +1,5 @@
 //! Laws of the machine.
+ghost use Rattle.moo_code.specs.Lasting.{RunsLast, StepsFall, TurnsSuffice};
 ghost use Rattle.moo_code.specs.Paths.{CallsWait, IsFound, IsPlaced};
 ghost use Rattle.moo_code.specs.Runs.{RunsEnd, RunsStopAsSegments, TasksGoOn, VerbsBegin};
 ghost use Rattle.moo_code.specs.Stands.{StepsFollow};
@@ -24,4 +25,12 @@ pub fn places()
     ensures found { IsFound }
     ensures placed { IsPlaced }
     ensures waits { CallsWait }
+{}
+
+/// As many instructions as a segment has turns end a run; and the number of those before its end falls with each, which is
+/// the measure of a loop over instructions.
+pub fn lasts()
+    ensures turns { TurnsSuffice }
+    ensures over { RunsLast }
+    ensures falls { StepsFall }
 {}

@@ -15,3 +15,5 @@ pub mod Rows
 pub mod Runs
 pub mod Paths
 pub mod Lasting
+pub mod Slots
+pub mod ProgramNames

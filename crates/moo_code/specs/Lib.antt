@@ -8,3 +8,4 @@ pub mod Runs
 pub mod Paths
 pub mod Opened
 pub mod Lasting
+pub mod Slots

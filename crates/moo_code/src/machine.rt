@@ -2,6 +2,7 @@
 ghost use Rattle.moo_code.specs.Lasting.{RunsLast, StepsFall, TurnsSuffice};
 ghost use Rattle.moo_code.specs.Paths.{CallsWait, IsFound, IsPlaced};
 ghost use Rattle.moo_code.specs.Runs.{RunsEnd, RunsStopAsSegments, TasksGoOn, VerbsBegin};
+ghost use Rattle.moo_code.specs.Slots.{CodeNamed, EmptySlots, HandlersNamed, NamesOnce, OthersHaveNone, SlotIsSet, SlotIsVariable, SlotsStart, VariablesSorted};
 ghost use Rattle.moo_code.specs.Stands.{StepsFollow};
 
 /// One instruction does what some turns of the definition do, for every program: the operands, places and handlers of a
@@ -33,4 +34,23 @@ pub fn lasts()
     ensures turns { TurnsSuffice }
     ensures over { RunsLast }
     ensures falls { StepsFall }
+{}
+
+/// Slots in the order of a list of names stand for a table of variables: reading a slot is looking its name up, writing one
+/// is giving its name the value, other names have none, and slots without values are the empty table.
+pub fn slots()
+    ensures sorted { VariablesSorted }
+    ensures read { SlotIsVariable }
+    ensures others { OthersHaveNone }
+    ensures written { SlotIsSet }
+    ensures empty { EmptySlots }
+{}
+
+/// Each name of a program stands once in its list, with those of every instruction and handler; and a verb starts with the
+/// first slots filled and no others.
+pub fn names()
+    ensures once { NamesOnce }
+    ensures code { CodeNamed }
+    ensures handlers { HandlersNamed }
+    ensures start { SlotsStart }
 {}

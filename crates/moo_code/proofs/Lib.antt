@@ -17,3 +17,4 @@ pub mod Paths
 pub mod Lasting
 pub mod Slots
 pub mod ProgramNames
+pub mod Operands

@@ -9,3 +9,4 @@ pub mod Paths
 pub mod Opened
 pub mod Lasting
 pub mod Slots
+pub mod Operands

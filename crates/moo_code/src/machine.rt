@@ -1,5 +1,6 @@
 //! Laws of the machine.
 ghost use Rattle.moo_code.specs.Lasting.{RunsLast, StepsFall, TurnsSuffice};
+ghost use Rattle.moo_code.specs.Operands.{ListBegins, ListIsSpliced, ListReceives, OperandsAreThere, OthersFail, ValueStays};
 ghost use Rattle.moo_code.specs.Paths.{CallsWait, IsFound, IsPlaced};
 ghost use Rattle.moo_code.specs.Runs.{RunsEnd, RunsStopAsSegments, TasksGoOn, VerbsBegin};
 ghost use Rattle.moo_code.specs.Slots.{CodeNamed, EmptySlots, HandlersNamed, NamesOnce, OthersHaveNone, SlotIsSet, SlotIsVariable, SlotsStart, VariablesSorted};
@@ -53,4 +54,15 @@ pub fn names()
     ensures code { CodeNamed }
     ensures handlers { HandlersNamed }
     ensures start { SlotsStart }
+{}
+
+/// What receives a value on the stack: the list on the top gets it, or its items, where it is a list; a list begins above it,
+/// or it stays beside others. And in a machine that stands for pending work each instruction finds its operands.
+pub fn operands()
+    ensures listed { ListReceives }
+    ensures spliced { ListIsSpliced }
+    ensures others { OthersFail }
+    ensures begins { ListBegins }
+    ensures stays { ValueStays }
+    ensures there { OperandsAreThere }
 {}

@@ -18,3 +18,4 @@ pub mod Lasting
 pub mod Slots
 pub mod ProgramNames
 pub mod Operands
+pub mod Rebuilding

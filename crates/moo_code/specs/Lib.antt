@@ -10,3 +10,4 @@ pub mod Opened
 pub mod Lasting
 pub mod Slots
 pub mod Operands
+pub mod Rebuilding

@@ -2,6 +2,7 @@
 ghost use Rattle.moo_code.specs.Lasting.{RunsLast, StepsFall, TurnsSuffice};
 ghost use Rattle.moo_code.specs.Operands.{ListBegins, ListIsSpliced, ListReceives, OperandsAreThere, OthersFail, ValueStays};
 ghost use Rattle.moo_code.specs.Paths.{CallsWait, IsFound, IsPlaced};
+ghost use Rattle.moo_code.specs.Rebuilding.{EntriesRebuilt, FramesRebuilt, PiecesComeBack};
 ghost use Rattle.moo_code.specs.Runs.{RunsEnd, RunsStopAsSegments, TasksGoOn, VerbsBegin};
 ghost use Rattle.moo_code.specs.Slots.{CodeNamed, EmptySlots, HandlersNamed, NamesOnce, OthersHaveNone, SlotIsSet, SlotIsVariable, SlotsStart, VariablesSorted};
 ghost use Rattle.moo_code.specs.Stands.{StepsFollow};
@@ -65,4 +66,12 @@ pub fn operands()
     ensures begins { ListBegins }
     ensures stays { ValueStays }
     ensures there { OperandsAreThere }
+{}
+
+/// The place and the operands of a verb that waits at a call give its pieces back, the path is that of its pieces, and leads
+/// to its place; and so all that a machine waits with is what the definition has.
+pub fn rebuilding()
+    ensures pieces { PiecesComeBack }
+    ensures frames { FramesRebuilt }
+    ensures entries { EntriesRebuilt }
 {}

@@ -19,3 +19,4 @@ pub mod Slots
 pub mod ProgramNames
 pub mod Operands
 pub mod Rebuilding
+pub mod Bounds

@@ -11,3 +11,4 @@ pub mod Lasting
 pub mod Slots
 pub mod Operands
 pub mod Rebuilding
+pub mod Bounds

@@ -1,4 +1,5 @@
 //! Laws of the machine.
+ghost use Rattle.moo_code.specs.Bounds.{BegunEnds, ResumedEnds};
 ghost use Rattle.moo_code.specs.Lasting.{RunsLast, StepsFall, TurnsSuffice};
 ghost use Rattle.moo_code.specs.Operands.{ListBegins, ListIsSpliced, ListReceives, OperandsAreThere, OthersFail, ValueStays};
 ghost use Rattle.moo_code.specs.Paths.{CallsWait, IsFound, IsPlaced};
@@ -74,4 +75,11 @@ pub fn rebuilding()
     ensures pieces { PiecesComeBack }
     ensures frames { FramesRebuilt }
     ensures entries { EntriesRebuilt }
+{}
+
+/// The instructions of a run are bounded by a number that is computed from the machine alone, where a verb begins and where a
+/// task goes on that waited.
+pub fn bounds()
+    ensures begun { BegunEnds }
+    ensures resumed { ResumedEnds }
 {}

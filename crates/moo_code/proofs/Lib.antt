@@ -20,3 +20,4 @@ pub mod ProgramNames
 pub mod Operands
 pub mod Rebuilding
 pub mod Bounds
+pub mod Resuming

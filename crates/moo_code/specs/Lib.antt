@@ -12,3 +12,4 @@ pub mod Slots
 pub mod Operands
 pub mod Rebuilding
 pub mod Bounds
+pub mod Resuming

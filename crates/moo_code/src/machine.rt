@@ -4,6 +4,7 @@ ghost use Rattle.moo_code.specs.Lasting.{RunsLast, StepsFall, TurnsSuffice};
 ghost use Rattle.moo_code.specs.Operands.{ListBegins, ListIsSpliced, ListReceives, OperandsAreThere, OthersFail, ValueStays};
 ghost use Rattle.moo_code.specs.Paths.{CallsWait, IsFound, IsPlaced};
 ghost use Rattle.moo_code.specs.Rebuilding.{EntriesRebuilt, FramesRebuilt, PiecesComeBack};
+ghost use Rattle.moo_code.specs.Resuming.{FittingCounted, OutersOnly, OutersWait};
 ghost use Rattle.moo_code.specs.Runs.{RunsEnd, RunsStopAsSegments, TasksGoOn, VerbsBegin};
 ghost use Rattle.moo_code.specs.Slots.{CodeNamed, EmptySlots, HandlersNamed, NamesOnce, OthersHaveNone, SlotIsSet, SlotIsVariable, SlotsStart, VariablesSorted};
 ghost use Rattle.moo_code.specs.Stands.{StepsFollow};
@@ -82,4 +83,12 @@ pub fn rebuilding()
 pub fn bounds()
     ensures begun { BegunEnds }
     ensures resumed { ResumedEnds }
+{}
+
+/// The machine of a task that waits is told by what the definition keeps of it, and no other stands for it; the pieces of a
+/// well-formed task hold as many values as they have to.
+pub fn resuming()
+    ensures waits { OutersWait }
+    ensures only { OutersOnly }
+    ensures counted { FittingCounted }
 {}

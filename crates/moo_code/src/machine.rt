@@ -6,7 +6,7 @@ ghost use Rattle.moo_code.specs.Paths.{CallsWait, IsFound, IsPlaced};
 ghost use Rattle.moo_code.specs.Rebuilding.{EntriesRebuilt, FramesRebuilt, PiecesComeBack};
 ghost use Rattle.moo_code.specs.Resuming.{FittingCounted, OutersOnly, OutersWait};
 ghost use Rattle.moo_code.specs.Runs.{RunsEnd, RunsStopAsSegments, TasksGoOn, VerbsBegin};
-ghost use Rattle.moo_code.specs.Slots.{CodeNamed, EmptySlots, HandlersNamed, NamesOnce, OthersHaveNone, SlotIsSet, SlotIsVariable, SlotsStart, VariablesSorted};
+ghost use Rattle.moo_code.specs.Slots.{CodeNamed, EmptySlots, HandlersNamed, NameHasSlot, NamesOnce, OneSlotForName, OthersHaveNone, SlotIsSet, SlotIsVariable, SlotsStart, VariablesSorted};
 ghost use Rattle.moo_code.specs.Stands.{StepsFollow};
 
 /// One instruction does what some turns of the definition do, for every program: the operands, places and handlers of a
@@ -41,13 +41,15 @@ pub fn lasts()
 {}
 
 /// Slots in the order of a list of names stand for a table of variables: reading a slot is looking its name up, writing one
-/// is giving its name the value, other names have none, and slots without values are the empty table.
+/// is giving its name the value, other names have none, and slots without values are the empty table. A name has one slot.
 pub fn slots()
     ensures sorted { VariablesSorted }
     ensures read { SlotIsVariable }
     ensures others { OthersHaveNone }
     ensures written { SlotIsSet }
     ensures empty { EmptySlots }
+    ensures found { NameHasSlot }
+    ensures once { OneSlotForName }
 {}
 
 /// Each name of a program stands once in its list, with those of every instruction and handler; and a verb starts with the

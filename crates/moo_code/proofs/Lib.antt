@@ -14,3 +14,10 @@ pub mod Suiting
 pub mod Rows
 pub mod Runs
 pub mod Paths
+pub mod Lasting
+pub mod Slots
+pub mod ProgramNames
+pub mod Operands
+pub mod Rebuilding
+pub mod Bounds
+pub mod Resuming

@@ -24,7 +24,7 @@ past_out zero o m e = let d : m ≡ o = omega (arith, e) in ap Some d
 past_out (suc k) o zero e = absurd (omega (arith, e))
 past_out (suc k) o (suc m) e = past_out k o m (omega (arith, e))
 
-abbrev counted : ℕ → ℕ → ℕ
+abbrev pub counted : ℕ → ℕ → ℕ
 counted zero n = n
 counted (suc j) n = counted j (suc n)
 
@@ -33,7 +33,7 @@ counted_is zero n = omega arith
 counted_is (suc j) n = let e = counted_is j (suc n) in omega (arith, e)
 
 -- behind a part
-find_past : (n : ℕ) (k : Link) (a l : Layout) (o m : ℕ) → o ≡ front k + (size a + (reception_size k.reception + m)) → find n (inner k a l) o ≡ find (suc n) l m
+pub find_past : (n : ℕ) (k : Link) (a l : Layout) (o m : ℕ) → o ≡ front k + (size a + (reception_size k.reception + m)) → find n (inner k a l) o ≡ find (suc n) l m
 find_past n k a l o m e =
     ap (λ x. in_or_past x (Some (n ∷ [])) (λ i. in_or_past (past (size a) i) (below n (find 1 a i)) (λ j. in_or_past (past (reception_size k.reception) j) (Some []) (λ m. find (suc n) l m)))) (past_out (front k) (size a + (reception_size k.reception + m)) o e)
     ∙ ap (λ x. in_or_past x (below n (find 1 a (size a + (reception_size k.reception + m)))) (λ j. in_or_past (past (reception_size k.reception) j) (Some []) (λ m. find (suc n) l m))) (past_out (size a) (reception_size k.reception + m) (size a + (reception_size k.reception + m)) refl)
@@ -108,7 +108,7 @@ is_placed p c ps h = ap (last_at outermost (of_program p)) (sym (append-nil (pat
 
 -- ---- calls
 
-rest_arguments : (x : Around) (k : ℕ) (u : Unraised) (es : Arguments) (l : Layout) → rest (argument_count es) (arguments_layout x k u es l) ≡ l
+pub rest_arguments : (x : Around) (k : ℕ) (u : Unraised) (es : Arguments) (l : Layout) → rest (argument_count es) (arguments_layout x k u es l) ≡ l
 rest_arguments x k u no_arguments l = refl
 rest_arguments x k u (argument e more) l = rest_arguments x k u more l
 rest_arguments x k u (splice e more) l = rest_arguments x k u more l

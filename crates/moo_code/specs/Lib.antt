@@ -7,3 +7,9 @@ pub mod Stands
 pub mod Runs
 pub mod Paths
 pub mod Opened
+pub mod Lasting
+pub mod Slots
+pub mod Operands
+pub mod Rebuilding
+pub mod Bounds
+pub mod Resuming

@@ -8,3 +8,4 @@ pub mod Tokens
 pub mod Reading
 pub mod ReadExpressions
 pub mod ReadPrograms
+pub mod Remaining

@@ -1,0 +1,14 @@
+//! Laws of reading tokens as expressions and programs.
+ghost use Rattle.spec_program.specs.Remaining.{EnoughForExpression, ExpressionConsumes, EnoughForArguments, EnoughForSteps, EnoughForItems, EnoughForOperators, PartsConsume};
+
+/// Any number greater than that of the tokens reads an expression and its parts, and what is left is an end of the tokens.
+#[tactic(auto, using(crate::proofs::AlikeExpressions::enough_for_expression, crate::proofs::AlikeExpressions::expression_consumes, crate::proofs::AlikeExpressions::enough_for_arguments, crate::proofs::AlikeExpressions::enough_for_steps, crate::proofs::AlikeExpressions::enough_for_items, crate::proofs::AlikeExpressions::enough_for_operators))]
+pub fn expressions()
+    ensures expression { EnoughForExpression }
+    ensures consumed { ExpressionConsumes }
+    ensures arguments { EnoughForArguments }
+    ensures steps { EnoughForSteps }
+    ensures items { EnoughForItems }
+    ensures operators { EnoughForOperators }
+    ensures parts { PartsConsume }
+{}

@@ -1,8 +1,9 @@
 -- What a reader leaves of the tokens that it was given: an end of them, and where it found something, a shorter one.
-use Rattle.std.specs.Prelude.{ℕ, ◌<◌, ◌≡◌, Bool, List, ◌∷◌, length}
+use Rattle.std.specs.Prelude.{ℕ, suc, ◌<◌, ◌≡◌, Bool, List, ◌∷◌, length}
 use Rattle.spec_program.specs.Tokens.{Placed}
 use Rattle.spec_program.specs.Reading.{Read, got, stuck}
 use Rattle.spec_program.specs.ReadExpressions.{Found, Operand, Allowed, some_arguments, steps, items_from, operators, expression}
+use Rattle.spec_program.specs.ReadPrograms.{branches, arms, block, parsed_by, parsed_tokens}
 
 -- `Ends us ts`: us is what is left of ts past some of its tokens
 pub data Ends : List Placed → List Placed → Type 0 where
@@ -66,3 +67,32 @@ PartsConsume =
     × ((a : Allowed) → Consumes ts (items_from n (expression i) b a ts))
     × ((o : Operand) → Leaves ts (steps n (expression i) b o ts))
     × ((k : ℕ) (a : Found) → Leaves ts (operators n (expression i) b k a ts))
+
+-- ---- of statements: a block may stand in no token, and its number is greater by one
+
+abbrev pub EnoughForBlock : Type 0
+EnoughForBlock = (n m : ℕ) (ts : List Placed) → suc (length ts) < n → suc (length ts) < m → block n ts ≡ block m ts
+
+abbrev pub BlockLeaves : Type 0
+BlockLeaves = (n : ℕ) (ts : List Placed) → suc (length ts) < n → Leaves ts (block n ts)
+
+abbrev pub EnoughForBranches : Type 0
+EnoughForBranches =
+    (n m i j q r : ℕ) (ts : List Placed)
+    → Both n i ts → Both m j ts → suc (length ts) < q → suc (length ts) < r
+    → branches n (expression i) (block q) ts ≡ branches m (expression j) (block r) ts
+
+abbrev pub EnoughForArms : Type 0
+EnoughForArms =
+    (n m i j q r : ℕ) (ts : List Placed)
+    → Both n i ts → Both m j ts → suc (length ts) < q → suc (length ts) < r
+    → arms n (expression i) (block q) ts ≡ arms m (expression j) (block r) ts
+
+abbrev pub StatementPartsConsume : Type 0
+StatementPartsConsume =
+    (n i q : ℕ) (ts : List Placed) → Both n i ts → suc (length ts) < q
+    → Consumes ts (branches n (expression i) (block q) ts) × Consumes ts (arms n (expression i) (block q) ts)
+
+-- a whole text is read alike with each number that is enough
+abbrev pub EnoughForText : Type 0
+EnoughForText = (n : ℕ) (ts : List Placed) → suc (length ts) < n → parsed_tokens ts ≡ parsed_by ts (block n ts)

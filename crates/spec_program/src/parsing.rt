@@ -12,3 +12,15 @@ pub fn expressions()
     ensures operators { EnoughForOperators }
     ensures parts { PartsConsume }
 {}
+
+ghost use Rattle.spec_program.specs.Remaining.{EnoughForBlock, BlockLeaves, EnoughForBranches, EnoughForArms, StatementPartsConsume, EnoughForText};
+
+/// Any number greater by two than that of the tokens reads statements and a whole text, and what is left is an end of the tokens.
+pub fn statements()
+    ensures block { EnoughForBlock }
+    ensures left { BlockLeaves }
+    ensures branches { EnoughForBranches }
+    ensures arms { EnoughForArms }
+    ensures parts { StatementPartsConsume }
+    ensures text { EnoughForText }
+{}

@@ -1,3 +1,4 @@
 pub mod Alike
 pub mod AlikeExpressions
 pub mod AlikePrograms
+pub mod MovesHold

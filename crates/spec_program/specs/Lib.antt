@@ -9,3 +9,5 @@ pub mod Reading
 pub mod ReadExpressions
 pub mod ReadPrograms
 pub mod Remaining
+pub mod Frames
+pub mod Moves

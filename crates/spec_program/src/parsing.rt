@@ -24,3 +24,29 @@ pub fn statements()
     ensures parts { StatementPartsConsume }
     ensures text { EnoughForText }
 {}
+
+ghost use Rattle.spec_program.specs.Moves.{ExpressionAgain, ArgumentsAgain, StepsAgain, ItemsAgain, OperatorsAgain, BlockAgain, BranchesAgain, ArmsAgain};
+
+/// With a number that is enough each reader goes on with the same number, so that the number plays no part.
+pub fn readers()
+    ensures expression { ExpressionAgain }
+    ensures arguments { ArgumentsAgain }
+    ensures steps { StepsAgain }
+    ensures items { ItemsAgain }
+    ensures operators { OperatorsAgain }
+    ensures block { BlockAgain }
+    ensures branches { BranchesAgain }
+    ensures arms { ArmsAgain }
+{}
+
+ghost use Rattle.spec_program.specs.Moves.{PushIsThen, ExpressionMove, OperandMovesHold, ArgumentMovesHold, OperatorMovesHold, OperatorsEnd};
+
+/// A frame more is what is read and then the frame, and the moves of a machine over frames keep what they mean.
+pub fn moves()
+    ensures push { PushIsThen }
+    ensures expression { ExpressionMove }
+    ensures operands { OperandMovesHold }
+    ensures arguments { ArgumentMovesHold }
+    ensures operators { OperatorMovesHold }
+    ensures end { OperatorsEnd }
+{}

@@ -2,3 +2,4 @@ pub mod Alike
 pub mod AlikeExpressions
 pub mod AlikePrograms
 pub mod MovesHold
+pub mod FurtherMovesHold

@@ -72,13 +72,13 @@ pub push_is_then : PushIsThen
 push_is_then a c n f fs (got v ts) = refl
 push_is_then a c n f fs (stuck ts) = refl
 
-pushed : {a c : Kind} (n : ℕ) (f : Frame a c) (fs : Frames c) (r : Read (Of a)) → means n fs (and_then r (resume n f)) ≡ means n (push f fs) r
+pub pushed : {a c : Kind} (n : ℕ) (f : Frame a c) (fs : Frames c) (r : Read (Of a)) → means n fs (and_then r (resume n f)) ≡ means n (push f fs) r
 pushed {a} {c} n f fs r = sym (push_is_then a c n f fs r)
 
-sign_there : {X : Type 0} (s : Sign) (f g : List Placed → Read X) (p : Placed) (ts : List Placed) → is_sign s p.token ≡ true → if_sign s f g (p ∷ ts) ≡ f ts
+pub sign_there : {X : Type 0} (s : Sign) (f g : List Placed → Read X) (p : Placed) (ts : List Placed) → is_sign s p.token ≡ true → if_sign s f g (p ∷ ts) ≡ f ts
 sign_there s f g p ts e = ap (λ c. chosen c f g ts (p ∷ ts)) e
 
-sign_absent : {X : Type 0} (s : Sign) (f g : List Placed → Read X) (ts : List Placed) → begins_with s ts ≡ false → if_sign s f g ts ≡ g ts
+pub sign_absent : {X : Type 0} (s : Sign) (f g : List Placed → Read X) (ts : List Placed) → begins_with s ts ≡ false → if_sign s f g ts ≡ g ts
 sign_absent s f g [] e = refl
 sign_absent s f g (p ∷ ts) e = ap (λ c. chosen c f g ts (p ∷ ts)) e
 

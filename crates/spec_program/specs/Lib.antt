@@ -11,3 +11,4 @@ pub mod ReadPrograms
 pub mod Remaining
 pub mod Frames
 pub mod Moves
+pub mod FurtherMoves

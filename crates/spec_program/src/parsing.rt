@@ -50,3 +50,14 @@ pub fn moves()
     ensures operators { OperatorMovesHold }
     ensures end { OperatorsEnd }
 {}
+
+ghost use Rattle.spec_program.specs.FurtherMoves.{StepMovesHold, StepEndsHold, VariableMove, ValueMovesHold, BarMove};
+
+/// So do the moves behind an operand: properties, verbs, indexes and calls, assignments, and the two parts of a choice.
+pub fn further_moves()
+    ensures steps { StepMovesHold }
+    ensures ends { StepEndsHold }
+    ensures variable { VariableMove }
+    ensures values { ValueMovesHold }
+    ensures bar { BarMove }
+{}

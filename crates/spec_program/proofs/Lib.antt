@@ -3,3 +3,4 @@ pub mod AlikeExpressions
 pub mod AlikePrograms
 pub mod MovesHold
 pub mod FurtherMovesHold
+pub mod BracedMovesHold

@@ -12,3 +12,4 @@ pub mod Remaining
 pub mod Frames
 pub mod Moves
 pub mod FurtherMoves
+pub mod BracedMoves

@@ -61,3 +61,14 @@ pub fn further_moves()
     ensures values { ValueMovesHold }
     ensures bar { BarMove }
 {}
+
+ghost use Rattle.spec_program.specs.BracedMoves.{BraceMovesHold, ItemMovesHold, CodeMovesHold, CatchMovesHold, SystemMovesHold};
+
+/// So do those within braces, between a back quote and a quote, and behind `$`.
+pub fn braced_moves()
+    ensures braces { BraceMovesHold }
+    ensures items { ItemMovesHold }
+    ensures codes { CodeMovesHold }
+    ensures catches { CatchMovesHold }
+    ensures system { SystemMovesHold }
+{}

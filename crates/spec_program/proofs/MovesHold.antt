@@ -99,6 +99,8 @@ operand_moves n b k line ts fs =
       name = λ x. pushed n (f.steps_behind b) fs (by.word_first n (expression n) b x line ts);
       number = λ i. pushed n (f.steps_behind b) fs (by.literal_at line (value.integer (by.integer_value i)) ts);
       string = λ x. pushed n (f.steps_behind b) fs (by.literal_at line (value.text x) ts);
+      object = λ below i. pushed n (f.steps_behind b) fs (by.literal_at line (value.object (by.object_value below i)) ts);
+      error_name = λ e. pushed n (f.steps_behind b) fs (by.literal_at line (value.error e) ts);
     }
   where
     in_order : (r : Read Found)

@@ -1,7 +1,7 @@
 -- Each move of a machine over frames keeps what they mean: of a number that is enough, nothing is left in the laws but that it is.
 use Rattle.std.specs.Prelude.{ℕ, suc, ◌<◌, ◌≡◌, nat_le, Bool, true, false, List, [], ◌∷◌, length}
 use Rattle.spec_value.specs.Datum as value
-use Rattle.spec_value.specs.Datum.{Text}
+use Rattle.spec_value.specs.Datum.{Text, ErrorCode}
 use Rattle.spec_value.specs.Operators.{negation, not_true, BinaryOperator}
 use Rattle.spec_program.specs.Spelling.{operator_level, right_level}
 use Rattle.spec_program.specs.Tokens as t
@@ -104,6 +104,13 @@ pub record OperandMoves (n : ℕ) (b : Bool) (k line : ℕ) (ts : List Placed) (
   pub string :
       (x : Text)
       → means n fs (by.operand n (expression n) b k (at line (t.string x) ∷ ts)) ≡ means n (push (f.steps_behind b) fs) (by.literal_at line (value.text x) ts)
+  pub object :
+      (below : Bool) (i : ℕ)
+      → means n fs (by.operand n (expression n) b k (at line (t.object below i) ∷ ts))
+      ≡ means n (push (f.steps_behind b) fs) (by.literal_at line (value.object (by.object_value below i)) ts)
+  pub error_name :
+      (e : ErrorCode)
+      → means n fs (by.operand n (expression n) b k (at line (t.error_name e) ∷ ts)) ≡ means n (push (f.steps_behind b) fs) (by.literal_at line (value.error e) ts)
 
 -- arguments: what is there, and what is behind one
 pub record ArgumentMoves (n : ℕ) (b : Bool) (fs : Frames some_arguments_read) : Type 0 where

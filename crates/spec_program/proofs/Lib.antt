@@ -4,3 +4,4 @@ pub mod AlikePrograms
 pub mod MovesHold
 pub mod FurtherMovesHold
 pub mod BracedMovesHold
+pub mod ItemChoicesHold

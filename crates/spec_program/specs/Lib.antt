@@ -13,3 +13,4 @@ pub mod Frames
 pub mod Moves
 pub mod FurtherMoves
 pub mod BracedMoves
+pub mod ItemChoices

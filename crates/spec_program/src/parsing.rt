@@ -72,3 +72,11 @@ pub fn braced_moves()
     ensures catches { CatchMovesHold }
     ensures system { SystemMovesHold }
 {}
+
+ghost use Rattle.spec_program.specs.ItemChoices.{ListItemsHold, ScatterItemsHold};
+
+/// So do those that tell which item stands within braces.
+pub fn item_choices()
+    ensures lists { ListItemsHold }
+    ensures scatters { ScatterItemsHold }
+{}

@@ -8,3 +8,9 @@ pub mod Tokens
 pub mod Reading
 pub mod ReadExpressions
 pub mod ReadPrograms
+pub mod Remaining
+pub mod Frames
+pub mod Moves
+pub mod FurtherMoves
+pub mod BracedMoves
+pub mod ItemChoices

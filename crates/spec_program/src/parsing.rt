@@ -1,0 +1,82 @@
+//! Laws of reading tokens as expressions and programs.
+ghost use Rattle.spec_program.specs.Remaining.{EnoughForExpression, ExpressionConsumes, EnoughForArguments, EnoughForSteps, EnoughForItems, EnoughForOperators, PartsConsume};
+
+/// Any number greater than that of the tokens reads an expression and its parts, and what is left is an end of the tokens.
+#[tactic(auto, using(crate::proofs::AlikeExpressions::enough_for_expression, crate::proofs::AlikeExpressions::expression_consumes, crate::proofs::AlikeExpressions::enough_for_arguments, crate::proofs::AlikeExpressions::enough_for_steps, crate::proofs::AlikeExpressions::enough_for_items, crate::proofs::AlikeExpressions::enough_for_operators))]
+pub fn expressions()
+    ensures expression { EnoughForExpression }
+    ensures consumed { ExpressionConsumes }
+    ensures arguments { EnoughForArguments }
+    ensures steps { EnoughForSteps }
+    ensures items { EnoughForItems }
+    ensures operators { EnoughForOperators }
+    ensures parts { PartsConsume }
+{}
+
+ghost use Rattle.spec_program.specs.Remaining.{EnoughForBlock, BlockLeaves, EnoughForBranches, EnoughForArms, StatementPartsConsume, EnoughForText};
+
+/// Any number greater by two than that of the tokens reads statements and a whole text, and what is left is an end of the tokens.
+pub fn statements()
+    ensures block { EnoughForBlock }
+    ensures left { BlockLeaves }
+    ensures branches { EnoughForBranches }
+    ensures arms { EnoughForArms }
+    ensures parts { StatementPartsConsume }
+    ensures text { EnoughForText }
+{}
+
+ghost use Rattle.spec_program.specs.Moves.{ExpressionAgain, ArgumentsAgain, StepsAgain, ItemsAgain, OperatorsAgain, BlockAgain, BranchesAgain, ArmsAgain};
+
+/// With a number that is enough each reader goes on with the same number, so that the number plays no part.
+pub fn readers()
+    ensures expression { ExpressionAgain }
+    ensures arguments { ArgumentsAgain }
+    ensures steps { StepsAgain }
+    ensures items { ItemsAgain }
+    ensures operators { OperatorsAgain }
+    ensures block { BlockAgain }
+    ensures branches { BranchesAgain }
+    ensures arms { ArmsAgain }
+{}
+
+ghost use Rattle.spec_program.specs.Moves.{PushIsThen, ExpressionMove, OperandMovesHold, ArgumentMovesHold, OperatorMovesHold, OperatorsEnd};
+
+/// A frame more is what is read and then the frame, and the moves of a machine over frames keep what they mean.
+pub fn moves()
+    ensures push { PushIsThen }
+    ensures expression { ExpressionMove }
+    ensures operands { OperandMovesHold }
+    ensures arguments { ArgumentMovesHold }
+    ensures operators { OperatorMovesHold }
+    ensures end { OperatorsEnd }
+{}
+
+ghost use Rattle.spec_program.specs.FurtherMoves.{StepMovesHold, StepEndsHold, VariableMove, ValueMovesHold, BarMove};
+
+/// So do the moves behind an operand: properties, verbs, indexes and calls, assignments, and the two parts of a choice.
+pub fn further_moves()
+    ensures steps { StepMovesHold }
+    ensures ends { StepEndsHold }
+    ensures variable { VariableMove }
+    ensures values { ValueMovesHold }
+    ensures bar { BarMove }
+{}
+
+ghost use Rattle.spec_program.specs.BracedMoves.{BraceMovesHold, ItemMovesHold, CodeMovesHold, CatchMovesHold, SystemMovesHold};
+
+/// So do those within braces, between a back quote and a quote, and behind `$`.
+pub fn braced_moves()
+    ensures braces { BraceMovesHold }
+    ensures items { ItemMovesHold }
+    ensures codes { CodeMovesHold }
+    ensures catches { CatchMovesHold }
+    ensures system { SystemMovesHold }
+{}
+
+ghost use Rattle.spec_program.specs.ItemChoices.{ListItemsHold, ScatterItemsHold};
+
+/// So do those that tell which item stands within braces.
+pub fn item_choices()
+    ensures lists { ListItemsHold }
+    ensures scatters { ScatterItemsHold }
+{}

@@ -14,3 +14,4 @@ pub mod SegmentWorlds
 pub mod StepWorlds
 pub mod Courses
 pub mod NativeStages
+pub mod OrderKept

@@ -17,5 +17,6 @@ pub mod Standing
 pub mod Laws
 pub mod Telling
 pub mod Steps
+pub mod Variables
 pub mod Worlds
 pub mod Opened

@@ -2,4 +2,5 @@
 #![tactic(auto)]
 
 pub mod segments;
+pub mod variables;
 pub mod worlds;

@@ -8,3 +8,5 @@ pub mod Tokens
 pub mod Reading
 pub mod ReadExpressions
 pub mod ReadPrograms
+pub mod Trees
+pub mod TreeRows

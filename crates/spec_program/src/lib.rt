@@ -1,2 +1,4 @@
 //! The meaning of programs: source trees, and the parts of their constructs, by definitions alone.
 #![tactic(auto)]
+
+pub mod trees;

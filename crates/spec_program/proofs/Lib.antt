@@ -1,0 +1,5 @@
+pub mod ReadFits
+pub mod ExpressionsFit
+pub mod StatementsFit
+pub mod TokensFit
+pub mod ParsedFits

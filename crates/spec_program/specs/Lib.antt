@@ -10,3 +10,4 @@ pub mod ReadExpressions
 pub mod ReadPrograms
 pub mod Trees
 pub mod TreeRows
+pub mod TreeLaws

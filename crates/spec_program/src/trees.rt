@@ -8,3 +8,11 @@ pub fn worked()
     ensures others { NoTrees }
     ensures heights { Heights }
 {}
+
+ghost use Rattle.spec_program.specs.TreeLaws.{ParsedFits};
+
+/// The tree that a text has: its names are identifiers in lower case and no keywords, its literals such as texts write, `$` stands in brackets,
+/// items and targets as in the grammar, and each `break` and `continue` in a loop that it means.
+pub fn read()
+    ensures parsed { ParsedFits }
+{}

@@ -1,6 +1,6 @@
 -- Expressions that are read have names, literals, brackets and items as programs have them.
-use Rattle.std.proofs.Common.{◌≡◌, ℕ, zero, suc, pos, negsuc, Bool, true, false, not, ◌==◌, List, [], ◌∷◌, Option, Some, None, IsTrue, refl, ap, ◌++◌, if◌then◌else◌, leb-true, lt-ltb, ◌≤◌, arith}
-use Rattle.std.specs.Prelude.{nat_le}
+use Rattle.std.proofs.Common.{◌≡◌, ℕ, zero, suc, pos, negsuc, Bool, true, false, not, ◌==◌, List, [], ◌∷◌, Option, Some, None, IsTrue, refl, ap, sym, subst, ◌++◌, if◌then◌else◌, leb-true, lt-ltb, ◌≤◌, arith}
+use Rattle.std.specs.Prelude.{nat_le, max}
 use Rattle.spec_value.specs.Datum as value
 use Rattle.spec_value.specs.Datum.{Datum, Text, fold_case, in_number_range}
 use Rattle.spec_value.specs.Operators.{UnaryOperator, negation, not_true}
@@ -8,19 +8,20 @@ use Rattle.spec_value.proofs.Entries.{first_holds, second_holds}
 use Rattle.spec_program.specs.Tree.{Expr, literal, variable, binary, both, either, conditional, listing, call, no_arguments, any_code, codes_in, the_code, instead, Target, to_variable, to_index, to_range, Items}
 use Rattle.spec_program.specs.Spelling.{operator_level, right_level}
 use Rattle.spec_program.specs.Tokens.{Sign, Token, word, any_word, question, at_sign, arrow, quote, assign, error_name, integer, object, string, sign, Placed, greatest_integer, greatest_object, comma, close_parenthesis, close_bracket, close_brace, open_parenthesis, open_bracket, open_brace, dot, double_dot, colon, minus_sign, not_sign, dollar, backquote}
-use Rattle.spec_program.specs.Reading.{Read, got, stuck, and_then, is_sign, is_keyword, if_sign, past_sign, past_word, Node}
+use Rattle.spec_program.specs.Reading.{Read, got, stuck, and_then, is_sign, is_keyword, if_sign, past_sign, past_word, Node, under}
 use Rattle.spec_program.specs.ReadExpressions.{Found, found_at, ReadsExpression, FoundArguments, none_found, with_argument, further_ones, one_argument, some_arguments, arguments_to, Braces, no_braces, perhaps_scatter, surely_scatter, Operand, whole, assignable, integer_value, object_value, literal_at, system_at, in_parentheses, name_by, name, property_of, verb_of, stepped, index_of, range_of, in_brackets, is_surely_scatter, step_after, steps_unless, steps, Allowed, FoundItems, no_more, with_required, with_rest, with_optional, with_default, with_expression, ReadsItems, and_items, list_alone, scatter_alone, expression_item, ends_item, optional_item, rest_allowed, bare_or_not, plain_item_by, plain_item, rest_item_by, rest_item, item_of_either, scatter_rest, item_of_scatter, item_by, items_from, braces_found, in_braces, FoundCodes, error_codes, caught_with, in_backquotes, word_first, system_first, dollar_alone, dollar_by, dollar_first, signed, with_steps, operand_by, operand, Joint, operator, and_joint, or_joint, question_joint, no_joint, joint, if_tight, Continues, joined, chosen_between, join_by, join_next, operators, assigned, scattered, if_any_level, target_or_value, braces_or_value, expression_with, expression}
-use Rattle.spec_program.specs.Trees.{is_name, is_literal, goes_on, has_item, takes_rest, rest_once, has_argument, expr_fits, arguments_fit, codes_fit, target_fits, items_fit}
+use Rattle.spec_program.specs.Trees.{is_name, is_literal, goes_on, has_item, takes_rest, rest_once, has_argument, expr_fits, arguments_fit, codes_fit, target_fits, items_fit, expr_height, arguments_height, codes_height, target_height, items_height}
+use Rattle.spec_program.proofs.LowTrees.{Low, nothing, side, beneath, leaf}
 use Rattle.spec_program.proofs.ReadFits.{TokenFits, TokensFit, Gives, and_also, implied, found, none, after, either_way, past, worded}
 
 abbrev pub FoundFits : Bool → Found → Type 0
-FoundFits b e = IsTrue (expr_fits b e.tree)
+FoundFits b e = IsTrue (expr_fits b e.tree) × Low (expr_height e.tree) e.nodes
 
 abbrev pub ReadsFit : ReadsExpression → Type 0
 ReadsFit reads = (b : Bool) (k : ℕ) (ts : List Placed) → TokensFit ts → Gives (FoundFits b) (reads b k ts)
 
 abbrev pub CodesFit : Bool → FoundCodes → Type 0
-CodesFit b c = IsTrue (codes_fit b c.tree)
+CodesFit b c = IsTrue (codes_fit b c.tree) × Low (codes_height c.tree) c.nodes
 
 -- ---- literals
 
@@ -38,34 +39,34 @@ object_fits true (suc n) h = let e : suc n ≤ suc greatest_integer = leb-true (
 
 -- ---- what an operand may become
 
-abbrev TargetFits : Bool → Bool → Option Target → Type 0
-TargetFits b ranged None = Unit {0}
-TargetFits b ranged (Some t) = IsTrue (target_fits b t) × (ranged ≡ false → IsTrue (goes_on t))
+abbrev TargetFits : Bool → Bool → List Node → Option Target → Type 0
+TargetFits b ranged ns None = Unit {0}
+TargetFits b ranged ns (Some t) = IsTrue (target_fits b t) × ((ranged ≡ false → IsTrue (goes_on t)) × Low (target_height t) ns)
 
-abbrev ScatterFits : Bool → Items → Type 0
-ScatterFits b xs = IsTrue (has_item xs) × (IsTrue (rest_once xs) × IsTrue (items_fit b xs))
+abbrev ScatterFits : Bool → Items → List Node → Type 0
+ScatterFits b xs ns = IsTrue (has_item xs) × (IsTrue (rest_once xs) × (IsTrue (items_fit b xs) × Low (items_height xs) ns))
 
 abbrev BracesFit : Bool → Braces → Type 0
 BracesFit b no_braces = Unit {0}
-BracesFit b (perhaps_scatter xs ns) = ScatterFits b xs
-BracesFit b (surely_scatter xs ns) = ScatterFits b xs
+BracesFit b (perhaps_scatter xs ns) = ScatterFits b xs ns
+BracesFit b (surely_scatter xs ns) = ScatterFits b xs ns
 
 abbrev OperandFits : Bool → Operand → Type 0
-OperandFits b o = FoundFits b o.found × (TargetFits b o.ranged o.target × BracesFit b o.braces)
+OperandFits b o = FoundFits b o.found × (TargetFits b o.ranged o.found.nodes o.target × BracesFit b o.braces)
 
 -- with an expression that reads fitting ones, in brackets or not
 module _ (reads : ReadsExpression) (each : ReadsFit reads) (b : Bool) where
   -- ---- arguments
 
   abbrev ArgumentsFit : FoundArguments → Type 0
-  ArgumentsFit f = IsTrue (arguments_fit b f.tree)
+  ArgumentsFit f = IsTrue (arguments_fit b f.tree) × Low (arguments_height f.tree) f.nodes
 
   abbrev SomeFit : FoundArguments → Type 0
-  SomeFit f = IsTrue (has_argument f.tree) × IsTrue (arguments_fit b f.tree)
+  SomeFit f = IsTrue (has_argument f.tree) × ArgumentsFit f
 
   argument_joined : (spliced : Bool) (e : Found) (more : FoundArguments) → FoundFits b e → ArgumentsFit more → SomeFit (with_argument spliced e more)
-  argument_joined true e more h k = (refl, and_also h k)
-  argument_joined false e more h k = (refl, and_also h k)
+  argument_joined true e more h k = (refl, (and_also h.0 k.0, side h.1 k.1))
+  argument_joined false e more h k = (refl, (and_also h.0 k.0, side h.1 k.1))
 
   abbrev SomeRead : (List Placed → Read FoundArguments) → Type 0
   SomeRead more = (ts : List Placed) → TokensFit ts → Gives SomeFit (more ts)
@@ -76,7 +77,7 @@ module _ (reads : ReadsExpression) (each : ReadsFit reads) (b : Bool) where
       after ArgumentsFit SomeFit (further_ones more us) _ (further us g) (λ es vs m f. found SomeFit _ vs (argument_joined spliced e es k m) f))
     where
       further : (us : List Placed) → TokensFit us → Gives ArgumentsFit (further_ones more us)
-      further us g = either_way ArgumentsFit _ more (got none_found) us g (λ vs f. implied SomeFit ArgumentsFit (more vs) (λ x m. m.1) (later vs f)) (λ vs f. found ArgumentsFit _ vs refl f)
+      further us g = either_way ArgumentsFit _ more (got none_found) us g (λ vs f. implied SomeFit ArgumentsFit (more vs) (λ x m. m.1) (later vs f)) (λ vs f. found ArgumentsFit _ vs (refl, nothing) f)
 
   some_fit : (n : ℕ) → SomeRead (some_arguments n reads b)
   unfolding some_arguments
@@ -88,7 +89,7 @@ module _ (reads : ReadsExpression) (each : ReadsFit reads) (b : Bool) where
 
   arguments_read : (s : Sign) (n : ℕ) (ts : List Placed) → TokensFit ts → Gives ArgumentsFit (arguments_to s n reads b ts)
   arguments_read s n ts h =
-      either_way ArgumentsFit (is_sign s) (got none_found) (λ us. and_then (some_arguments n reads b us) (λ es vs. past_sign s vs (got es))) ts h (λ us g. found ArgumentsFit _ us refl g) (λ us g.
+      either_way ArgumentsFit (is_sign s) (got none_found) (λ us. and_then (some_arguments n reads b us) (λ es vs. past_sign s vs (got es))) ts h (λ us g. found ArgumentsFit _ us (refl, nothing) g) (λ us g.
       after SomeFit ArgumentsFit (some_arguments n reads b us) _ (some_fit n us g) (λ es vs k f. past ArgumentsFit _ (got es) vs f (λ ws m. found ArgumentsFit _ ws k.1 m)))
 
   -- ---- names
@@ -102,7 +103,7 @@ module _ (reads : ReadsExpression) (each : ReadsFit reads) (b : Bool) where
   name_fits (p ∷ ts) h = go p.token h.0
     where
       go : (t : Token) → TokenFits t → Gives (FoundFits b) (name_by reads b t p.line ts (p ∷ ts))
-      go (word x) m = found (FoundFits b) _ ts m.1 h.1
+      go (word x) m = found (FoundFits b) _ ts (m.1, leaf) h.1
       go (sign open_parenthesis) m = parentheses_fit p.line ts h.1
       go t m = none (FoundFits b) (p ∷ ts)
 
@@ -112,28 +113,30 @@ module _ (reads : ReadsExpression) (each : ReadsFit reads) (b : Bool) where
   OperandRead more = (ts : List Placed) → TokensFit ts → Gives (OperandFits b) (more ts)
 
   property_fits : (o p : Found) → FoundFits b o → FoundFits b p → OperandFits b (property_of o p)
-  property_fits o p h k = (and_also h k, ((and_also h k, λ e. refl), tt))
+  property_fits o p h k = ((and_also h.0 k.0, beneath (side h.1 k.1)), ((and_also h.0 k.0, ((λ e. refl), beneath (side h.1 k.1))), tt))
 
   verb_fits : (n : ℕ) (o v : Found) → FoundFits b o → FoundFits b v → OperandRead (verb_of n reads b o v)
   verb_fits n o v h k ts g =
       past (OperandFits b) _ _ ts g (λ us f.
       after ArgumentsFit (OperandFits b) (arguments_to close_parenthesis n reads b us) _ (arguments_read close_parenthesis n us f) (λ es vs m l.
-      found (OperandFits b) _ vs (and_also h (and_also k m), (tt, tt)) l))
+      found (OperandFits b) _ vs ((and_also h.0 (and_also k.0 m.0), beneath (side h.1 (side k.1 m.1))), (tt, tt)) l))
 
   index_fits : (o : Operand) (i : Found) → OperandFits b o → FoundFits true i → OperandFits b (index_of o i)
-  index_fits o i h k = (and_also h.0 k, (go o.target o.ranged h.1.0, tt))
+  index_fits o i h k = ((and_also h.0.0 k.0, beneath (side h.0.1 k.1)), (go o.target o.ranged h.1.0, tt))
     where
-      go : (t : Option Target) (ranged : Bool) → TargetFits b ranged t → TargetFits b false (stepped t ranged (λ u. to_index u i.tree))
-      go (Some t) false m = (and_also (and_also (m.1 refl) m.0) k, λ e. refl)
+      go : (t : Option Target) (ranged : Bool) → TargetFits b ranged o.found.nodes t
+          → TargetFits b false (index_of o i).found.nodes (stepped t ranged (λ u. to_index u i.tree))
+      go (Some t) false m = (and_also (and_also (m.1.0 refl) m.0) k.0, ((λ e. refl), beneath (side m.1.1 k.1)))
       go (Some t) true m = tt
       go None false m = tt
       go None true m = tt
 
   range_fits : (o : Operand) (i j : Found) → OperandFits b o → FoundFits true i → FoundFits true j → OperandFits b (range_of o i j)
-  range_fits o i j h k l = (and_also h.0 (and_also k l), (go o.target o.ranged h.1.0, tt))
+  range_fits o i j h k l = ((and_also h.0.0 (and_also k.0 l.0), beneath (side h.0.1 (side k.1 l.1))), (go o.target o.ranged h.1.0, tt))
     where
-      go : (t : Option Target) (ranged : Bool) → TargetFits b ranged t → TargetFits b true (stepped t ranged (λ u. to_range u i.tree j.tree))
-      go (Some t) false m = (and_also (and_also (m.1 refl) m.0) (and_also k l), λ e. cc)
+      go : (t : Option Target) (ranged : Bool) → TargetFits b ranged o.found.nodes t
+          → TargetFits b true (range_of o i j).found.nodes (stepped t ranged (λ u. to_range u i.tree j.tree))
+      go (Some t) false m = (and_also (and_also (m.1.0 refl) m.0) (and_also k.0 l.0), ((λ e. cc), beneath (side m.1.1 (side k.1 l.1))))
       go (Some t) true m = tt
       go None false m = tt
       go None true m = tt
@@ -178,9 +181,9 @@ module _ (reads : ReadsExpression) (each : ReadsFit reads) (b : Bool) where
   -- while a scatter is possible its items fit so far, and none takes the rest again
   abbrev ItemsAfter : Allowed → FoundItems → Type 0
   ItemsAfter a f =
-      IsTrue (arguments_fit b f.arguments)
+      (IsTrue (arguments_fit b f.arguments) × Low (arguments_height f.arguments) f.argument_nodes)
       × (IsTrue f.allowed.as_scatter
-      → (IsTrue a.as_scatter × (IsTrue (items_fit b f.items) × (IsTrue (rest_once f.items) × (IsTrue a.has_rest → IsTrue (not (takes_rest f.items)))))))
+      → (IsTrue a.as_scatter × ((IsTrue (items_fit b f.items) × Low (items_height f.items) f.default_nodes) × (IsTrue (rest_once f.items) × (IsTrue a.has_rest → IsTrue (not (takes_rest f.items)))))))
 
   abbrev ItemsFit : Allowed → FoundItems → Type 0
   ItemsFit a f = ItemsAfter a f × (IsTrue f.allowed.as_scatter → IsTrue (has_item f.items))
@@ -193,25 +196,26 @@ module _ (reads : ReadsExpression) (each : ReadsFit reads) (b : Bool) where
   clash false h k = k
 
   required_fits : (a : Allowed) (x : Text) (line : ℕ) (f : FoundItems) → IsTrue (is_name (fold_case x)) → ItemsAfter a f → ItemsFit a (with_required x line f)
-  required_fits a x line f h m = ((and_also h m.0, λ s. ((m.1 s).0, (and_also h (m.1 s).1.0, ((m.1 s).1.1.0, (m.1 s).1.1.1)))), λ s. refl)
+  required_fits a x line f h m = (((and_also h m.0.0, side leaf m.0.1), λ s. ((m.1 s).0, ((and_also h (m.1 s).1.0.0, (m.1 s).1.0.1), ((m.1 s).1.1.0, (m.1 s).1.1.1)))), λ s. refl)
 
   optional_fits : (a : Allowed) (x : Text) (f : FoundItems) → IsTrue (is_name (fold_case x)) → ItemsAfter (scatter_alone a) f → ItemsFit a (with_optional x f)
-  optional_fits a x f h m = ((m.0, λ s. ((m.1 s).0, (and_also h (m.1 s).1.0, ((m.1 s).1.1.0, (m.1 s).1.1.1)))), λ s. refl)
+  optional_fits a x f h m = ((m.0, λ s. ((m.1 s).0, ((and_also h (m.1 s).1.0.0, (m.1 s).1.0.1), ((m.1 s).1.1.0, (m.1 s).1.1.1)))), λ s. refl)
 
   default_fits : (a : Allowed) (x : Text) (e : Found) (f : FoundItems) → IsTrue (is_name (fold_case x)) → FoundFits b e → ItemsAfter (scatter_alone a) f
       → ItemsFit a (with_default x e f)
-  default_fits a x e f h k m = ((m.0, λ s. ((m.1 s).0, (and_also h (and_also k (m.1 s).1.0), ((m.1 s).1.1.0, (m.1 s).1.1.1)))), λ s. refl)
+  default_fits a x e f h k m = ((m.0, λ s. ((m.1 s).0, ((and_also h (and_also k.0 (m.1 s).1.0.0), side k.1 (m.1 s).1.0.1), ((m.1 s).1.1.0, (m.1 s).1.1.1)))), λ s. refl)
 
-  rest_fits : (a : Allowed) (x : Text) (line : ℕ) (f : FoundItems) → IsTrue (is_name (fold_case x)) → IsTrue (arguments_fit b f.arguments)
-      → (IsTrue f.allowed.as_scatter → (IsTrue a.as_scatter × (IsTrue (not a.has_rest) × (IsTrue (items_fit b f.items) × IsTrue (not (takes_rest f.items))))))
+  rest_fits : (a : Allowed) (x : Text) (line : ℕ) (f : FoundItems) → IsTrue (is_name (fold_case x))
+      → IsTrue (arguments_fit b f.arguments) × Low (arguments_height f.arguments) f.argument_nodes
+      → (IsTrue f.allowed.as_scatter → (IsTrue a.as_scatter × (IsTrue (not a.has_rest) × ((IsTrue (items_fit b f.items) × Low (items_height f.items) f.default_nodes) × IsTrue (not (takes_rest f.items))))))
       → ItemsFit a (with_rest x line f)
   rest_fits a x line f h k m =
-      ((and_also h k, λ s. ((m s).0, (and_also h (m s).1.1.0, ((m s).1.1.1, λ r. clash a.has_rest (m s).1.0 r)))), λ s. refl)
+      (((and_also h k.0, side leaf k.1), λ s. ((m s).0, ((and_also h (m s).1.1.0.0, (m s).1.1.0.1), ((m s).1.1.1, λ r. clash a.has_rest (m s).1.0 r)))), λ s. refl)
 
   spliced_or_not : (a : Allowed) (spliced : Bool) (e : Found) (f : FoundItems) → FoundFits b e → ItemsAfter (list_alone a) f
       → ItemsFit a (with_expression spliced e f)
-  spliced_or_not a true e f k m = ((and_also k m.0, λ s. absurd (cc ((m.1 s).0))), λ s. absurd (cc ((m.1 s).0)))
-  spliced_or_not a false e f k m = ((and_also k m.0, λ s. absurd (cc ((m.1 s).0))), λ s. absurd (cc ((m.1 s).0)))
+  spliced_or_not a true e f k m = (((and_also k.0 m.0.0, side k.1 m.0.1), λ s. absurd (cc ((m.1 s).0))), λ s. absurd (cc ((m.1 s).0)))
+  spliced_or_not a false e f k m = (((and_also k.0 m.0.0, side k.1 m.0.1), λ s. absurd (cc ((m.1 s).0))), λ s. absurd (cc ((m.1 s).0)))
 
   module _ (more : ReadsItems) (later : ItemsRead more) where
     and_items_fit : (a own : Allowed) (joins : FoundItems → FoundItems) → ((f : FoundItems) → ItemsAfter a f → ItemsFit own (joins f))
@@ -222,7 +226,7 @@ module _ (reads : ReadsExpression) (each : ReadsFit reads) (b : Bool) where
         further =
             either_way (ItemsAfter a) (is_sign comma) (more a) (λ us. past_sign close_brace us (got (no_more a))) ts h
             (λ us g. implied (ItemsFit a) (ItemsAfter a) (more a us) (λ f m. m.0) (later a us g))
-            (λ us g. past (ItemsAfter a) _ (got (no_more a)) us g (λ vs f. found (ItemsAfter a) _ vs (refl, λ s. (s, (refl, (refl, λ r. refl)))) f))
+            (λ us g. past (ItemsAfter a) _ (got (no_more a)) us g (λ vs f. found (ItemsAfter a) _ vs ((refl, nothing), λ s. (s, ((refl, nothing), (refl, λ r. refl)))) f))
 
     expression_item_fits : (a : Allowed) (spliced : Bool) (ts : List Placed) → TokensFit ts → Gives (ItemsFit a) (expression_item reads b more a spliced ts)
     expression_item_fits a spliced ts h =
@@ -315,7 +319,7 @@ module _ (reads : ReadsExpression) (each : ReadsFit reads) (b : Bool) where
       go later = item_fits (items_from n reads b) later a.as_list a ts h
 
   braces_fit : (a : Allowed) (line : ℕ) (f : FoundItems) → ItemsFit a f → OperandFits b (braces_found line f)
-  braces_fit a line f h = (h.0.0, (tt, go f.allowed.as_scatter refl f.allowed.as_list))
+  braces_fit a line f h = ((h.0.0.0, beneath h.0.0.1), (tt, go f.allowed.as_scatter refl f.allowed.as_list))
     where
       go : (c : Bool) → f.allowed.as_scatter ≡ c → (d : Bool)
           → BracesFit b (if c then (if d then perhaps_scatter f.items f.default_nodes else surely_scatter f.items f.default_nodes) else no_braces)
@@ -329,7 +333,7 @@ module _ (reads : ReadsExpression) (each : ReadsFit reads) (b : Bool) where
       (got (whole (found_at line (listing no_arguments) [])))
       (λ us. and_then (items_from n reads b (record { as_list = true; as_scatter = k == 0; has_rest = false }) us) (λ f vs. got (braces_found line f) vs))
       ts h
-      (λ us g. found (OperandFits b) _ us (refl, (tt, tt)) g)
+      (λ us g. found (OperandFits b) _ us ((refl, beneath nothing), (tt, tt)) g)
       (λ us g.
       let a : Allowed = record { as_list = true; as_scatter = k == 0; has_rest = false } in
       after (ItemsFit a) (OperandFits b) (items_from n reads b a us) _ (items_read n a us g) (λ f vs m q. found (OperandFits b) _ vs (braces_fit a line f m) q))
@@ -342,8 +346,8 @@ module _ (reads : ReadsExpression) (each : ReadsFit reads) (b : Bool) where
       (got (record { tree = any_code; nodes = [] }))
       (λ us. and_then (some_arguments n reads b us) (λ es vs. got (record { tree = codes_in es.tree; nodes = es.nodes }) vs))
       ts h
-      (λ us g. found (CodesFit b) _ us refl g)
-      (λ us g. after SomeFit (CodesFit b) (some_arguments n reads b us) _ (some_fit n us g) (λ es vs k f. found (CodesFit b) _ vs (and_also k.0 k.1) f))
+      (λ us g. found (CodesFit b) _ us (refl, nothing) g)
+      (λ us g. after SomeFit (CodesFit b) (some_arguments n reads b us) _ (some_fit n us g) (λ es vs k f. found (CodesFit b) _ vs (and_also k.0 k.1.0, k.1.1) f))
 
   caught_fits : (n line : ℕ) → OperandRead (in_backquotes n reads b line)
   caught_fits n line ts h =
@@ -354,8 +358,8 @@ module _ (reads : ReadsExpression) (each : ReadsFit reads) (b : Bool) where
       (λ xs. past_sign quote xs (got (caught_with line e c the_code [])))
       ws q
       (λ xs r. after (FoundFits b) (OperandFits b) (reads b 0 xs) _ (each b 0 xs r) (λ d ys l o.
-      past (OperandFits b) _ (got (caught_with line e c (instead d.tree) d.nodes)) ys o (λ zs z. found (OperandFits b) _ zs (and_also k (and_also m l), (tt, tt)) z)))
-      (λ xs r. past (OperandFits b) _ (got (caught_with line e c the_code [])) xs r (λ zs z. found (OperandFits b) _ zs (and_also k (and_also m refl), (tt, tt)) z)))))
+      past (OperandFits b) _ (got (caught_with line e c (instead d.tree) d.nodes)) ys o (λ zs z. found (OperandFits b) _ zs ((and_also k.0 (and_also m.0 l.0), beneath (side k.1 (side m.1 l.1))), (tt, tt)) z)))
+      (λ xs r. past (OperandFits b) _ (got (caught_with line e c the_code [])) xs r (λ zs z. found (OperandFits b) _ zs ((and_also k.0 (and_also m.0 refl), beneath (side k.1 (side m.1 nothing))), (tt, tt)) z)))))
 
   -- ---- words and `$`
 
@@ -366,41 +370,41 @@ module _ (reads : ReadsExpression) (each : ReadsFit reads) (b : Bool) where
       (got (assignable (found_at line (variable (fold_case x)) []) (to_variable (fold_case x))))
       ts h
       (λ us g. after ArgumentsFit (OperandFits b) (arguments_to close_parenthesis n reads b us) _ (arguments_read close_parenthesis n us g) (λ es vs k f.
-      found (OperandFits b) _ vs (and_also m.0 k, (tt, tt)) f))
-      (λ us g. found (OperandFits b) _ us (m.0, ((m.0, λ e. refl), tt)) g)
+      found (OperandFits b) _ vs ((and_also m.0 k.0, beneath k.1), (tt, tt)) f))
+      (λ us g. found (OperandFits b) _ us ((m.0, leaf), ((m.0, ((λ e. refl), leaf)), tt)) g)
 
   system_fits : (n line : ℕ) (x : Found) → FoundFits b x → OperandRead (system_first n reads b line x)
   system_fits n line x k ts h =
       either_way (OperandFits b) (is_sign open_parenthesis) (λ us. verb_of n reads b (system_at line) x ts) (got (property_of (system_at line) x)) ts h
-      (λ us g. verb_fits n (system_at line) x refl k ts h)
-      (λ us g. found (OperandFits b) _ us (property_fits (system_at line) x refl k) g)
+      (λ us g. verb_fits n (system_at line) x (refl, leaf) k ts h)
+      (λ us g. found (OperandFits b) _ us (property_fits (system_at line) x (refl, leaf) k) g)
 
   dollar_fits : (n line : ℕ) → OperandRead (dollar_first n reads b line)
   dollar_fits n line [] h = alone b refl [] tt
     where
       alone : (c : Bool) → b ≡ c → (us : List Placed) → TokensFit us → Gives (OperandFits b) (dollar_alone c line us)
-      alone true e us g = found (OperandFits b) _ us (e, (tt, tt)) g
+      alone true e us g = found (OperandFits b) _ us ((e, leaf), (tt, tt)) g
       alone false e us g = none (OperandFits b) us
   dollar_fits n line (p ∷ ts) h = go p.token h.0
     where
       alone : (c : Bool) → b ≡ c → (us : List Placed) → TokensFit us → Gives (OperandFits b) (dollar_alone c line us)
-      alone true e us g = found (OperandFits b) _ us (e, (tt, tt)) g
+      alone true e us g = found (OperandFits b) _ us ((e, leaf), (tt, tt)) g
       alone false e us g = none (OperandFits b) us
 
       go : (t : Token) → TokenFits t → Gives (OperandFits b) (dollar_by n reads b line t p.line ts (p ∷ ts))
-      go (word x) m = system_fits n line (found_at p.line (literal (value.text x)) []) m.1 ts h.1
+      go (word x) m = system_fits n line (found_at p.line (literal (value.text x)) []) (m.1, leaf) ts h.1
       go t m = alone b refl (p ∷ ts) h
 
   -- ---- the first operand
 
   signed_fits : (u : UnaryOperator) (line : ℕ) → OperandRead (signed reads b u line)
-  signed_fits u line ts h = after (FoundFits b) (OperandFits b) (reads b 7 ts) _ (each b 7 ts h) (λ e us k g. found (OperandFits b) _ us (k, (tt, tt)) g)
+  signed_fits u line ts h = after (FoundFits b) (OperandFits b) (reads b 7 ts) _ (each b 7 ts h) (λ e us k g. found (OperandFits b) _ us ((k.0, beneath k.1), (tt, tt)) g)
 
   steps_after : (n : ℕ) (r : Read Operand) → Gives (OperandFits b) r → Gives (OperandFits b) (with_steps n reads b r)
   steps_after n r h = after (OperandFits b) (OperandFits b) r (steps n reads b) h (λ o us k g. steps_fit n o us k g)
 
   literal_fits : (line : ℕ) (v : Datum) (ts : List Placed) → IsTrue (is_literal v) → TokensFit ts → Gives (OperandFits b) (literal_at line v ts)
-  literal_fits line v ts h g = found (OperandFits b) _ ts (h, (tt, tt)) g
+  literal_fits line v ts h g = found (OperandFits b) _ ts ((h, leaf), (tt, tt)) g
 
   operand_fits : (n k : ℕ) → OperandRead (operand n reads b k)
   operand_fits n k [] h = none (OperandFits b) []
@@ -429,15 +433,17 @@ module _ (reads : ReadsExpression) (each : ReadsFit reads) (b : Bool) where
 
   module _ (more : Continues) (later : (a : Found) → FoundFits b a → Ready (more a)) where
     joined_fits : (a : Found) → FoundFits b a → (right : ℕ) (f : Expr → Expr → Expr)
-        → ((x y : Expr) → IsTrue (expr_fits b x) → IsTrue (expr_fits b y) → IsTrue (expr_fits b (f x y))) → Ready (joined reads b more a right f)
-    joined_fits a h right f k ts g =
-        after (FoundFits b) (FoundFits b) (reads b right ts) _ (each b right ts g) (λ c us m q. later (found_at a.line (f a.tree c.tree) _) (k a.tree c.tree h m) us q)
+        → ((x y : Expr) → IsTrue (expr_fits b x) → IsTrue (expr_fits b y) → IsTrue (expr_fits b (f x y)))
+        → ((x y : Expr) → expr_height (f x y) ≡ suc (max (expr_height x) (expr_height y))) → Ready (joined reads b more a right f)
+    joined_fits a h right f k same ts g =
+        after (FoundFits b) (FoundFits b) (reads b right ts) _ (each b right ts g) (λ c us m q. later (found_at a.line (f a.tree c.tree) (a.nodes ++ c.nodes))
+        (k a.tree c.tree h.0 m.0, subst (λ z. Low z (under a.line (a.nodes ++ c.nodes))) (sym (same a.tree c.tree)) (beneath (side h.1 m.1))) us q)
 
     chosen_fits : (c : Found) → FoundFits b c → Ready (chosen_between reads b more c)
     chosen_fits c h ts g =
         after (FoundFits b) (FoundFits b) (reads b 0 ts) _ (each b 0 ts g) (λ x us k f. past (FoundFits b) _ _ us f (λ vs m.
         after (FoundFits b) (FoundFits b) (reads b 1 vs) _ (each b 1 vs m) (λ y ws l q.
-        later (found_at c.line (conditional c.tree x.tree y.tree) (c.nodes ++ (x.nodes ++ y.nodes))) (and_also h (and_also k l)) ws q)))
+        later (found_at c.line (conditional c.tree x.tree y.tree) (c.nodes ++ (x.nodes ++ y.nodes))) (and_also h.0 (and_also k.0 l.0), beneath (side h.1 (side k.1 l.1))) ws q)))
 
     tight : (c : Bool) (joins done : List Placed → Read Found) (rest all : List Placed) → Gives (FoundFits b) (joins rest) → Gives (FoundFits b) (done all)
         → Gives (FoundFits b) (if_tight c joins done rest all)
@@ -451,11 +457,11 @@ module _ (reads : ReadsExpression) (each : ReadsFit reads) (b : Bool) where
         go : (j : Joint) → Gives (FoundFits b) (join_by reads b more k a j ts (p ∷ ts))
         go (operator op) =
             tight (nat_le k (operator_level op)) (joined reads b more a (right_level op) (binary op)) (got a) ts (p ∷ ts)
-            (joined_fits a h (right_level op) (binary op) (λ x y l m. and_also l m) ts g.1) (found (FoundFits b) a _ h g)
+            (joined_fits a h (right_level op) (binary op) (λ x y l m. and_also l m) (λ x y. refl) ts g.1) (found (FoundFits b) a _ h g)
         go and_joint =
-            tight (nat_le k 2) (joined reads b more a 3 both) (got a) ts (p ∷ ts) (joined_fits a h 3 both (λ x y l m. and_also l m) ts g.1) (found (FoundFits b) a _ h g)
+            tight (nat_le k 2) (joined reads b more a 3 both) (got a) ts (p ∷ ts) (joined_fits a h 3 both (λ x y l m. and_also l m) (λ x y. refl) ts g.1) (found (FoundFits b) a _ h g)
         go or_joint =
-            tight (nat_le k 2) (joined reads b more a 3 either) (got a) ts (p ∷ ts) (joined_fits a h 3 either (λ x y l m. and_also l m) ts g.1) (found (FoundFits b) a _ h g)
+            tight (nat_le k 2) (joined reads b more a 3 either) (got a) ts (p ∷ ts) (joined_fits a h 3 either (λ x y l m. and_also l m) (λ x y. refl) ts g.1) (found (FoundFits b) a _ h g)
         go question_joint = tight (nat_le k 1) (chosen_between reads b more a) (got a) ts (p ∷ ts) (chosen_fits a h ts g.1) (found (FoundFits b) a _ h g)
         go no_joint = found (FoundFits b) a _ h g
 
@@ -471,16 +477,16 @@ module _ (reads : ReadsExpression) (each : ReadsFit reads) (b : Bool) where
   any_level zero there absent h m ts g = either_way (FoundFits b) (is_sign assign) there absent ts g h m
   any_level (suc k) there absent h m ts g = m ts g
 
-  scattered_fits : (line : ℕ) (xs : Items) (ns : List Node) → ScatterFits b xs → Ready (scattered reads b line xs ns)
+  scattered_fits : (line : ℕ) (xs : Items) (ns : List Node) → ScatterFits b xs ns → Ready (scattered reads b line xs ns)
   scattered_fits line xs ns h ts g =
-      after (FoundFits b) (FoundFits b) (reads b 0 ts) _ (each b 0 ts g) (λ e us k f. found (FoundFits b) _ us (and_also (and_also h.0 h.1.0) (and_also h.1.1 k)) f)
+      after (FoundFits b) (FoundFits b) (reads b 0 ts) _ (each b 0 ts g) (λ e us k f. found (FoundFits b) _ us (and_also (and_also h.0 h.1.0) (and_also h.1.1.0 k.0), beneath (side h.1.1.1 k.1)) f)
 
-  target_fits_too : (k : ℕ) (a : Found) (ranged : Bool) (t : Option Target) → TargetFits b ranged t → (absent : List Placed → Read Found) → Ready absent
+  target_fits_too : (k : ℕ) (a : Found) (ranged : Bool) (t : Option Target) → TargetFits b ranged a.nodes t → (absent : List Placed → Read Found) → Ready absent
       → Ready (target_or_value reads b k a t absent)
   target_fits_too k a ranged None h absent m ts g = m ts g
   target_fits_too k a ranged (Some t) h absent m ts g =
       any_level k (assigned reads b a t) absent
-      (λ us f. after (FoundFits b) (FoundFits b) (reads b 0 us) _ (each b 0 us f) (λ e vs l q. found (FoundFits b) _ vs (and_also h.0 l) q)) m ts g
+      (λ us f. after (FoundFits b) (FoundFits b) (reads b 0 us) _ (each b 0 us f) (λ e vs l q. found (FoundFits b) _ vs (and_also h.0 l.0, beneath (side h.1.1 l.1)) q)) m ts g
 
   assigned_fits : (k : ℕ) (o : Operand) → OperandFits b o → (r : Braces) → BracesFit b r → (absent : List Placed → Read Found) → Ready absent
       → Ready (braces_or_value reads b k o r absent)

@@ -1,4 +1,5 @@
 pub mod ReadFits
+pub mod LowTrees
 pub mod ExpressionsFit
 pub mod StatementsFit
 pub mod TokensFit

@@ -9,10 +9,11 @@ pub fn worked()
     ensures heights { Heights }
 {}
 
-ghost use Rattle.spec_program.specs.TreeLaws.{ParsedFits};
+ghost use Rattle.spec_program.specs.TreeLaws.{ParsedFits, ParsedIsTree};
 
 /// The tree that a text has: its names are identifiers in lower case and no keywords, its literals such as texts write, `$` stands in brackets,
-/// items and targets as in the grammar, and each `break` and `continue` in a loop that it means.
+/// items and targets as in the grammar, and each `break` and `continue` in a loop that it means. And no path has more than 100 nodes.
 pub fn read()
     ensures parsed { ParsedFits }
+    ensures tree { ParsedIsTree }
 {}

@@ -1,5 +1,5 @@
 -- Turns and segments keep the variables of each verb in the order of their names.
-use Rattle.std.proofs.Common.{ℕ, zero, suc, ℤ, pos, ◌++◌, ◌||◌, ◌&&◌, Bool, true, false, List, [], ◌∷◌, Option, Some, None, refl, IsTrue, if◌then◌else◌}
+use Rattle.std.proofs.Common.{◌≡◌, ℕ, zero, suc, ℤ, pos, ◌++◌, ◌||◌, ◌&&◌, Bool, true, false, List, [], ◌∷◌, Option, Some, None, refl, IsTrue, if◌then◌else◌}
 use Rattle.std.specs.List.{list_all}
 use Rattle.spec_value.specs.Datum.{Datum, integer, Data, Text, type_mismatch, too_many_calls}
 use Rattle.spec_value.specs.Answer.{Answer, gives, raises, limited_answer}
@@ -9,6 +9,8 @@ use Rattle.spec_value.proofs.Keys.{still_sorted}
 use Rattle.spec_program.specs.Tree.{literal, Program}
 use Rattle.spec_program.specs.Construct.{Construct, of_expr, Piece}
 use Rattle.spec_program.specs.Place.{Part, parts, nth}
+use Rattle.spec_program.specs.Trees.{is_name}
+use Rattle.spec_world.specs.WellFormed.{is_variable}
 use Rattle.spec_world.specs.World.{Call, Start, Native, Entry, frame_entry, native_entry}
 use Rattle.spec_world.proofs.SlotChanges.{names_total}
 use Rattle.spec_moo.specs.Scene.{Scene, with_ticks}
@@ -34,6 +36,12 @@ still_named vars x v h = still_sorted names_total x v vars h
 
 pub starts_in_order : (player : ℤ) (c : Call) (word : Text) (s : Start) (args : Data) → IsTrue (is_named (starting player c word s args))
 starts_in_order player c word s args = refl
+
+pub starts_named : (player : ℤ) (c : Call) (word : Text) (s : Start) (args : Data) → IsTrue (list_all (λ e. is_variable e.0) (starting player c word s args))
+starts_named player c word s args = refl
+
+pub names_agree : (t : Text) → is_name t ≡ is_variable t
+names_agree t = refl
 
 pub forks_in_order : (p : Pending) (due : ℕ) (x : Option Text) (id : Datum) (body : Program) → IsInOrder p
     → AreInOrder (forked_task p due (with_named x id p.frame.variables) body).entries

@@ -1,9 +1,11 @@
 -- The variables of verbs that are under way or wait: one of each name, in the order of their names.
-use Rattle.std.specs.Prelude.{ℕ, ℤ, List, Bool, true, Option, Some, None, IsTrue}
+use Rattle.std.specs.Prelude.{◌≡◌, ℕ, ℤ, List, Bool, true, Option, Some, None, IsTrue}
 use Rattle.std.specs.List.{list_all}
 use Rattle.spec_value.specs.Datum.{Datum, Data, Text}
 use Rattle.spec_value.specs.Table.{is_named}
 use Rattle.spec_program.specs.Tree.{Program}
+use Rattle.spec_program.specs.Trees.{is_name}
+use Rattle.spec_world.specs.WellFormed.{is_variable}
 use Rattle.spec_world.specs.World.{Call, Start, Entry, frame_entry, native_entry}
 use Rattle.spec_moo.specs.Scene.{Scene}
 use Rattle.spec_moo.specs.Calling.{starting}
@@ -35,6 +37,14 @@ TurnedInOrder (halts s why) = StopsInOrder why
 -- a verb that is called begins so
 abbrev pub StartsInOrder : Type 0
 StartsInOrder = (player : ℤ) (c : Call) (word : Text) (s : Start) (args : Data) → IsTrue (is_named (starting player c word s args))
+
+-- under names that programs can write
+abbrev pub StartsNamed : Type 0
+StartsNamed = (player : ℤ) (c : Call) (word : Text) (s : Start) (args : Data) → IsTrue (list_all (λ e. is_variable e.0) (starting player c word s args))
+
+-- which are the names of a program's tree
+abbrev pub NamesAgree : Type 0
+NamesAgree = (t : Text) → is_name t ≡ is_variable t
 
 -- each turn keeps it, and so does a segment with any number of ticks
 abbrev pub TurnsKeepOrder : Type 0

@@ -15,3 +15,4 @@ pub mod StepWorlds
 pub mod Courses
 pub mod NativeStages
 pub mod OrderKept
+pub mod ListsHold

@@ -9,6 +9,7 @@ pub mod Natives
 pub mod Effect
 pub mod Effects
 pub mod Held
+pub mod Holding
 pub mod Tables
 pub mod Turn
 pub mod Sizes

@@ -14,3 +14,5 @@ pub mod SegmentWorlds
 pub mod StepWorlds
 pub mod Courses
 pub mod NativeStages
+pub mod OrderKept
+pub mod ListsHold

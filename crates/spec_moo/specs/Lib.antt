@@ -9,6 +9,7 @@ pub mod Natives
 pub mod Effect
 pub mod Effects
 pub mod Held
+pub mod Holding
 pub mod Tables
 pub mod Turn
 pub mod Sizes
@@ -17,5 +18,6 @@ pub mod Standing
 pub mod Laws
 pub mod Telling
 pub mod Steps
+pub mod Variables
 pub mod Worlds
 pub mod Opened

@@ -5,3 +5,9 @@ pub mod MovesHold
 pub mod FurtherMovesHold
 pub mod BracedMovesHold
 pub mod ItemChoicesHold
+pub mod ReadFits
+pub mod LowTrees
+pub mod ExpressionsFit
+pub mod StatementsFit
+pub mod TokensFit
+pub mod ParsedFits

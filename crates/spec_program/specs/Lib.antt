@@ -14,3 +14,6 @@ pub mod Moves
 pub mod FurtherMoves
 pub mod BracedMoves
 pub mod ItemChoices
+pub mod Trees
+pub mod TreeRows
+pub mod TreeLaws

@@ -2,3 +2,4 @@
 #![tactic(auto)]
 
 pub mod parsing;
+pub mod trees;

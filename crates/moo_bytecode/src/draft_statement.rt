@@ -1,15 +1,17 @@
 //! Drafts of statements and programs. What comes last is put first.
-ghost use Rattle.std.specs.Prelude.{◌≡◌, ◌+◌, ◌∷◌, length, map, OnOk, IfOk};
+ghost use Rattle.std.specs.Prelude.{◌≡◌, ◌<◌, ◌≤◌, ◌∷◌, suc, map, true, OnOk, IfOk};
 ghost use Rattle.spec_program.specs.Construct.{of_statement, of_program};
-ghost use Rattle.moo_tree.specs.StatementView.{program_of};
-ghost use Rattle.moo_code.specs.Layout.{stop, inner, straight, plain, statement_layout, program_layout, loops_left as loops_left_of};
+ghost use Rattle.spec_program.specs.Tree.{else_do};
+ghost use Rattle.moo_tree.specs.StatementView.{program_of, branches_of, branch_of};
+ghost use Rattle.moo_code.specs.Layout.{stop, inner, straight, plain, statement_layout, program_layout, branches_layout, otherwise_layout, loops_left as loops_left_of};
 ghost use Rattle.moo_bytecode.specs.Drafting.{around_of, name_of, caught_of, state, over};
 ghost use Rattle.moo_bytecode.specs.Expressions.{link_to};
+ghost use Rattle.moo_bytecode.specs.Branches.{otherwise_if};
 
-use crate::around::Around;
+use crate::around::{Around, next, plus};
 use crate::draft::{Draft, DraftError};
 use crate::operation::{Caught, Operation, Reception, Sign};
-use moo_tree::statement::{Statement, StatementNode};
+use moo_tree::statement::{Branch, Statement, StatementNode};
 use moo_value::text::Text;
 use std::alloc::{AllocError, Global};
 
@@ -43,6 +45,15 @@ fn with_loop<'a>(
     inside.push(name)?;
     inside.extend_from_slice(loops)?;
     Ok(inside)
+}
+
+// Whether something follows the branch with a number, of so many: another one, or what follows them all.
+fn goes_on(followed: bool, number: usize, count: usize) -> bool
+    requires { number < count }
+    ensures more { suc number < count → result ≡ true }
+    ensures last { count ≤ suc number → result ≡ followed }
+{
+    followed || number + 1 < count
 }
 
 impl<'a> Draft<'a> {
@@ -200,9 +211,75 @@ impl<'a> Draft<'a> {
                 self.own(Operation::ContinueLoops(loops_left(name, around.loops)))?;
                 Ok(())
             }
-            StatementNode::If { .. } | StatementNode::TryExcept { .. } => Err(
-                DraftError::Unsupported,
-            ),
+            StatementNode::If {
+                branches,
+                otherwise: None,
+            } => self.if_branches(alloc, around, branches, false),
+            StatementNode::If {
+                branches,
+                otherwise: Some(body),
+            } => self.if_with_else(alloc, around, branches, body),
+            StatementNode::TryExcept { .. } => Err(DraftError::Unsupported),
         }
+    }
+
+    // The branches of an `if`, with an `else` after them or none.
+    #[cycle(statement)]
+    fn if_branches(
+        &mut self,
+        alloc: Global,
+        around: Around<'a, '_>,
+        branches: &'a [Branch],
+        followed: bool,
+    ) -> Result<(), DraftError>
+        ensures { OnOk result (state self.new ≡ over (branches_layout (around_of around.entry) true 1 (branches_of branches.now) (otherwise_if followed) stop) (state self.old)) }
+    {
+        for i in (0..branches.len()).rev() {
+            let part = next(plus(i, i)?)?;
+            let more = goes_on(followed, i, branches.len());
+            self.if_branch(alloc, around, i == 0, part, more, &branches[i])?;
+        }
+        Ok(())
+    }
+
+    // The branches of an `if`, and its `else`.
+    #[tactic(auto, using(crate::proofs::StatementRows::branches_over))]
+    #[cycle(statement)]
+    fn if_with_else(
+        &mut self,
+        alloc: Global,
+        around: Around<'a, '_>,
+        branches: &'a [Branch],
+        body: &'a [Statement],
+    ) -> Result<(), DraftError>
+        ensures { OnOk result (state self.new ≡ over (branches_layout (around_of around.entry) true 1 (branches_of branches.now) (else_do (program_of body.now)) (otherwise_layout (around_of around.entry) (else_do (program_of body.now)))) (state self.old)) }
+    {
+        self.program_part(alloc, around.above(0)?, body, None)?;
+        self.if_branches(alloc, around, branches, true)?;
+        Ok(())
+    }
+
+    // A branch whose condition is the part with a number: whether it is the first one, and whether something follows.
+    #[cycle(statement)]
+    fn if_branch(
+        &mut self,
+        alloc: Global,
+        around: Around<'a, '_>,
+        first: bool,
+        part: usize,
+        followed: bool,
+        branch: &'a Branch,
+    ) -> Result<(), DraftError>
+        ensures { OnOk result (state self.new ≡ over (branches_layout (around_of around.entry) first part (branch_of branch.now) (otherwise_if followed) stop) (state self.old)) }
+    {
+        let body = next(part)?;
+        self.own(Operation::Finish(0))?;
+        self.program_part(alloc, around.above(0)?, &branch.body, None)?;
+        self.own(if followed {
+            Operation::Test(first, body)
+        } else {
+            Operation::TestLast(first, body)
+        })?;
+        self.operand(around.above(0)?, &branch.condition)
     }
 }

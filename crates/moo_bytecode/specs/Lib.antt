@@ -1,3 +1,4 @@
 pub mod Assembling
+pub mod Branches
 pub mod Drafting
 pub mod Expressions

@@ -1,6 +1,6 @@
 //! What stands around a construct.
-ghost use Rattle.std.specs.Prelude.{◌≡◌, ◌+◌, suc, IfOk};
-ghost use Rattle.moo_bytecode.specs.Drafting.{around_of, bracketed_of};
+ghost use Rattle.std.specs.Prelude.{◌≡◌, ◌+◌, suc, map, IfOk};
+ghost use Rattle.moo_bytecode.specs.Drafting.{around_of, bracketed_of, name_of};
 ghost use Rattle.moo_code.specs.Layout.{above as above_of, in_brackets as in_brackets_of};
 
 use moo_tree::expression::Target;
@@ -47,6 +47,22 @@ impl<'a, 'l> Around<'a, 'l> {
             height,
             bracketed,
             ..self
+        })
+    }
+
+    /// The same in a loop's body, with the loops there.
+    pub fn in_body<'m>(
+        self,
+        count: usize,
+        loops: &'m [Option<&'a Text>],
+    ) -> Result<Around<'a, 'm>, AllocError>
+        ensures { IfOk result (λ a. around_of a ≡ record { height = self.entry.height + count; bracketed = bracketed_of self.entry.bracketed; loops = map name_of loops.now }) }
+    {
+        let height = plus(self.height, count)?;
+        Ok(Around {
+            height,
+            bracketed: self.bracketed,
+            loops,
         })
     }
 }

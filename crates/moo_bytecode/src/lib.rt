@@ -8,5 +8,6 @@
 pub mod around;
 pub mod draft;
 mod draft_expression;
+mod draft_statement;
 pub mod laws;
 pub mod operation;

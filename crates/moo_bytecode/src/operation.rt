@@ -40,7 +40,8 @@ pub enum Operation<'a> {
     Pop,
     Return,
     ReturnZero,
-    Finish,
+    /// To the end of the construct, without so many held values.
+    Finish(usize),
     FinishBody,
     /// Whether it is the first condition, and where to go on if it is true.
     Test(bool, usize),

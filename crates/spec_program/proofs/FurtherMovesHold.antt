@@ -1,4 +1,4 @@
--- Properties, verbs, indexes, calls, assignments and `c ? a | b`: each move over frames keeps what they mean.
+-- Properties, verbs, indexes, calls, assignments and conditional expressions: each move over frames keeps what they mean.
 use Rattle.std.proofs.Common.{◌≡◌, ℕ, zero, suc, ◌<◌, Bool, true, false, List, [], ◌∷◌, length, Option, Some, None, refl, ap, ◌∙◌, arith}
 use Rattle.spec_value.specs.Datum.{Text, fold_case}
 use Rattle.spec_program.specs.Tokens as t

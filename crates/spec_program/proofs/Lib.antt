@@ -7,6 +7,7 @@ pub mod BracedMovesHold
 pub mod ItemChoicesHold
 pub mod StatementMovesHold
 pub mod OtherMovesHold
+pub mod TextMovesHold
 pub mod ReadFits
 pub mod LowTrees
 pub mod ExpressionsFit

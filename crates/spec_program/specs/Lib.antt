@@ -16,6 +16,7 @@ pub mod BracedMoves
 pub mod ItemChoices
 pub mod StatementMoves
 pub mod OtherMoves
+pub mod TextMoves
 pub mod Trees
 pub mod TreeRows
 pub mod TreeLaws

@@ -123,3 +123,15 @@ pub fn statement_moves()
     ensures arms { ArmMovesHold }
     ensures tries { TryMovesHold }
 {}
+
+ghost use Rattle.spec_program.specs.TextMoves.{TextStarts, TokensStart, TextFaultsHold, TextEndsHold, LastLine};
+
+/// The tree of a text, or its first fault, is what the start of the frames means: first a token that does not fit, then a tree that is too
+/// deep, then a `break` or `continue` that no loop takes, each with its line.
+pub fn whole_texts()
+    ensures starts { TextStarts }
+    ensures tokens { TokensStart }
+    ensures faults { TextFaultsHold }
+    ensures ends { TextEndsHold }
+    ensures last { LastLine }
+{}

@@ -8,6 +8,7 @@ pub mod ItemChoicesHold
 pub mod StatementMovesHold
 pub mod OtherMovesHold
 pub mod TextMovesHold
+pub mod KeptNodesTell
 pub mod ReadFits
 pub mod LowTrees
 pub mod ExpressionsFit

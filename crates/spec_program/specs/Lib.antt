@@ -17,6 +17,7 @@ pub mod ItemChoices
 pub mod StatementMoves
 pub mod OtherMoves
 pub mod TextMoves
+pub mod KeptNodes
 pub mod Trees
 pub mod TreeRows
 pub mod TreeLaws

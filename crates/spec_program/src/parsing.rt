@@ -135,3 +135,13 @@ pub fn whole_texts()
     ensures ends { TextEndsHold }
     ensures last { LastLine }
 {}
+
+ghost use Rattle.spec_program.specs.KeptNodes.{KeptTellsDepth, KeptUnder, KeptBehind, KeptFew};
+
+/// A reader need not keep all nodes of a tree: few of them tell where it is too deep, and are made of those of its parts.
+pub fn kept_nodes()
+    ensures depth { KeptTellsDepth }
+    ensures around { KeptUnder }
+    ensures behind { KeptBehind }
+    ensures few { KeptFew }
+{}

@@ -1,8 +1,8 @@
 -- The nodes that are kept of a tree tell where it is too deep.
-use Rattle.std.proofs.Common.{Bool, true, false, Option, Some, None, if◌then◌else◌, nat_lt, not, ◌&&◌, ◌≡◌, ◌≤◌, ◌<◌, ℕ, zero, suc, List, [], ◌∷◌, ◌++◌, ◌+◌, map, length, refl, sym, ap, ◌∙◌, arith}
+use Rattle.std.proofs.Common.{Bool, true, false, Option, Some, if◌then◌else◌, nat_lt, not, ◌&&◌, ◌≡◌, ◌≤◌, ◌<◌, ℕ, suc, List, [], ◌∷◌, ◌++◌, ◌+◌, map, length, refl, sym, ap, ◌∙◌, arith}
 use Rattle.std.proofs.lemmas.Bool.Decides.{nat_tests}
-use Rattle.spec_program.specs.Reading.{Node, deeper, under}
-use Rattle.spec_program.specs.ReadPrograms.{too_deep, greatest_depth}
+use Rattle.spec_program.specs.Reading.{Node, deeper}
+use Rattle.spec_program.specs.ReadPrograms.{too_deep}
 use Rattle.spec_program.specs.KeptNodes.{matters, kept_behind, kept, KeptTellsDepth, KeptUnder, KeptBehind, KeptFew}
 
 -- a node matters, or is no deeper than those before, or one of these is too deep

@@ -1,9 +1,8 @@
 -- The start and the end of a text over frames.
-use Rattle.std.proofs.Common.{◌≡◌, ℕ, suc, ◌<◌, List, [], ◌∷◌, ◌++◌, length, refl, ap, ◌∙◌}
-use Rattle.spec_value.specs.Datum.{Text}
-use Rattle.spec_program.specs.Tokens.{Placed, tokens_of}
+use Rattle.std.proofs.Common.{◌≡◌, ℕ, [], ◌∷◌, refl, ap, ◌∙◌}
+use Rattle.spec_program.specs.Tokens.{tokens_of}
 use Rattle.spec_program.specs.Reading.{Read, got, stuck}
-use Rattle.spec_program.specs.ReadPrograms.{FoundBlock, block, tested, tested_loops, last_line, parsed_by, parsed}
+use Rattle.spec_program.specs.ReadPrograms.{FoundBlock, block, tested, tested_loops, parsed_by, parsed}
 use Rattle.spec_program.specs.Frames.{whole_text, means}
 use Rattle.spec_program.specs.TextMoves.{TextStarts, TokensStart, TextFaultsHold, TextEndsHold, LastLine}
 use Rattle.spec_program.proofs.AlikePrograms.{enough_for_text}

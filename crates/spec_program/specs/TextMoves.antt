@@ -1,9 +1,9 @@
 -- The start and the end of a text over frames: its tokens are read as a block, and what comes out is its tree or its first fault.
-use Rattle.std.specs.Prelude.{ℕ, suc, ◌<◌, ◌≡◌, List, [], ◌∷◌, ◌++◌, length, Option, Some, None}
+use Rattle.std.specs.Prelude.{ℕ, suc, ◌<◌, ◌≡◌, List, [], ◌∷◌, ◌++◌, length, Some, None}
 use Rattle.spec_value.specs.Datum.{Text}
 use Rattle.spec_program.specs.Tokens.{Placed, token, nesting, loop_name, tokens_of}
 use Rattle.spec_program.specs.Reading.{got, stuck}
-use Rattle.spec_program.specs.ReadPrograms.{Stray, FoundBlock, block, Parsed, program, at_fault, kind_of, last_line, too_deep, parsed_by, parsed_tokens, parsed}
+use Rattle.spec_program.specs.ReadPrograms.{Stray, FoundBlock, block, program, at_fault, kind_of, last_line, too_deep, parsed_by, parsed_tokens, parsed}
 use Rattle.spec_program.specs.Frames.{whole_text, means}
 
 -- ---- the start: with one number that is enough for all tokens

@@ -1,6 +1,6 @@
 -- What worlds consist of, and what was read and changed, may go to other threads, and be lent to them.
 use denote.Param.Send.{IsSend, IsSync, sendable}
-use denote.Param.SendFields.{declared_send}
+use denote.Param.SendFields.{as_row_send, declared_send, variants_send}
 use Rattle.std.proofs.Crossing.{crosses}
 use Rattle.moo_value.proofs.Crossing.{value_send, value_sync, text_send, text_sync}
 use Rattle.moo_compiler.proofs.Crossing.{program_send, program_sync}
@@ -10,6 +10,7 @@ use Rattle.footprint.specs.contracts.link.Link as link
 use Rattle.footprint.specs.contracts.lists.Names as names
 use Rattle.footprint.specs.contracts.lists.Objects as objects
 use Rattle.footprint.specs.contracts.object.Object as object
+use Rattle.footprint.specs.contracts.part.Part as part
 use Rattle.footprint.specs.contracts.question.Answer as answer
 use Rattle.footprint.specs.contracts.question.Question as question
 use Rattle.footprint.specs.contracts.reads.Changes as changes
@@ -86,8 +87,13 @@ read_send = declared_send read.the_type (question_send, (answer_send, tt))
 pub reads_send : IsSend reads.the_row
 reads_send = search (sendable, crosses, read_send) depth 60
 
+part_send : IsSend part.the_row
+part_send = search (sendable, crosses, header_send, objects_send, names_send, verbs_send) depth 60
+
 change_send : IsSend change.the_row
-change_send = search (sendable, crosses, text_send, value_send) depth 60
+change_send =
+    variants_send change.enum
+    (((search (sendable, crosses, as_row_send) depth 60), ((search (sendable, crosses, as_row_send, part_send) depth 60), tt)), (((search (sendable, crosses, as_row_send) depth 60), ((search (sendable, crosses, as_row_send, text_send) depth 60), ((search (sendable, crosses, as_row_send, value_send) depth 60), tt))), (((search (sendable, crosses, as_row_send) depth 60), ((search (sendable, crosses, as_row_send, object_send) depth 60), tt)), (((search (sendable, crosses, as_row_send) depth 60), ((search (sendable, crosses, as_row_send, link_send) depth 60), tt)), (((search (sendable, crosses, as_row_send) depth 60), tt), (((search (sendable, crosses, as_row_send) depth 60), tt), (((search (sendable, crosses, as_row_send) depth 60), tt), tt)))))))
 
 pub changes_send : IsSend changes.the_row
 changes_send = search (sendable, crosses, change_send) depth 60

@@ -1,12 +1,14 @@
 -- What the records and the questions of this crate mean.
 use Rattle.spec_world.specs.Questions as meant
-use Rattle.spec_world.specs.Questions.{about_header, about_children, about_contents, about_defines, about_slot, about_verbs, about_link, about_greatest, about_ending, the_header, the_children, the_contents, the_defines, the_slot, the_verbs, the_link, the_greatest, the_ending, new_value, new_next}
+use Rattle.spec_world.specs.Questions.{about_header, about_children, about_contents, about_defines, about_slot, about_verbs, about_link, about_greatest, about_ending, the_header, the_children, the_contents, the_defines, the_slot, the_verbs, the_link, the_greatest, the_ending, new_header, new_children, new_contents, new_defines, new_verbs, new_part, new_value, new_object, new_link, new_greatest, new_ending, new_next}
 use Rattle.footprint.specs.declared.question.Question.{Question}
 use Rattle.footprint.specs.declared.question.Question.TheVariants.{Header as HeaderOf, Children as ChildrenOf, Contents as ContentsOf, Defines as DefinesOf, Slot as SlotOf, Verbs as VerbsOf, Link as LinkOf, Greatest as GreatestOf, Ending as EndingOf}
 use Rattle.footprint.specs.declared.question.Answer.{Answer}
 use Rattle.footprint.specs.declared.question.Answer.TheVariants.{Header, Children, Contents, Defines, Slot, Verbs, Link, Greatest, Ending}
 use Rattle.footprint.specs.declared.change.Change.{Change}
-use Rattle.footprint.specs.declared.change.Change.TheVariants.{Value, Next}
+use Rattle.footprint.specs.declared.change.Change.TheVariants.{Part as PartOf, Value, Object, Link as LinkWith, Greatest as GreatestIs, Ending as EndingIs, Next}
+use Rattle.footprint.specs.declared.part.Part.{Part}
+use Rattle.footprint.specs.declared.part.Part.TheVariants.{Header as HeaderPart, Children as ChildrenPart, Contents as ContentsPart, Defines as DefinesPart, Verbs as VerbsPart}
 
 abbrev pub question_of : Question → meant.Question
 question_of (HeaderOf o) = about_header o
@@ -30,6 +32,18 @@ answer_of (Link k) = the_link k
 answer_of (Greatest o) = the_greatest o
 answer_of (Ending b) = the_ending b
 
+abbrev pub part_of : Part → meant.Part
+part_of (HeaderPart h) = new_header h
+part_of (ChildrenPart os) = new_children os
+part_of (ContentsPart os) = new_contents os
+part_of (DefinesPart ts) = new_defines ts
+part_of (VerbsPart vs) = new_verbs vs
+
 abbrev pub change_of : Change → meant.Change
+change_of (PartOf o a) = new_part o (part_of a)
 change_of (Value o p v) = new_value o p v
+change_of (Object o x) = new_object o x
+change_of (LinkWith c k) = new_link c k
+change_of (GreatestIs o) = new_greatest o
+change_of (EndingIs b) = new_ending b
 change_of (Next n) = new_next n

@@ -2,13 +2,15 @@
 use Rattle.std.specs.Prelude.{◌≡◌, refl}
 use Rattle.std.specs.Coded.{Coded, code_by, coded×}
 use Rattle.spec_world.specs.Questions as meant
-use Rattle.spec_world.specs.Questions.{about_header, about_children, about_contents, about_defines, about_slot, about_verbs, about_link, about_greatest, about_ending, the_header, the_children, the_contents, the_defines, the_slot, the_verbs, the_link, the_greatest, the_ending, new_value, new_next}
-use Rattle.footprint.specs.Meanings.{question_of, answer_of, change_of}
+use Rattle.spec_world.specs.Questions.{about_header, about_children, about_contents, about_defines, about_slot, about_verbs, about_link, about_greatest, about_ending, the_header, the_children, the_contents, the_defines, the_slot, the_verbs, the_link, the_greatest, the_ending, new_header, new_children, new_contents, new_defines, new_verbs, new_part, new_value, new_object, new_link, new_greatest, new_ending, new_next}
+use Rattle.footprint.specs.Meanings.{question_of, answer_of, part_of, change_of}
 use Rattle.footprint.specs.contracts.change.Change as change
 use Rattle.footprint.specs.contracts.question.Answer as answer
 use Rattle.footprint.specs.contracts.question.Question as question
 use Rattle.footprint.specs.declared.change.Change.{Change}
-use Rattle.footprint.specs.declared.change.Change.TheVariants.{Value, Next}
+use Rattle.footprint.specs.declared.change.Change.TheVariants.{Part as PartOf, Value, Object, Link as LinkWith, Greatest as GreatestIs, Ending as EndingIs, Next}
+use Rattle.footprint.specs.declared.part.Part.{Part}
+use Rattle.footprint.specs.declared.part.Part.TheVariants.{Header as HeaderPart, Children as ChildrenPart, Contents as ContentsPart, Defines as DefinesPart, Verbs as VerbsPart}
 use Rattle.footprint.specs.declared.question.Answer.{Answer}
 use Rattle.footprint.specs.declared.question.Answer.TheVariants.{Header, Children, Contents, Defines, Slot, Verbs, Link, Greatest, Ending}
 use Rattle.footprint.specs.declared.question.Question.{Question}
@@ -74,12 +76,36 @@ read_code =
 
 -- ---- changes
 
+abbrev pub from_part : meant.Part → Part
+from_part (new_header h) = HeaderPart h
+from_part (new_children os) = ChildrenPart os
+from_part (new_contents os) = ContentsPart os
+from_part (new_defines ts) = DefinesPart ts
+from_part (new_verbs vs) = VerbsPart vs
+
+part_back : (a : meant.Part) → part_of (from_part a) ≡ a
+part_back (new_header h) = refl
+part_back (new_children os) = refl
+part_back (new_contents os) = refl
+part_back (new_defines ts) = refl
+part_back (new_verbs vs) = refl
+
 abbrev pub from_change : meant.Change → Change
+from_change (new_part o a) = PartOf o (from_part a)
 from_change (new_value o p v) = Value o p v
+from_change (new_object o x) = Object o x
+from_change (new_link c k) = LinkWith c k
+from_change (new_greatest o) = GreatestIs o
+from_change (new_ending b) = EndingIs b
 from_change (new_next n) = Next n
 
 pub change_back : (c : meant.Change) → change_of (from_change c) ≡ c
+change_back (new_part o a) = λ i. new_part o (part_back a i)
 change_back (new_value o p v) = refl
+change_back (new_object o x) = refl
+change_back (new_link c k) = refl
+change_back (new_greatest o) = refl
+change_back (new_ending b) = refl
 change_back (new_next n) = refl
 
 abbrev pub change_code : Coded meant.Change

@@ -10,6 +10,7 @@ pub mod header;
 pub mod link;
 pub mod lists;
 pub mod object;
+pub mod part;
 pub mod question;
 pub mod reads;
 mod same;

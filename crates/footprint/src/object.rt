@@ -2,9 +2,12 @@
 ghost use Rattle.std.specs.Prelude.{◌≡◌, IfOk};
 ghost use Rattle.spec_value.specs.Datum.{fold_case};
 ghost use Rattle.spec_value.specs.Table.{named, with_name};
+ghost use Rattle.spec_world.specs.Questions.{put_part};
+ghost use Rattle.footprint.specs.Meanings.{part_of};
 
 use crate::header::Header;
 use crate::lists::{Names, Objects};
+use crate::part::Part;
 use crate::slot::Slot;
 use crate::slots::Slots;
 use crate::verb::Verbs;
@@ -127,6 +130,19 @@ impl Object {
         &self.verbs
     }
 
+    /// The object has another part.
+    pub fn put_part(&mut self, part: Part)
+        ensures { self.new ≡ put_part (part_of part) self.old }
+    {
+        match part {
+            Part::Header(header) => self.header = header,
+            Part::Children(children) => self.children = children,
+            Part::Contents(contents) => self.contents = contents,
+            Part::Defines(names) => self.defines = names,
+            Part::Verbs(verbs) => self.verbs = verbs,
+        }
+    }
+
     /// The object with another value in a slot, or None where it has no such slot.
     pub fn with_value(
         &self,
@@ -149,5 +165,20 @@ impl Object {
             slots,
             verbs: self.verbs.clone()?,
         }))
+    }
+}
+
+impl Clone for Object {
+    ghost is_clone = { λ object copy. copy ≡ object };
+
+    fn clone(&self) -> Result<Object, AllocError> {
+        Ok(Object {
+            header: self.header.clone()?,
+            children: self.children.clone()?,
+            contents: self.contents.clone()?,
+            defines: self.defines.clone()?,
+            slots: self.slots.clone()?,
+            verbs: self.verbs.clone()?,
+        })
     }
 }

@@ -80,6 +80,16 @@ impl Slots {
     }
 }
 
+impl Clone for Slots {
+    ghost is_clone = { λ slots copy. copy ≡ slots };
+
+    fn clone(&self) -> Result<Slots, AllocError> {
+        Ok(Slots {
+            entries: self.entries.clone()?,
+        })
+    }
+}
+
 // Where the slot of a property stands.
 fn position(entries: &[(Text, Slot)], name: &Text) -> Option<usize>
     ensures { MatchOption result (named entries.now (fold_case name.now) ≡ None)

@@ -15,3 +15,4 @@ pub mod Lines
 pub mod Shapes
 pub mod SlotChanges
 pub mod SlotKeeps
+pub mod Locally

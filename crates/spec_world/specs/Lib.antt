@@ -3,6 +3,7 @@ pub mod WorldCode
 pub mod Inherit
 pub mod WellFormed
 pub mod Agreeing
+pub mod Locally
 pub mod Questions
 pub mod Laws
 pub mod ObjectLaws

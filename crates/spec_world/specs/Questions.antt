@@ -1,9 +1,10 @@
 -- What a world is asked and told while a step runs: questions, answers, agreement and changes.
-use Rattle.std.specs.Prelude.{◌≡◌, ℕ, max, min, ℤ, Bool, List, [], ◌∷◌, Option, Some, None, option_map}
+use Rattle.std.specs.Prelude.{◌≡◌, ℕ, max, min, ℤ, pos, int_le, Bool, ◌&&◌, List, [], ◌∷◌, Option, Some, None, option_map, if◌then◌else◌}
 use Rattle.spec_value.specs.Datum.{Datum, Text}
-use Rattle.spec_value.specs.Table.{at}
-use Rattle.spec_world.specs.World.{World, Header, Slot, Verb, Link, object_at}
+use Rattle.spec_value.specs.Table.{Numbered, at, with, without}
+use Rattle.spec_world.specs.World.{World, Header, Object, Slot, Verb, Link, object_at}
 use Rattle.spec_world.specs.Inherit.{slot_at, with_slot}
+use Rattle.spec_world.specs.Families.{change_object}
 
 -- ---- questions and answers
 
@@ -65,9 +66,53 @@ Agrees w (r ∷ rs) = (ask w r.question ≡ r.answer) × Agrees w rs
 
 -- ---- changes
 
--- a property has another value on an object; the next step has at least this number
+-- another content for one part of an object: its header, its children, its contents, the names of the properties that it defines, its verbs
+pub data Part : Type 0 where
+  new_header : Header → Part
+  new_children new_contents : List ℤ → Part
+  new_defines : List Text → Part
+  new_verbs : List Verb → Part
+
+abbrev pub put_header : Part → Header → Header
+put_header (new_header h) _ = h
+put_header _ h = h
+
+abbrev pub put_children : Part → List ℤ → List ℤ
+put_children (new_children os) _ = os
+put_children _ os = os
+
+abbrev pub put_contents : Part → List ℤ → List ℤ
+put_contents (new_contents os) _ = os
+put_contents _ os = os
+
+abbrev pub put_defines : Part → List Text → List Text
+put_defines (new_defines ts) _ = ts
+put_defines _ ts = ts
+
+abbrev pub put_verbs : Part → List Verb → List Verb
+put_verbs (new_verbs vs) _ = vs
+put_verbs _ vs = vs
+
+abbrev pub put_part : Part → Object → Object
+put_part a x =
+    record {
+      header = put_header a x.header;
+      children = put_children a x.children;
+      contents = put_contents a x.contents;
+      defines = put_defines a x.defines;
+      slots = x.slots;
+      verbs = put_verbs a x.verbs;
+    }
+
+-- an object that is there has another part; a slot that is there has another value; an object, and a link, is made, or is another one, or goes;
+-- the greatest number; the ending flag; the next step has at least this number
 pub data Change : Type 0 where
+  new_part : ℤ → Part → Change
   new_value : ℤ → Text → Datum → Change
+  new_object : ℤ → Option Object → Change
+  new_link : ℤ → Option Link → Change
+  new_greatest : ℤ → Change
+  new_ending : Bool → Change
   new_next : ℕ → Change
 
 -- the slot, where there is one, with another value
@@ -75,12 +120,26 @@ abbrev pub put_value : World → ℤ → Text → Datum → Option Slot → Worl
 put_value w o p v None = w
 put_value w o p v (Some s) = with_slot w o p (record s { content = Some v })
 
+-- objects and links have numbers from 0 to 999,999
+abbrev pub is_number : ℤ → Bool
+is_number n = int_le (pos 0) n && int_le n (pos 999999)
+
+-- under another number nothing is made
+abbrev pub put_record : {X : Type 0} → Numbered X → ℤ → Option X → Numbered X
+put_record m n None = without m n
+put_record m n (Some x) = if is_number n then with m n x else m
+
 -- no step has this number
 abbrev pub last_next : ℕ
 last_next = 33554432
 
 abbrev pub apply : Change → World → World
+apply (new_part o a) w = change_object w o (put_part a)
 apply (new_value o p v) w = put_value w o p v (slot_at w o p)
+apply (new_object o x) w = record w { objects = put_record w.objects o x }
+apply (new_link c k) w = record w { links = put_record w.links c k }
+apply (new_greatest o) w = record w { greatest = o }
+apply (new_ending b) w = record w { ending = b }
 apply (new_next n) w = record w { next = max (min n last_next) w.next }
 
 -- the changes in turn

@@ -6,3 +6,11 @@ pub fn parts()
     ensures agrees { WellFormedAgrees }
     ensures whole { AgreesIsWellFormed }
 {}
+
+ghost use Rattle.spec_world.specs.Locally.{RanksTell, ParentsTell};
+
+/// There is no cycle where ranks fall, and names and slots agree along lines where they agree with each parent.
+pub fn locally()
+    ensures ranks { RanksTell }
+    ensures parents { ParentsTell }
+{}

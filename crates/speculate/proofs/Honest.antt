@@ -1,10 +1,10 @@
 -- Each change keeps a board honest.
-use Rattle.std.proofs.Common.{◌≡◌, ℕ, zero, suc, ◌+◌, List, [], ◌∷◌, ◌++◌, length, take, Some, slice_get, slice_set, inl, inr, refl, sym, ap, subst, ◌∙◌, arith, length-append, length-drop}
+use Rattle.std.proofs.Common.{◌≡◌, ℕ, zero, suc, ◌+◌, List, [], ◌∷◌, ◌++◌, length, take, IsTrue, Some, slice_get, slice_set, inl, inr, refl, sym, ap, subst, ◌∙◌, arith, length-append, length-drop}
 use Rattle.std.proofs.lemmas.List.{take_all}
 use Rattle.std.proofs.lemmas.Option.{slice_get_within}
 use Rattle.spec_world.specs.World.{World}
 use Rattle.spec_world.specs.Questions.{Agrees}
-use Rattle.spec_task.specs.Step.{Step, Outcome, RunsOn, AllInRange, play1, play}
+use Rattle.spec_task.specs.Step.{Step, Outcome, RunsOn, AllInRange, in_range, play1, play}
 use Rattle.world.specs.Counted.{Counted}
 use Rattle.world.specs.Sound.{IsSound}
 use Rattle.speculate.specs.declared.held.Held.{Held}
@@ -23,6 +23,12 @@ kept_plays : (w : World) (s : Step) (g : Guessed) (w' : Counted) (n : ℕ) (o : 
 kept_plays w s g w' n o sound same right agrees a b =
     let P : Step → Type 0 = λ z. play1 w z ≡ (after_guess g w, g.outcome) in
     rw (a, b) (subst P same (right w sound agrees))
+
+-- the changes of a right guess leave the world sound
+pub kept_is_sound : (w : World) (s : Step) (g : Guessed) → IsSound w → IsTrue (in_range s) → g.step ≡ s → IsRight g → Agrees w g.reads → IsSound (after_guess g w)
+kept_is_sound w s g sound range same right agrees =
+    let P : Step → Type 0 = λ z. IsSound (play1 w z).0 in
+    subst IsSound (ap (λ (p : World × Outcome). p.0) (right w sound agrees)) (subst P (sym same) (sound_step w s sound range))
 
 -- whatever a position holds, its commit is one step of the play
 pub committed_plays : (w : Counted) (s : Step) (h : Held) (w' : Counted) (o : Outcome) (m : Mark) → IsSound w.plain → FitsStep s h → Committed w s h w' o m → play1 w.plain s ≡ (w'.plain, o)

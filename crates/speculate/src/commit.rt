@@ -2,6 +2,7 @@
 ghost use Rattle.std.specs.Prelude.{◌≡◌, ◌≢◌, IsTrue, IfOk, IfErr};
 ghost use Rattle.spec_world.specs.Questions.{Agrees};
 ghost use Rattle.spec_task.specs.Step.{in_range};
+ghost use Rattle.world.specs.Sound.{IsSound};
 ghost use Rattle.speculate.specs.BoardState.{FitsStep};
 ghost use Rattle.speculate.specs.Right.{after_guess};
 ghost use Rattle.speculate.specs.Progress.{Ran, Committed, IsUndone};
@@ -17,6 +18,7 @@ use world::worlds::World;
 
 /// Commits a step on the world, as its position says. After want of memory the world is as it was, what was held is given back, and a run that was
 /// undone is counted.
+#[tactic(auto, using(crate::proofs::Honest::kept_is_sound))]
 pub(crate) fn commit(
     alloc: Global,
     world: &mut World,
@@ -34,6 +36,7 @@ pub(crate) fn commit(
         Held::Empty => unreachable!(),
         Held::Loss => run(alloc, world, undone, Held::Loss, step, Mark::Lost),
         Held::Holds(guess) => {
+            world.know();
             if guess.agrees(world) {
                 keep(world, guess)
             } else {
@@ -45,7 +48,8 @@ pub(crate) fn commit(
 
 // A guess that agrees is kept.
 fn keep(world: &mut World, guess: Guess) -> Result<(Outcome, Mark), Held>
-    requires { Agrees world.old.plain guess.reads }
+    requires agrees { Agrees world.old.plain guess.reads }
+    requires sound { IsSound (after_guess guess world.old.plain) }
     ensures ok { IfOk result (λ r. (world.new ≡ record { plain = after_guess guess world.old.plain; opened = world.old.opened }) × (r.0 ≡ guess.outcome) × (r.1 ≡ Mark.Kept)) }
     ensures err { IfErr result (λ h. (h ≡ Held.Holds guess) × (world.new ≡ world.old)) }
 {

@@ -1,6 +1,7 @@
 //! Guesses.
 ghost use Rattle.std.specs.Prelude.{◌≡◌, ◌↔◌, IsTrue, IfOk, IfErr};
 ghost use Rattle.spec_world.specs.Questions.{Agrees};
+ghost use Rattle.world.specs.Sound.{IsSound};
 ghost use Rattle.speculate.specs.Right.{IsRight, after_guess};
 
 use footprint::reads::{Changes, Reads};
@@ -54,7 +55,8 @@ impl Guess {
 
     /// The world has the changes, and the guess's outcome is the step's. After want of memory nothing has changed.
     pub(crate) fn keep(self, world: &mut World) -> Result<Outcome, Guess>
-        requires { Agrees world.old.plain self.reads }
+        requires agrees { Agrees world.old.plain self.reads }
+        requires sound { IsSound (after_guess self world.old.plain) }
         ensures ok { IfOk result (λ o. (world.new ≡ record { plain = after_guess self world.old.plain; opened = world.old.opened }) × (o ≡ self.outcome)) }
         ensures err { IfErr result (λ g. (g ≡ self) × (world.new ≡ world.old)) }
     {

@@ -4,7 +4,7 @@ use Rattle.spec_world.specs.World.{World}
 use Rattle.spec_world.specs.Questions.{Change, apply}
 use Rattle.spec_task.specs.Step.{Event, Outcome, performed}
 use Rattle.world.specs.Sound.{IsSound}
-use Rattle.world.proofs.SoundKeeps.{sound_applied, sound_performed}
+use Rattle.world.proofs.SoundKeeps.{sound_performed}
 use Rattle.view.specs.Law.{Goes, AreSound}
 use Rattle.task_run.specs.Performed.{StepsTo}
 
@@ -14,10 +14,10 @@ sound_after_step holds now old new x (Err e) sound stepped = stepped
 sound_after_step holds now old new x (Ok o) sound stepped = λ w h.
     let k = stepped w h in subst IsSound (sym k.1.0) (sound_performed (now old w) x (sound w k.0))
 
--- what only changes leaves the worlds sound
+-- a change that leaves every sound world sound
 pub sound_after_change : {V : Type 0} (holds : V → World → Type 0) (now : V → World → World) (old new : V) (c : Change)
-    → AreSound holds now old → Goes holds now old new (λ before after. after ≡ apply c before) → AreSound holds now new
-sound_after_change holds now old new c sound changed = λ w h. let k = changed w h in subst IsSound (sym k.1) (sound_applied c (now old w) (sound w k.0))
+    → ((w : World) → IsSound w → IsSound (apply c w)) → AreSound holds now old → Goes holds now old new (λ before after. after ≡ apply c before) → AreSound holds now new
+sound_after_change holds now old new c keeps sound changed = λ w h. let k = changed w h in subst IsSound (sym k.1) (keeps (now old w) (sound w k.0))
 
 -- what only reads leaves the worlds sound
 pub sound_after_read : {V : Type 0} (holds : V → World → Type 0) (now : V → World → World) (old new : V)

@@ -1,15 +1,17 @@
 -- What an answer becomes by changes follows from the answer before them.
 use Rattle.std.proofs.Common.{◌≡◌, ℤ, Bool, true, false, cond, ◌&&◌, List, [], ◌∷◌, Option, Some, None, option_map, max, min, refl, sym, ◌∙◌, ap}
-use Rattle.std.specs.Ordering.{nat_cmp, int_cmp, eq_by_cmp}
+use Rattle.std.specs.Ordering.{nat_cmp, int_cmp, int_eq, eq_by_cmp}
 use Rattle.std.specs.Cmp.{int_cmp_total, Equal-is}
 use Rattle.std.specs.Cmp.Lexicographic.{slice_cmp, nat_list_cmp_total}
 use Rattle.std.specs.FinMap.{int_cmp-IsAntisymmetric, slice_cmp-IsAntisymmetric, nat_cmp-IsAntisymmetric}
 use Rattle.std.specs.FinMap.Entries.{find-put}
 use Rattle.spec_value.specs.Datum.{Datum, Text, fold_case}
-use Rattle.spec_value.specs.Table.{named, with_name}
+use Rattle.spec_value.specs.Table.{Numbered, at, with, named, with_name}
 use Rattle.spec_world.specs.World.{World, Object, Slot, object_at, with_object}
 use Rattle.spec_world.specs.Inherit.{slot_of, slot_at, put_slot, with_slot}
-use Rattle.spec_world.specs.Questions.{Question, about_header, about_children, about_contents, about_defines, about_slot, about_verbs, about_link, about_greatest, about_ending, Answer, the_header, the_children, the_contents, the_defines, the_slot, the_verbs, ask, Change, new_value, new_next, put_value, apply, apply_all}
+use Rattle.spec_world.specs.Families.{change_at, change_object}
+use Rattle.spec_world.proofs.Households.{at_changed, at_without}
+use Rattle.spec_world.specs.Questions.{Question, about_header, about_children, about_contents, about_defines, about_slot, about_verbs, about_link, about_greatest, about_ending, Answer, the_header, the_children, the_contents, the_defines, the_slot, the_verbs, the_link, the_greatest, the_ending, ask, Part, put_header, put_children, put_contents, put_defines, put_verbs, put_part, Change, new_part, new_value, new_object, new_link, new_greatest, new_ending, new_next, put_value, is_number, put_record, apply, apply_all}
 
 abbrev same_number : ℤ → ℤ → Bool
 same_number = eq_by_cmp int_cmp
@@ -46,8 +48,27 @@ filled s v = record s { content = Some v }
 abbrev refilled : Bool → Datum → Option Slot → Option Slot
 refilled b v s = cond b (option_map (λ t. filled t v) s) s
 
+-- whether another record, or none, for a number is one for this number
+hits : {X : Type 0} → ℤ → Option X → ℤ → Bool
+hits n None q = int_eq q n
+hits n (Some x) q = is_number n && int_eq q n
+
 abbrev after : Change → Question → Answer → Answer
+after (new_part o a) (about_header q) (the_header h) = the_header (cond (int_eq q o) (option_map (put_header a) h) h)
+after (new_part o a) (about_children q) (the_children os) = the_children (cond (int_eq q o) (option_map (put_children a) os) os)
+after (new_part o a) (about_contents q) (the_contents os) = the_contents (cond (int_eq q o) (option_map (put_contents a) os) os)
+after (new_part o a) (about_defines q) (the_defines ts) = the_defines (cond (int_eq q o) (option_map (put_defines a) ts) ts)
+after (new_part o a) (about_verbs q) (the_verbs vs) = the_verbs (cond (int_eq q o) (option_map (put_verbs a) vs) vs)
 after (new_value o p v) (about_slot q r) (the_slot s) = the_slot (refilled (same_number q o && same_name (fold_case r) (fold_case p)) v s)
+after (new_object o x) (about_header q) (the_header h) = the_header (cond (hits o x q) (option_map (λ y. y.header) x) h)
+after (new_object o x) (about_children q) (the_children os) = the_children (cond (hits o x q) (option_map (λ y. y.children) x) os)
+after (new_object o x) (about_contents q) (the_contents os) = the_contents (cond (hits o x q) (option_map (λ y. y.contents) x) os)
+after (new_object o x) (about_defines q) (the_defines ts) = the_defines (cond (hits o x q) (option_map (λ y. y.defines) x) ts)
+after (new_object o x) (about_slot q r) (the_slot s) = the_slot (cond (hits o x q) (slot_of x r) s)
+after (new_object o x) (about_verbs q) (the_verbs vs) = the_verbs (cond (hits o x q) (option_map (λ y. y.verbs) x) vs)
+after (new_link c k) (about_link d) (the_link l) = the_link (cond (hits c k d) k l)
+after (new_greatest o) about_greatest a = the_greatest o
+after (new_ending b) about_ending a = the_ending b
 after c q a = a
 
 unchanged : (b : Bool) (v : Datum) (s : Option Slot) → (b ≡ true → s ≡ None) → s ≡ refilled b v s
@@ -118,8 +139,63 @@ something_after w o p v x s is at_p (about_link c) = refl
 something_after w o p v x s is at_p about_greatest = refl
 something_after w o p v x s is at_p about_ending = refl
 
+-- where another part of an object comes
+facet_changed : {A : Type 0} (get : Object → A) (f : Object → Object) (g : A → A) → ((x : Object) → get (f x) ≡ g (get x)) → (w : World) (o q : ℤ)
+    → option_map get (object_at (change_object w o f) q) ≡ cond (int_eq q o) (option_map g (option_map get (object_at w q))) (option_map get (object_at w q))
+facet_changed get f g fits w o q = ap (option_map get) (at_changed w o q f) ∙ go (int_eq q o) (object_at w q)
+  where
+    go : (b : Bool) (y : Option Object) → option_map get (cond b (option_map f y) y) ≡ cond b (option_map g (option_map get y)) (option_map get y)
+    go true None = refl
+    go true (Some x) = ap Some (fits x)
+    go false y = refl
+
+slot_stays : (a : Part) (w : World) (o q : ℤ) (r : Text) → slot_at (change_object w o (put_part a)) q r ≡ slot_at w q r
+slot_stays a w o q r = ap (λ (y : Option Object). slot_of y r) (at_changed w o q (put_part a)) ∙ go (int_eq q o) (object_at w q)
+  where
+    go : (b : Bool) (y : Option Object) → slot_of (cond b (option_map (put_part a) y) y) r ≡ slot_of y r
+    go true None = refl
+    go true (Some x) = refl
+    go false y = refl
+
+part_after : (o : ℤ) (a : Part) (w : World) (q : Question) → ask (change_object w o (put_part a)) q ≡ after (new_part o a) q (ask w q)
+part_after o a w (about_header q) = ap the_header (facet_changed (λ x. x.header) (put_part a) (put_header a) (λ x. refl) w o q)
+part_after o a w (about_children q) = ap the_children (facet_changed (λ x. x.children) (put_part a) (put_children a) (λ x. refl) w o q)
+part_after o a w (about_contents q) = ap the_contents (facet_changed (λ x. x.contents) (put_part a) (put_contents a) (λ x. refl) w o q)
+part_after o a w (about_defines q) = ap the_defines (facet_changed (λ x. x.defines) (put_part a) (put_defines a) (λ x. refl) w o q)
+part_after o a w (about_slot q r) = ap the_slot (slot_stays a w o q r)
+part_after o a w (about_verbs q) = ap the_verbs (facet_changed (λ x. x.verbs) (put_part a) (put_verbs a) (λ x. refl) w o q)
+part_after o a w q = rest (object_at w o)
+  where
+    rest : (x : Option Object) → ask (change_at w o (put_part a) x) q ≡ after (new_part o a) q (ask w q)
+    rest None = refl
+    rest (Some x) = refl
+
+-- where another record, or none, comes
+at_record : {X : Type 0} (m : Numbered X) (n q : ℤ) (x : Option X) → at (put_record m n x) q ≡ cond (hits n x q) x (at m q)
+unfolding hits
+at_record m n q None = at_without m n q
+at_record m n q (Some x) = go (is_number n)
+  where
+    go : (b : Bool) → at (cond b (with m n x) m) q ≡ cond (b && int_eq q n) (Some x) (at m q)
+    go true = find-put int_cmp int_cmp_total q n x m
+    go false = refl
+
+either_way : {A B : Type 0} (f : A → B) (b : Bool) (x y : A) → f (cond b x y) ≡ cond b (f x) (f y)
+either_way f true x y = refl
+either_way f false x y = refl
+
+object_after : (o : ℤ) (x : Option Object) (w : World) (q : Question) → ask (record w { objects = put_record w.objects o x }) q ≡ after (new_object o x) q (ask w q)
+object_after o x w (about_header q) = ap (λ y. the_header (option_map (λ z. z.header) y)) (at_record w.objects o q x) ∙ ap the_header (either_way (option_map (λ z. z.header)) (hits o x q) x (object_at w q))
+object_after o x w (about_children q) = ap (λ y. the_children (option_map (λ z. z.children) y)) (at_record w.objects o q x) ∙ ap the_children (either_way (option_map (λ z. z.children)) (hits o x q) x (object_at w q))
+object_after o x w (about_contents q) = ap (λ y. the_contents (option_map (λ z. z.contents) y)) (at_record w.objects o q x) ∙ ap the_contents (either_way (option_map (λ z. z.contents)) (hits o x q) x (object_at w q))
+object_after o x w (about_defines q) = ap (λ y. the_defines (option_map (λ z. z.defines) y)) (at_record w.objects o q x) ∙ ap the_defines (either_way (option_map (λ z. z.defines)) (hits o x q) x (object_at w q))
+object_after o x w (about_slot q r) = ap (λ y. the_slot (slot_of y r)) (at_record w.objects o q x) ∙ ap the_slot (either_way (λ y. slot_of y r) (hits o x q) x (object_at w q))
+object_after o x w (about_verbs q) = ap (λ y. the_verbs (option_map (λ z. z.verbs) y)) (at_record w.objects o q x) ∙ ap the_verbs (either_way (option_map (λ z. z.verbs)) (hits o x q) x (object_at w q))
+object_after o x w q = refl
+
 one_after : (c : Change) (w : World) (q : Question) → ask (apply c w) q ≡ after c q (ask w q)
 unfolding with_slot
+one_after (new_part o a) w q = part_after o a w q
 one_after (new_value o p v) w q = by_slot (slot_at w o p) refl
   where
     by_object : (s : Slot) (z : Option Object) → object_at w o ≡ z → slot_of z p ≡ Some s → ask (put_slot w o p (filled s v) z) q ≡ after (new_value o p v) q (ask w q)
@@ -129,18 +205,17 @@ one_after (new_value o p v) w q = by_slot (slot_at w o p) refl
     by_slot : (s : Option Slot) → slot_at w o p ≡ s → ask (put_value w o p v s) q ≡ after (new_value o p v) q (ask w q)
     by_slot None e = nothing_after w o p v e q
     by_slot (Some s) e = by_object s (object_at w o) refl e
-one_after (new_next n) w q = untouched q
-  where
-    untouched : (q : Question) → ask (record w { next = max (min n 33554432) w.next }) q ≡ after (new_next n) q (ask w q)
-    untouched (about_header o) = refl
-    untouched (about_children o) = refl
-    untouched (about_contents o) = refl
-    untouched (about_defines o) = refl
-    untouched (about_slot o p) = refl
-    untouched (about_verbs o) = refl
-    untouched (about_link c) = refl
-    untouched about_greatest = refl
-    untouched about_ending = refl
+one_after (new_object o x) w q = object_after o x w q
+one_after (new_link c k) w (about_link d) = ap the_link (at_record w.links c d k)
+one_after c w (about_header q) = refl
+one_after c w (about_children q) = refl
+one_after c w (about_contents q) = refl
+one_after c w (about_defines q) = refl
+one_after c w (about_slot q r) = refl
+one_after c w (about_verbs q) = refl
+one_after c w (about_link d) = refl
+one_after c w about_greatest = refl
+one_after c w about_ending = refl
 
 -- worlds that answer a question alike still do after changes
 pub alike_after : (cs : List Change) (w v : World) (q : Question) → ask w q ≡ ask v q → ask (apply_all cs w) q ≡ ask (apply_all cs v) q

@@ -2,8 +2,8 @@
 ghost use Rattle.std.specs.Prelude.{◌≡◌, IfOk, OnOk};
 ghost use Rattle.spec_value.specs.Table.{at};
 ghost use Rattle.spec_world.specs.Inherit.{slot_at};
-ghost use Rattle.spec_world.specs.Questions.{header_at, children_at, contents_at, defines_at, verbs_at, apply, new_value, new_next};
-ghost use Rattle.footprint.specs.Meanings.{change_of};
+ghost use Rattle.spec_world.specs.Questions.{header_at, children_at, contents_at, defines_at, verbs_at, apply, new_part, new_value, new_object, new_link, new_greatest, new_ending, new_next};
+ghost use Rattle.footprint.specs.Meanings.{part_of, change_of};
 ghost use Rattle.view.specs.Law.{Goes, Keeps, Lasts, StaysSound, Tells};
 
 use crate::law::View;
@@ -11,6 +11,8 @@ use footprint::change::Change;
 use footprint::header::Header;
 use footprint::link::Link;
 use footprint::lists::{Names, Objects};
+use footprint::object::Object;
+use footprint::part::Part;
 use footprint::question::{Answer, Question};
 use footprint::slot::Slot;
 use footprint::verb::Verbs;
@@ -128,6 +130,55 @@ pub fn read_ending<V: View>(view: &mut V) -> Result<bool, AllocError>
         Answer::Ending(ending) => Ok(ending),
         _ => unreachable!(),
     }
+}
+
+/// An object has another part. Where there is no such object nothing changes.
+pub fn write_part<V: View>(view: &mut V, object: i32, part: Part) -> Result<(), AllocError>
+    ensures lasts { Lasts V.holds V.home V.anchor view.old view.new result }
+    ensures left { OnOk result (Goes V.holds V.now view.old view.new (λ before after. after ≡ apply (new_part object (part_of part)) before)) }
+    ensures kept { OnOk result (Keeps V.holds view.old view.new) }
+{
+    view.put(Change::Part(object, part))
+}
+
+/// An object is made, or is another one, or goes.
+pub fn write_object<V: View>(
+    view: &mut V,
+    number: i32,
+    object: Option<Object>,
+) -> Result<(), AllocError>
+    ensures lasts { Lasts V.holds V.home V.anchor view.old view.new result }
+    ensures left { OnOk result (Goes V.holds V.now view.old view.new (λ before after. after ≡ apply (new_object number object) before)) }
+    ensures kept { OnOk result (Keeps V.holds view.old view.new) }
+{
+    view.put(Change::Object(number, object))
+}
+
+/// A link is opened, or is another one, or goes.
+pub fn write_link<V: View>(view: &mut V, number: i32, link: Option<Link>) -> Result<(), AllocError>
+    ensures lasts { Lasts V.holds V.home V.anchor view.old view.new result }
+    ensures left { OnOk result (Goes V.holds V.now view.old view.new (λ before after. after ≡ apply (new_link number link) before)) }
+    ensures kept { OnOk result (Keeps V.holds view.old view.new) }
+{
+    view.put(Change::Link(number, link))
+}
+
+/// The greatest number that an object has had.
+pub fn write_greatest<V: View>(view: &mut V, greatest: i32) -> Result<(), AllocError>
+    ensures lasts { Lasts V.holds V.home V.anchor view.old view.new result }
+    ensures left { OnOk result (Goes V.holds V.now view.old view.new (λ before after. after ≡ apply (new_greatest greatest) before)) }
+    ensures kept { OnOk result (Keeps V.holds view.old view.new) }
+{
+    view.put(Change::Greatest(greatest))
+}
+
+/// Whether the server is about to end.
+pub fn write_ending<V: View>(view: &mut V, ending: bool) -> Result<(), AllocError>
+    ensures lasts { Lasts V.holds V.home V.anchor view.old view.new result }
+    ensures left { OnOk result (Goes V.holds V.now view.old view.new (λ before after. after ≡ apply (new_ending ending) before)) }
+    ensures kept { OnOk result (Keeps V.holds view.old view.new) }
+{
+    view.put(Change::Ending(ending))
 }
 
 /// A property's slot on an object has another value. Where there is no such slot nothing changes.

@@ -5,7 +5,18 @@ use Rattle.spec_value.specs.Datum.{Datum, Text, fold_case}
 use Rattle.spec_value.specs.Table.{named, with_name}
 use Rattle.spec_world.specs.World.{World, Object, Slot, object_at, with_object}
 use Rattle.spec_world.specs.Inherit.{slot_of, put_slot, with_slot}
+use Rattle.spec_world.specs.Families.{change_at, change_object}
 use Rattle.spec_world.specs.Questions.{apply, new_value, put_value}
+
+-- one object changes, if it is there
+pub no_object_there : (w : World) (o : ℤ) (f : Object → Object) → None ≡ object_at w o → change_object w o f ≡ w
+no_object_there w o f e = ap (change_at w o f) (sym e)
+
+pub object_there : (w : World) (o : ℤ) (f : Object → Object) (x : Object) → Some x ≡ object_at w o → change_object w o f ≡ with_object w o (f x)
+object_there w o f x e = ap (change_at w o f) (sym e)
+
+pub is_there : (w : World) (o : ℤ) (x : Object) → Some x ≡ object_at w o → IsTrue (is_some (object_at w o))
+is_there w o x e = ap is_some (sym e)
 
 -- an object with another value in a slot, where it has that slot
 abbrev pub revalued : Object → Text → Datum → Option Object

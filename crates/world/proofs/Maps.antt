@@ -1,5 +1,5 @@
 -- What is at a key of a table, and what is put there.
-use Rattle.std.proofs.Common.{◌≡◌, ℕ, suc, ◌<◌, ◌≤◌, ◌^◌, ◌*◌, ℤ, pos, negsuc, int_lt, List, [], ◌∷◌, map, Option, Some, None, Bool, true, false, cond, IsTrue, nat_lt, ◌==◌, refl, sym, ◌∙◌, ap, subst, arith, All, T, is_some}
+use Rattle.std.proofs.Common.{◌≡◌, ℕ, suc, ◌<◌, ◌≤◌, ◌^◌, ◌*◌, ℤ, pos, negsuc, int_lt, List, [], ◌∷◌, map, Option, Some, None, Bool, true, false, not, cond, IsTrue, nat_lt, ◌==◌, refl, sym, ◌∙◌, ap, subst, arith, All, T, is_some}
 use Rattle.std.proofs.lemmas.Bool.Decides.{nat_tests}
 use Rattle.std.specs.Ordering.{nat_cmp, int_cmp, eq_by_cmp, is_eq}
 use Rattle.std.specs.declared.cmp.Ordering.{Ordering}
@@ -8,7 +8,9 @@ use Rattle.std.specs.Cmp.{unsigned_tied}
 use borrow.Author.Tests.{eqb-true}
 use Rattle.std.specs.FinMap.{find, put, is_sorted}
 use Rattle.std.specs.FinMap.Entries.{by_order}
-use Rattle.spec_value.specs.Table.{Numbered, at, with}
+use Rattle.spec_value.specs.Table.{Numbered, at, with, without}
+use Rattle.spec_world.specs.Questions.{is_number, put_record}
+use Rattle.world_table.specs.Entries.{without as without_key}
 use Rattle.world.specs.Numbered.{numbered}
 
 pub positive_cmp : (a b : ℕ) → int_cmp (pos a) (pos b) ≡ nat_cmp a b
@@ -32,6 +34,41 @@ with_positive [] k x = refl
 with_positive (e ∷ es) k x =
     (λ i. by_order (positive_cmp k e.0 i) ((pos k, x) ∷ (pos e.0, e.1) ∷ numbered es) ((pos e.0, x) ∷ numbered es) ((pos e.0, e.1) ∷ with_positive es k x i))
     ∙ order_of numbered (nat_cmp k e.0) ((k, x) ∷ e ∷ es) ((e.0, x) ∷ es) (e ∷ put nat_cmp k x es)
+
+kept_or_not : {X : Type 0} (b : Bool) (e : ℕ × X) (es : List (ℕ × X)) → cond b ((pos e.0, e.1) ∷ numbered es) (numbered es) ≡ numbered (cond b (e ∷ es) es)
+kept_or_not true e es = refl
+kept_or_not false e es = refl
+
+pub without_positive : {X : Type 0} (es : List (ℕ × X)) (k : ℕ) → without (numbered es) (pos k) ≡ numbered (without_key k es)
+without_positive [] k = refl
+without_positive (e ∷ es) k =
+    (λ i. cond (not (is_eq (positive_cmp k e.0 i))) ((pos e.0, e.1) ∷ without_positive es k i) (without_positive es k i))
+    ∙ kept_or_not (not (eq_by_cmp nat_cmp k e.0)) e (without_key k es)
+
+pub without_negative : {X : Type 0} (es : List (ℕ × X)) (k : ℕ) → without (numbered es) (negsuc k) ≡ numbered es
+without_negative [] k = refl
+without_negative (e ∷ es) k = ap (λ rest. (pos e.0, e.1) ∷ rest) (without_negative es k)
+
+-- ---- another record, or none
+
+pub none_at : {X : Type 0} (es : List (ℕ × X)) (n : ℤ) (k : ℕ) → n ≡ pos k → put_record (numbered es) n None ≡ numbered (without_key k es)
+none_at es n k is = ap (λ m. put_record (numbered es) m None) is ∙ without_positive es k
+
+pub none_below : {X : Type 0} (es : List (ℕ × X)) (n : ℤ) (k : ℕ) → n ≡ negsuc k → put_record (numbered es) n None ≡ numbered es
+none_below es n k is = ap (λ m. put_record (numbered es) m None) is ∙ without_negative es k
+
+one_if : {X : Type 0} (es : List (ℕ × X)) (n : ℤ) (x : X) (b : Bool) → is_number n ≡ b → put_record (numbered es) n (Some x) ≡ cond b (with (numbered es) n x) (numbered es)
+one_if es n x b is = ap (λ c. cond c (with (numbered es) n x) (numbered es)) is
+
+pub one_at : {X : Type 0} (es : List (ℕ × X)) (n : ℤ) (k : ℕ) (x : X) → n ≡ pos k → k ≤ 999999 → put_record (numbered es) n (Some x) ≡ numbered (put nat_cmp k x es)
+one_at es n k x is le =
+    ap (λ m. put_record (numbered es) m (Some x)) is ∙ one_if es (pos k) x true (grind (arith, nat_tests)) ∙ with_positive es k x
+
+pub none_above : {X : Type 0} (es : List (ℕ × X)) (n : ℤ) (k : ℕ) (x : X) → n ≡ pos k → 999999 < k → put_record (numbered es) n (Some x) ≡ numbered es
+none_above es n k x is lt = ap (λ m. put_record (numbered es) m (Some x)) is ∙ one_if es (pos k) x false (grind (arith, nat_tests))
+
+pub one_below : {X : Type 0} (es : List (ℕ × X)) (n : ℤ) (k : ℕ) (x : X) → n ≡ negsuc k → put_record (numbered es) n (Some x) ≡ numbered es
+one_below es n k x is = ap (λ m. put_record (numbered es) m (Some x)) is
 
 -- a key at which there is a record is in a table's range
 pub key_within : {X : Type 0} (es : List (ℕ × X)) (k bound : ℕ) → All (λ e. e.0 < bound) es → IsTrue (is_some (find nat_cmp k es)) → k < bound

@@ -12,7 +12,7 @@ use Rattle.spec_task.specs.Turn.{is_wizard, wizardly}
 use Rattle.spec_task.specs.Turn.{Pending}
 use Rattle.spec_task.specs.Segment.{segment}
 use Rattle.spec_task.specs.Step.{Event, Step, in_range, Outcome, plain, ended, run_event, numbered, performed, play1}
-use Rattle.spec_world.specs.Questions.{Change, new_value, new_next, put_value, apply, apply_all}
+use Rattle.spec_world.specs.Questions.{new_value, new_next, put_value, apply}
 use Rattle.spec_task.proofs.StepKeeps.{segment_holds, event_holds, renumbered, next_small, numbered_keeps}
 use Rattle.spec_world.proofs.SlotChanges.{itself, names_total, object_stays, other_objects_stay}
 use Rattle.spec_world.proofs.SlotKeeps.{slot_keeps}
@@ -94,21 +94,20 @@ sound_slot w o p s v h found =
 
 -- ---- changes, writes, segments and steps
 
-pub sound_applied : (c : Change) (w : World) → IsSound w → IsSound (apply c w)
-sound_applied (new_value o p v) w h = go (slot_at w o p) refl
+-- another value in a slot, or a next number that is no less
+pub sound_valued : (o : ℤ) (p : Text) (v : Datum) (w : World) → IsSound w → IsSound (apply (new_value o p v) w)
+sound_valued o p v w h = go (slot_at w o p) refl
   where
     go : (s : Option Slot) → slot_at w o p ≡ s → IsSound (put_value w o p v s)
     go None e = h
     go (Some s) e = sound_slot w o p s v h e
-sound_applied (new_next n) w h =
+
+pub sound_raised : (n : ℕ) (w : World) → IsSound w → IsSound (apply (new_next n) w)
+sound_raised n w h =
     record {
       well_formed = renumbered w (max (min n 33554432) w.next) (omega arith) (omega (arith, next_small w h.well_formed)) h.well_formed;
       simple = record { verbs = h.simple.verbs; slots = h.simple.slots };
     }
-
-pub sound_changes : (cs : List Change) (w : World) → IsSound w → IsSound (apply_all cs w)
-sound_changes [] w h = h
-sound_changes (c ∷ cs) w h = sound_changes cs (apply c w) (sound_applied c w h)
 
 pub sound_segment : (t : ℕ) (w : World) (p : Pending) → IsSound w → IsSound (segment t w p).world
 sound_segment = segment_holds IsSound (λ w o p s v e h. sound_slot w o p s v h e)

@@ -3,16 +3,17 @@ ghost use Rattle.std.specs.Prelude.{◌≡◌, ◌↔◌, ◌<◌, ℕ, ℤ, pos
 ghost use Rattle.spec_value.specs.Table.{at, with};
 ghost use Rattle.spec_world.specs.World.{object_at, with_object};
 ghost use Rattle.spec_world.specs.Inherit.{slot_at};
-ghost use Rattle.spec_world.specs.Questions.{header_at, children_at, contents_at, defines_at, verbs_at, ask, Agrees, apply, apply_all, new_value, new_next};
-ghost use Rattle.footprint.specs.Meanings.{question_of, answer_of, change_of};
+ghost use Rattle.spec_world.specs.Questions.{header_at, children_at, contents_at, defines_at, verbs_at, ask, Agrees, apply, apply_all, new_part, new_value, new_next};
+ghost use Rattle.footprint.specs.Meanings.{question_of, answer_of, part_of, change_of};
 ghost use Rattle.world.specs.Numbered.{numbered};
 
-use crate::records::{put_record, record_at, same_records};
+use crate::records::{put_record, record_at, same_records, set_record};
 use footprint::change::Change;
 use footprint::header::Header;
 use footprint::link::Link;
 use footprint::lists::{Names, Objects};
 use footprint::object::Object;
+use footprint::part::Part;
 use footprint::question::{Answer, Question};
 use footprint::reads::Reads;
 use footprint::slot::Slot;
@@ -243,12 +244,37 @@ impl Draft {
         ensures err { OnErr result (self.new ≡ self.old) }
     {
         match change {
-            Change::Value(object, name, value) => self.put_value(object, &name, value),
+            Change::Part(number, part) => self.put_part(number, part),
+            Change::Value(number, name, value) => self.put_value(number, &name, value),
+            Change::Object(number, object) => set_record(&mut self.objects, number, object),
+            Change::Link(number, link) => set_record(&mut self.links, number, link),
+            Change::Greatest(greatest) => {
+                self.greatest = greatest;
+                Ok(())
+            }
+            Change::Ending(ending) => {
+                self.ending = ending;
+                Ok(())
+            }
             Change::Next(next) => {
                 self.raise(next);
                 Ok(())
             }
         }
+    }
+
+    // Another part of an object, if it is there.
+    #[tactic(auto, using(crate::proofs::Applied::no_object_there, crate::proofs::Applied::object_there))]
+    fn put_part(&mut self, number: i32, part: Part) -> Result<(), AllocError>
+        ensures ok { OnOk result (self.new ≡ apply (new_part number (part_of part)) self.old) }
+        ensures err { OnErr result (self.new ≡ self.old) }
+    {
+        let Some(object) = self.object(number) else {
+            return Ok(());
+        };
+        let mut changed = object.clone()?;
+        changed.put_part(part);
+        put_record(&mut self.objects, number, changed)
     }
 
     // Another value in a slot, if there is one.

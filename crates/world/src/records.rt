@@ -1,12 +1,16 @@
 //! Tables of records, by the numbers of objects and links.
 ghost use Rattle.std.specs.Prelude.{◌≡◌, ◌↔◌, ◌<◌, ◌^◌, ℕ, ℤ, pos, negsuc, OnOk, OnErr, IsTrue, is_some, None, option_map, MatchOption};
 ghost use Rattle.spec_value.specs.Table.{at, with};
+ghost use Rattle.spec_world.specs.Questions.{put_record as changed_record};
 ghost use Rattle.world.specs.Numbered.{numbered};
 
 use footprint::link::Link;
 use footprint::object::Object;
 use std::alloc::AllocError;
 use world_table::Table;
+
+/// The greatest number that an object or a link may have.
+const LAST_NUMBER: u64 = 999_999;
 
 /// The record of a number.
 #[tactic(auto, using(crate::proofs::Maps::at_positive, crate::proofs::Maps::at_negative))]
@@ -34,6 +38,23 @@ pub(crate) fn put_record<R: Drop>(
     match key_of(number) {
         Some(key) => records.put(key, value),
         None => unreachable!(),
+    }
+}
+
+/// Another record for a number, or none: only numbers from 0 to 999,999 are given. After an `Err` the table is as it was.
+#[tactic(auto, using(crate::proofs::Maps::with_positive, crate::proofs::Maps::without_positive, crate::proofs::Maps::without_negative))]
+pub(crate) fn set_record<R: Drop>(
+    records: &mut Table<R, 4>,
+    number: i32,
+    value: Option<R>,
+) -> Result<(), AllocError>
+    ensures ok { OnOk result (numbered records.new.entries ≡ changed_record (numbered records.old.entries) number value) }
+    ensures err { OnErr result (records.new ≡ records.old) }
+{
+    match (key_of(number), value) {
+        (Some(key), Some(value)) if key <= LAST_NUMBER => records.put(key, value),
+        (Some(key), None) => records.remove(key),
+        (_, _) => Ok(()),
     }
 }
 

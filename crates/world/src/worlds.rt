@@ -115,8 +115,9 @@ impl World {
         })
     }
 
-    /// The world with changes, made ready.
+    /// The world with changes that leave it sound, made ready.
     pub fn prepare(&self, changes: &Changes) -> Result<Prepared, AllocError>
+        requires { IsSound (apply_all changes.now self.now.plain) }
         ensures { IfOk result (λ p. p ≡ record { before = self.now.plain; after = apply_all changes.now self.now.plain }) }
     {
         let draft = self.changed(changes)?;

@@ -3,6 +3,7 @@ use Rattle.spec_world.specs.Questions.{new_next}
 use Rattle.spec_task.specs.Step.{Step}
 use Rattle.spec_task.proofs.StepKeeps.{number_small}
 use Rattle.task_step.specs.StepView.{event_of}
+use Rattle.world.proofs.SoundKeeps.{sound_raised}
 use Rattle.task_run.proofs.Stepping.{raised_first}
 use Rattle.task_run.proofs.SoundSteps.{sound_after_change}
 use Rattle.task_run.proofs.step.run_step.Goals as goal
@@ -10,7 +11,7 @@ use Rattle.task_run.proofs.step.run_step.Goals as goal
 pub perform-requires-clause-sound : goal.perform-requires-clause-sound
 perform-requires-clause-sound g c =
     let view = g.V.View in
-    sound_after_change view.holds view.now c.args.view.now c.raise_next.new.view (new_next (c.from.result + 1)) c.requires.sound c.in_ok-_raised.ensures.left
+    sound_after_change view.holds view.now c.args.view.now c.raise_next.new.view (new_next (c.from.result + 1)) (sound_raised (c.from.result + 1)) c.requires.sound c.in_ok-_raised.ensures.left
 
 pub returns-clause-played : goal.returns-clause-played
 returns-clause-played g c =

@@ -1,7 +1,8 @@
-use Rattle.std.proofs.Common.{sym, subst}
-use Rattle.world.specs.Sound.{IsSound}
-use Rattle.world.proofs.SoundKeeps.{sound_applied}
+use Rattle.world.proofs.SoundKeeps.{sound_valued, sound_raised}
 use Rattle.world.proofs.keeping.changes.Goals as goal
 
-pub returns : goal.returns
-returns c change before after h is = subst IsSound (sym is) (sound_applied change before h)
+pub returns-clause-values : goal.returns-clause-values
+returns-clause-values c = sound_valued
+
+pub returns-clause-next : goal.returns-clause-next
+returns-clause-next c = sound_raised

@@ -51,9 +51,9 @@ fn spells(name: &[u8], word: &[u8]) -> bool
     }
 }
 
-// Whether two texts are the same. Case is ignored.
+/// Whether two texts are the same. Case is ignored.
 #[tactic(auto, using(crate::proofs::Spelling::same_whole, crate::proofs::Spelling::other_length))]
-fn is_same(a: &[u8], b: &[u8]) -> bool
+pub fn is_same(a: &[u8], b: &[u8]) -> bool
     ensures { result ≡ same_text (fold_case a.now) (fold_case b.now) }
 {
     if a.len() != b.len() {
@@ -90,9 +90,9 @@ fn star(name: &[u8]) -> Option<usize>
     None
 }
 
-// Whether a text begins with another one. Case is ignored.
+/// Whether a text begins with another one. Case is ignored.
 #[tactic(auto, using(crate::proofs::Spelling::begins_on, crate::proofs::Spelling::begins_past))]
-fn begins_with(text: &[u8], front: &[u8]) -> bool
+pub fn begins_with(text: &[u8], front: &[u8]) -> bool
     ensures { result ≡ begins true (fold_case text.now) (fold_case front.now) }
 {
     for (index, byte) in front.iter().enumerate() {

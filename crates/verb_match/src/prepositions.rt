@@ -1,9 +1,9 @@
 //! Prepositions among words (Programmer's Manual, "The Built-in Command Parser").
 ghost use Rattle.std.specs.Prelude.{◌≡◌, option_map, map, ℕ};
-ghost use Rattle.spec_value.specs.Datum.{fold_case, same_text};
 ghost use Rattle.spec_world.specs.Prepositions.{find_preposition as find_preposition_of, longest as longest_of, among as among_of, stands_first as stands_first_of, from_set, either_longer};
 ghost use Rattle.verb_match.specs.Meant.{preposition_of, begun_of};
 
+use crate::words::is_word;
 use moo_value::text::Text;
 
 /// A preposition that stands among words.
@@ -113,22 +113,7 @@ fn stands_first(member: &[&str], words: &[Text]) -> bool
         return false;
     }
     for (index, part) in member.iter().enumerate() {
-        if !spells(words[index].as_str().as_bytes(), part.as_bytes()) {
-            return false;
-        }
-    }
-    true
-}
-
-// Whether a word is one in lower case, its own case ignored.
-fn spells(word: &[u8], lower: &[u8]) -> bool
-    ensures { result ≡ same_text lower.now (fold_case word.now) }
-{
-    if word.len() != lower.len() {
-        return false;
-    }
-    for (index, byte) in word.iter().enumerate() {
-        if byte.to_ascii_lowercase() != lower[index] {
+        if !is_word(words[index].as_str().as_bytes(), part.as_bytes()) {
             return false;
         }
     }

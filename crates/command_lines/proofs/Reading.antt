@@ -2,12 +2,12 @@
 use Rattle.std.proofs.Common.{◌≡◌, arith, refl, ap, sym, ◌∙◌, ℕ, List, [], ◌∷◌, ◌++◌}
 use Rattle.std.specs.Prelude.{Bool, true, false, ◌&&◌, IsTrue, ◌<◌, ◌+◌, suc, zero, length, slice_index_or, drop}
 use Rattle.std.proofs.lemmas.List.{append_assoc, append-nil}
-use Rattle.std.proofs.Math.Seq.{drop-cons}
 use Rattle.spec_value.specs.Datum.{Text, is_character, is_text}
 use Rattle.spec_world.specs.Words as meant
 use Rattle.spec_world.specs.Words.{Reading, Readings, words, onto, as_words, read_sign, readings, at_the_end, sign}
 use Rattle.command_lines.specs.declared.cutting.Place.{Place}
 use Rattle.command_lines.specs.declared.cutting.Place.TheVariants.{Between, Bare, Quoted}
+use Rattle.command_lines.proofs.Spaces.{here}
 use Rattle.command_lines.specs.Cutting.{goes_on, pending, with_character}
 
 pub one_more : {A : Type 0} (xs : List A) (x : A) (ys : List A) → (xs ++ x ∷ []) ++ ys ≡ xs ++ x ∷ ys
@@ -115,8 +115,5 @@ pub words_are : (t : Text) → words t ≡ (readings t).between
 unfolding words
 words_are t = refl
 
-one_on : (i : ℕ) → suc i ≡ i + 1
-one_on i = omega arith
-
 pub next_character : (f : Readings → List Text) (t : Text) (i : ℕ) → i < length t → f (readings (drop i t)) ≡ f (readings (slice_index_or t i 0 ∷ drop (i + 1) t))
-next_character f t i l = ap (λ x. f (readings x)) (drop-cons t i 0 l ∙ ap (λ k. slice_index_or t i 0 ∷ drop k t) (one_on i))
+next_character f t i l = ap (λ x. f (readings x)) (here t i l)

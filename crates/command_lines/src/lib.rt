@@ -1,5 +1,6 @@
 //! The words and the parts of a line that a player typed (Programmer's Manual, "The Built-in Command Parser").
 #![tactic(auto)]
 
+mod behind;
 mod cutting;
 pub mod words;

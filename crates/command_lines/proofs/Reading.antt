@@ -3,6 +3,7 @@ use Rattle.std.proofs.Common.{◌≡◌, arith, refl, ap, sym, ◌∙◌, ℕ, L
 use Rattle.std.specs.Prelude.{Bool, true, false, ◌&&◌, IsTrue, ◌<◌, ◌+◌, suc, zero, length, slice_index_or, drop}
 use Rattle.std.proofs.lemmas.List.{append_assoc, append-nil}
 use Rattle.spec_value.specs.Datum.{Text, is_character, is_text}
+use Rattle.moo_value.proofs.Characters.{is_text-append}
 use Rattle.spec_world.specs.Words as meant
 use Rattle.spec_world.specs.Words.{Reading, Readings, words, onto, as_words, read_sign, readings, at_the_end, sign}
 use Rattle.command_lines.specs.declared.cutting.Place.{Place}
@@ -30,8 +31,7 @@ one_and true b h g = g
 one_and false b h g = cc
 
 pub text_grows : (w : Text) (c : ℕ) → IsTrue (is_text w) → IsTrue (is_character c) → IsTrue (is_text (w ++ c ∷ []))
-text_grows [] c h g = one_and (is_character c) true g refl
-text_grows (d ∷ w) c h g = let x = both (is_character d) (is_text w) h in one_and (is_character d) (is_text (w ++ c ∷ [])) x.0 (text_grows w c x.1 g)
+text_grows w c h g = is_text-append w (c ∷ []) h (one_and (is_character c) true g refl)
 
 pub character_at : (t : Text) (i : ℕ) → IsTrue (is_text t) → i < length t → IsTrue (is_character (slice_index_or t i 0))
 character_at [] i h l = absurd (omega arith)

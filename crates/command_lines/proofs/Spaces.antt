@@ -1,5 +1,5 @@
 -- Spaces at the front, and what stands behind the first word.
-use Rattle.std.proofs.Common.{◌≡◌, refl, ap, sym, ◌∙◌, ℕ, List, [], ◌∷◌, suc, ◌+◌, ◌<◌, ◌≤◌, arith}
+use Rattle.std.proofs.Common.{◌≡◌, refl, ap, sym, ◌∙◌, ℕ, [], ◌∷◌, suc, ◌+◌, ◌<◌, ◌≤◌, arith}
 use Rattle.std.specs.Prelude.{length, slice_index_or, drop, if◌then◌else◌}
 use Rattle.std.proofs.Math.Seq.{drop-cons}
 use Rattle.std.proofs.lemmas.Bool.{ne_eqb}
@@ -7,7 +7,7 @@ use Rattle.std.proofs.lemmas.List.{drop_all, at_drop_all}
 use Rattle.spec_value.specs.Datum.{Text}
 use Rattle.spec_world.specs.Words.{Remainders, remainders, without_spaces, after_first}
 
-one_on : (i : ℕ) → suc i ≡ i + 1
+pub one_on : (i : ℕ) → suc i ≡ i + 1
 one_on i = omega arith
 
 pub here : (t : Text) (i : ℕ) → i < length t → drop i t ≡ slice_index_or t i 0 ∷ drop (i + 1) t

@@ -3,4 +3,5 @@
 
 mod behind;
 mod cutting;
+pub mod parts;
 pub mod words;

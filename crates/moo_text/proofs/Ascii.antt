@@ -1,21 +1,9 @@
 -- Texts are ASCII.
-use Rattle.std.proofs.Common.{◌≡◌, ℕ, zero, suc, ◌<◌, Bool, true, false, ◌&&◌, [], ◌∷◌, refl, arith}
-use Rattle.std.specs.Str.{IsAscii, IsUtf8}
+use Rattle.std.proofs.Common.{◌≡◌, true}
+use Rattle.std.specs.Str.{IsUtf8}
 use Rattle.std.proofs.lemmas.Str.{IsUtf8-from_ascii}
-use Rattle.std.proofs.lemmas.Bool.Decides.{nat_tests}
-use Rattle.spec_value.specs.Datum.{Text, is_character, is_text}
-
-both : (a b : Bool) → (a && b) ≡ true → (a ≡ true) × (b ≡ true)
-both true b h = (refl, h)
-both false b h = cc
-
-small : (c : ℕ) → is_character c ≡ true → c < 128
-small c h = grind (arith, nat_tests)
-
-text_ascii : (t : Text) → is_text t ≡ true → IsAscii t
-text_ascii [] h i = omega arith
-text_ascii (c ∷ t) h zero = small c (both (is_character c) (is_text t) h).0
-text_ascii (c ∷ t) h (suc i) = text_ascii t (both (is_character c) (is_text t) h).1 i
+use Rattle.spec_value.specs.Datum.{Text, is_text}
+use Rattle.moo_value.proofs.Characters.{all_ascii}
 
 pub text_utf8 : (t : Text) → is_text t ≡ true → IsUtf8 t
-text_utf8 t h = IsUtf8-from_ascii t (text_ascii t h)
+text_utf8 t h = IsUtf8-from_ascii t (all_ascii t h)

@@ -1,4 +1,4 @@
-use Rattle.std.proofs.Common.{◌≡◌, sym, ◌∙◌, ◌+◌}
+use Rattle.std.proofs.Common.{sym, ◌∙◌, ◌+◌}
 use Rattle.std.specs.Prelude.{drop}
 use Rattle.spec_world.specs.Words.{readings}
 use Rattle.command_lines.specs.Cutting.{rest_of}

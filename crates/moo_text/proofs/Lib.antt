@@ -1,3 +1,4 @@
 pub mod Cutting
 pub mod Searching
 pub mod Standing
+mod Ascii

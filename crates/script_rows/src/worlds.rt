@@ -13,6 +13,7 @@ use view::live::Live;
 use view::readers::write_value;
 use world::worlds::World;
 use world_fixture::fixture::fixture;
+use world_fixture::rooms::fixture_with_endless_verb;
 
 /// The room of the fixture.
 const ROOM: i32 = 3;
@@ -128,6 +129,22 @@ step 2 none ticks 0
 step 3 raised E_TYPE ticks 2
 > 2 #3:COUNT: Type mismatch
 > 2 (End of traceback)
+";
+
+// So does want of ticks: a task that has used those of its step.
+#[test]
+fn out_of_ticks(rt: HostRuntime) -> Result<(), Fail> {
+    let world = fixture_with_endless_verb(rt.alloc())?;
+    let (others, world) = played_on(&rt, world, b"line 3 endless\nline 1 count\n", RAN_OUT)?;
+    assert_eq!(rt; others.as_str(), "");
+    assert!(rt; world.is_some());
+    Ok(())
+}
+
+const RAN_OUT: &str = "step 1 ticks ticks 30000
+> 3 #8:endless: Task ran out of ticks
+> 3 (End of traceback)
+step 2 value 1 ticks 5
 ";
 
 // A run goes on where the world stands: with its counter and its next step.

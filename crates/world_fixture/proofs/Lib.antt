@@ -1,3 +1,4 @@
 mod FixtureIsSimple
+mod Adding
 mod RoomsAreSound
 mod ObjectsAreSound

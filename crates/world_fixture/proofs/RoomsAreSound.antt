@@ -1,4 +1,4 @@
--- The fixture with 64 more rooms is a sound world: its tests come out true.
+-- The fixture with 64 more rooms, and that with one, are sound worlds: their tests come out true.
 use Rattle.std.proofs.Common.{refl}
 use Rattle.spec_rows.specs.Opened.{opened}
 use Rattle.spec_world.specs.World.{World}
@@ -6,7 +6,7 @@ use Rattle.spec_world.specs.WellFormed.{IsWellFormed}
 use Rattle.spec_rows.specs.Fixture.{fixture}
 use Rattle.spec_value.proofs.Entries.{each_entry}
 use Rattle.world.specs.Sound.{IsSound, IsSimple, reads, aims, is_covered}
-use Rattle.world_fixture.specs.Rooms.{ones, with_rooms}
+use Rattle.world_fixture.specs.Rooms.{adding, with_rooms, with_endless_verb}
 
 roomy : World
 roomy = with_rooms 64 fixture
@@ -41,9 +41,49 @@ rooms_fit =
     }
 
 rooms_are_simple : IsSimple roomy
-unfolding reads aims is_covered ones with_rooms roomy
+unfolding reads aims is_covered adding with_rooms roomy
 rooms_are_simple = record { verbs = each_entry _ roomy.objects refl; slots = each_entry _ roomy.objects refl }
 
 pub rooms_are_sound : IsSound (with_rooms 64 fixture)
 unfolding roomy
 rooms_are_sound = record { well_formed = rooms_fit; simple = rooms_are_simple }
+
+endless : World
+endless = with_endless_verb fixture
+
+endless_fits : IsWellFormed endless
+unfolding opened endless
+endless_fits =
+    record {
+      objects_in_order = refl;
+      tasks_in_order = refl;
+      links_in_order = refl;
+      greatest_in_range = refl;
+      next_in_range = refl;
+      numbers = each_entry _ endless.objects refl;
+      parents_end = each_entry _ endless.objects refl;
+      locations_end = each_entry _ endless.objects refl;
+      children = each_entry _ endless.objects refl;
+      parents = each_entry _ endless.objects refl;
+      contents = each_entry _ endless.objects refl;
+      locations = each_entry _ endless.objects refl;
+      names_on_a_line = each_entry _ endless.objects refl;
+      slot_order = each_entry _ endless.objects refl;
+      slots = each_entry _ endless.objects refl;
+      definers = each_entry _ endless.objects refl;
+      links = each_entry _ endless.links refl;
+      persons = refl;
+      task_ids = each_entry _ endless.tasks refl;
+      task_entries = each_entry _ endless.tasks refl;
+      task_waits = each_entry _ endless.tasks refl;
+      task_places = λ i t is. cc;
+      readers = refl;
+    }
+
+endless_is_simple : IsSimple endless
+unfolding reads aims is_covered adding endless
+endless_is_simple = record { verbs = each_entry _ endless.objects refl; slots = each_entry _ endless.objects refl }
+
+pub endless_is_sound : IsSound (with_endless_verb fixture)
+unfolding endless
+endless_is_sound = record { well_formed = endless_fits; simple = endless_is_simple }

@@ -1,19 +1,23 @@
 //! The verbs of the rooms in each of which a player is alone.
-ghost use Rattle.std.specs.Prelude.{◌≡◌, pos, [], ◌∷◌, IfOk};
-ghost use Rattle.spec_value.specs.Datum.{integer};
-ghost use Rattle.spec_program.specs.Tree.{literal, binary};
+ghost use Rattle.std.specs.Prelude.{◌≡◌, pos, [], ◌∷◌, replicate, IfOk, IsTrue};
+ghost use Rattle.spec_program.specs.Tree.{binary, evaluate};
 ghost use Rattle.spec_value.specs.Operators.{plus};
-ghost use Rattle.spec_rows.specs.Fixture.{count_verb};
+ghost use Rattle.spec_rows.specs.Fixture.{count_verb, plain_verb as meant_verb};
+ghost use Rattle.spec_value.specs.Datum.{is_text};
 ghost use Rattle.world_fixture.specs.Rooms as meant;
 
-use crate::fixture_verbs::{count, one, plain_verb, returning};
+use crate::fixture_verbs::{count, one, plain_verb};
 use footprint::verb::{Verb, Verbs};
 use moo_tree::expression::{Expression, ExpressionNode};
+use moo_tree::statement::{Statement, StatementNode, Tree};
 use moo_value::operator::BinaryOperator;
 use std::alloc::{AllocError, Global};
 
 /// How often the verb `total` adds. A tick more is its `return`.
 const ADDITIONS: u32 = 999;
+
+/// How often the verb `endless` adds: for each tick of a command, so that none is left for its `return`.
+const TOO_MANY: u32 = 30_000;
 
 // The verbs `count` and `total`.
 pub(crate) fn counting_verbs(alloc: Global) -> Result<Verbs, AllocError>
@@ -21,36 +25,53 @@ pub(crate) fn counting_verbs(alloc: Global) -> Result<Verbs, AllocError>
 {
     let mut verbs = Vec::with_capacity(alloc, 2)?;
     verbs.push(count(alloc)?)?;
-    verbs.push(total(alloc)?)?;
+    verbs.push(adding_verb(alloc, "total", ADDITIONS)?)?;
     Verbs::new(alloc, verbs)
 }
 
-fn total(alloc: Global) -> Result<Verb, AllocError>
-    ensures { IfOk result (λ v. v ≡ meant.total_verb) }
+// The verb `endless`.
+pub(crate) fn endless_verbs(alloc: Global) -> Result<Verbs, AllocError>
+    ensures { IfOk result (λ vs. vs ≡ meant.endless_verb ∷ []) }
 {
-    plain_verb(alloc, "total", returning(alloc, ones(alloc, ADDITIONS)?)?)
+    let mut verbs = Vec::with_capacity(alloc, 1)?;
+    verbs.push(adding_verb(alloc, "endless", TOO_MANY)?)?;
+    Verbs::new(alloc, verbs)
 }
 
-// 1 + 1 + ... + 1, with so many additions.
-#[tactic(auto, unfolding(crate::specs::Rooms::ones))]
-fn ones(alloc: Global, additions: u32) -> Result<Expression, AllocError>
-    ensures { IfOk result (λ e. e ≡ meant.ones additions) }
+fn adding_verb(alloc: Global, names: &str, additions: u32) -> Result<Verb, AllocError>
+    requires { IsTrue (is_text names.now) }
+    ensures { IfOk result (λ v. v ≡ meant_verb names.now (meant.adding additions)) }
 {
-    let mut sum = one();
+    plain_verb(alloc, names, adding(alloc, additions)?)
+}
+
+// 1 + 1; so many times, and then return 1;
+#[tactic(auto, using(crate::proofs::Adding::added, crate::proofs::Adding::one_more))]
+fn adding(alloc: Global, additions: u32) -> Result<Tree, AllocError>
+    ensures { IfOk result (λ t. t ≡ meant.adding additions) }
+{
+    let mut statements = Vec::new(alloc);
     for _addition in 0..additions {
-        sum = with_one(alloc, sum)?;
+        statements.push(addition(alloc)?)?;
     }
-    Ok(sum)
+    statements.push(Statement {
+        node: StatementNode::Return(Some(one())),
+    })?;
+    Ok(Tree::new(statements))
 }
 
-fn with_one(alloc: Global, sum: Expression) -> Result<Expression, AllocError>
-    ensures { IfOk result (λ e. e ≡ binary plus sum (literal (integer (pos 1)))) }
+// 1 + 1;
+fn addition(alloc: Global) -> Result<Statement, AllocError>
+    ensures { IfOk result (λ s. s ≡ evaluate (binary plus meant.one meant.one)) }
 {
-    Ok(Expression {
+    let sum = Expression {
         node: ExpressionNode::Binary(
             BinaryOperator::Plus,
-            Box::new(alloc, sum)?,
+            Box::new(alloc, one())?,
             Box::new(alloc, one())?,
         ),
+    };
+    Ok(Statement {
+        node: StatementNode::Evaluate(sum),
     })
 }

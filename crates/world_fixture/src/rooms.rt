@@ -4,9 +4,10 @@ ghost use Rattle.spec_rows.specs.Fixture.{fixture};
 ghost use Rattle.world_fixture.specs.Rooms as meant;
 
 use crate::fixture::{NOWHERE, header, plain, records, room_of};
-use crate::room_verbs::counting_verbs;
+use crate::room_verbs::{counting_verbs, endless_verbs};
 use footprint::link::Link;
 use footprint::object::Object;
+use footprint::verb::Verbs;
 use std::alloc::{AllocError, Global};
 use world::draft::Draft;
 use world::worlds::World;
@@ -27,18 +28,35 @@ fn rooms(alloc: Global) -> Result<Draft, AllocError>
 {
     let mut draft = records(alloc)?;
     for place in 0..64 {
-        put_room(alloc, &mut draft, place)?;
+        let verbs = counting_verbs(alloc)?;
+        put_room(alloc, &mut draft, place, verbs)?;
     }
     Ok(draft)
 }
 
-fn put_room(alloc: Global, draft: &mut Draft, place: u32) -> Result<(), AllocError>
+/// The fixture with one room more, in which a player with link 3 is alone. The verb `endless` there does not end within a command's ticks.
+pub fn fixture_with_endless_verb(alloc: Global) -> Result<World, AllocError>
+    ensures plain { IfOk result (λ w. w.plain ≡ meant.with_endless_verb fixture) }
+    ensures opened { IfOk result (λ w. w.opened ≡ 0) }
+{
+    let mut draft = records(alloc)?;
+    let verbs = endless_verbs(alloc)?;
+    put_room(alloc, &mut draft, 0, verbs)?;
+    Ok(World::of_draft(draft))
+}
+
+fn put_room(
+    alloc: Global,
+    draft: &mut Draft,
+    place: u32,
+    verbs: Verbs,
+) -> Result<(), AllocError>
     requires { place < 64 }
-    ensures { OnOk result (draft.new ≡ meant.with_room place draft.old) }
+    ensures { OnOk result (draft.new ≡ meant.with_room verbs place draft.old) }
 {
     let room = 8 + 2 * place;
     let player = 9 + 2 * place;
-    draft.put_object(room, lone_room(alloc, player)?)?;
+    draft.put_object(room, lone_room(alloc, player, verbs)?)?;
     draft.put_object(player, guest(alloc, room)?)?;
     let person = player as i32;
     draft.put_link(3 + place, Link { person })?;
@@ -46,13 +64,13 @@ fn put_room(alloc: Global, draft: &mut Draft, place: u32) -> Result<(), AllocErr
     Ok(())
 }
 
-fn lone_room(alloc: Global, player: u32) -> Result<Object, AllocError>
+fn lone_room(alloc: Global, player: u32, verbs: Verbs) -> Result<Object, AllocError>
     requires { player < 1048576 }
-    ensures { IfOk result (λ x. x ≡ meant.lone_room (pos player)) }
+    ensures { IfOk result (λ x. x ≡ meant.lone_room (pos player) verbs) }
 {
     let mut header = header(alloc, "Room")?;
     header.parent = NOWHERE;
-    room_of(alloc, header, &[player as i32], counting_verbs(alloc)?)
+    room_of(alloc, header, &[player as i32], verbs)
 }
 
 fn guest(alloc: Global, place: u32) -> Result<Object, AllocError>

@@ -88,7 +88,7 @@ pub reads_send : IsSend reads.the_row
 reads_send = search (sendable, crosses, read_send) depth 60
 
 part_send : IsSend part.the_row
-part_send = search (sendable, crosses, header_send, objects_send, names_send, verbs_send) depth 60
+part_send = search (sendable, crosses, header_send, objects_send, names_send, verbs_send, text_send, slot_send) depth 60
 
 change_send : IsSend change.the_row
 change_send =

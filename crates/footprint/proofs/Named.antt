@@ -68,7 +68,7 @@ found_there k (f ∷ es) (suc i) e lt is same = found_there k es i e (omega arit
 
 -- ---- another value in place of one
 
-abbrev R : Text → Text → Ordering
+abbrev pub R : Text → Text → Ordering
 R = slice_cmp nat_cmp
 
 is_less : (r : Ordering) → is_lt r ≡ true → r ≡ Less
@@ -76,13 +76,13 @@ is_less Less e = refl
 is_less Equal e = cc
 is_less Greater e = cc
 
-below_each : {X : Type 0} (x : Text) (es : List (Text × X)) (i : ℕ) (e : Text × X) → below_all R x es ≡ true → i < length es → e ≡ get_or es i e → R x e.0 ≡ Less
+pub below_each : {X : Type 0} (x : Text) (es : List (Text × X)) (i : ℕ) (e : Text × X) → below_all R x es ≡ true → i < length es → e ≡ get_or es i e → R x e.0 ≡ Less
 below_each x [] i e h lt is = absurd (omega arith)
 below_each x (f ∷ es) zero e h lt is =
     ap (λ (p : Text × _). R x p.0) is ∙ is_less (R x f.0) ((and_parts (is_lt (R x f.0)) (below_all R x es) h).0)
 below_each x (f ∷ es) (suc i) e h lt is = below_each x es i e ((and_parts (is_lt (R x f.0)) (below_all R x es) h).1) (omega arith) is
 
-above : (x y : Text) → R x y ≡ Less → R y x ≡ Greater
+pub above : (x y : Text) → R x y ≡ Less → R y x ≡ Greater
 above x y e = nat_list_cmp_total.antisymm y x ∙ ap ordering_reverse e
 
 -- what takes the place of an entry of that name

@@ -1,6 +1,6 @@
 -- What the records and the questions of this crate mean.
 use Rattle.spec_world.specs.Questions as meant
-use Rattle.spec_world.specs.Questions.{about_header, about_children, about_contents, about_defines, about_slot, about_verbs, about_link, about_greatest, about_ending, the_header, the_children, the_contents, the_defines, the_slot, the_verbs, the_link, the_greatest, the_ending, new_header, new_children, new_contents, new_defines, new_verbs, new_part, new_value, new_object, new_link, new_greatest, new_ending, new_next}
+use Rattle.spec_world.specs.Questions.{about_header, about_children, about_contents, about_defines, about_slot, about_verbs, about_link, about_greatest, about_ending, the_header, the_children, the_contents, the_defines, the_slot, the_verbs, the_link, the_greatest, the_ending, new_header, new_children, new_contents, new_defines, new_verbs, new_slot, new_part, new_value, new_object, new_link, new_greatest, new_ending, new_next}
 use Rattle.footprint.specs.declared.question.Question.{Question}
 use Rattle.footprint.specs.declared.question.Question.TheVariants.{Header as HeaderOf, Children as ChildrenOf, Contents as ContentsOf, Defines as DefinesOf, Slot as SlotOf, Verbs as VerbsOf, Link as LinkOf, Greatest as GreatestOf, Ending as EndingOf}
 use Rattle.footprint.specs.declared.question.Answer.{Answer}
@@ -8,7 +8,7 @@ use Rattle.footprint.specs.declared.question.Answer.TheVariants.{Header, Childre
 use Rattle.footprint.specs.declared.change.Change.{Change}
 use Rattle.footprint.specs.declared.change.Change.TheVariants.{Part as PartOf, Value, Object, Link as LinkWith, Greatest as GreatestIs, Ending as EndingIs, Next}
 use Rattle.footprint.specs.declared.part.Part.{Part}
-use Rattle.footprint.specs.declared.part.Part.TheVariants.{Header as HeaderPart, Children as ChildrenPart, Contents as ContentsPart, Defines as DefinesPart, Verbs as VerbsPart}
+use Rattle.footprint.specs.declared.part.Part.TheVariants.{Header as HeaderPart, Children as ChildrenPart, Contents as ContentsPart, Defines as DefinesPart, Verbs as VerbsPart, Slot as SlotPart}
 
 abbrev pub question_of : Question → meant.Question
 question_of (HeaderOf o) = about_header o
@@ -38,6 +38,7 @@ part_of (ChildrenPart os) = new_children os
 part_of (ContentsPart os) = new_contents os
 part_of (DefinesPart ts) = new_defines ts
 part_of (VerbsPart vs) = new_verbs vs
+part_of (SlotPart p s) = new_slot p s
 
 abbrev pub change_of : Change → meant.Change
 change_of (PartOf o a) = new_part o (part_of a)

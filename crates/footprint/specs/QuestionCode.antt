@@ -2,7 +2,7 @@
 use Rattle.std.specs.Prelude.{◌≡◌, refl}
 use Rattle.std.specs.Coded.{Coded, code_by, coded×}
 use Rattle.spec_world.specs.Questions as meant
-use Rattle.spec_world.specs.Questions.{about_header, about_children, about_contents, about_defines, about_slot, about_verbs, about_link, about_greatest, about_ending, the_header, the_children, the_contents, the_defines, the_slot, the_verbs, the_link, the_greatest, the_ending, new_header, new_children, new_contents, new_defines, new_verbs, new_part, new_value, new_object, new_link, new_greatest, new_ending, new_next}
+use Rattle.spec_world.specs.Questions.{about_header, about_children, about_contents, about_defines, about_slot, about_verbs, about_link, about_greatest, about_ending, the_header, the_children, the_contents, the_defines, the_slot, the_verbs, the_link, the_greatest, the_ending, new_header, new_children, new_contents, new_defines, new_verbs, new_slot, new_part, new_value, new_object, new_link, new_greatest, new_ending, new_next}
 use Rattle.footprint.specs.Meanings.{question_of, answer_of, part_of, change_of}
 use Rattle.footprint.specs.contracts.change.Change as change
 use Rattle.footprint.specs.contracts.question.Answer as answer
@@ -10,7 +10,7 @@ use Rattle.footprint.specs.contracts.question.Question as question
 use Rattle.footprint.specs.declared.change.Change.{Change}
 use Rattle.footprint.specs.declared.change.Change.TheVariants.{Part as PartOf, Value, Object, Link as LinkWith, Greatest as GreatestIs, Ending as EndingIs, Next}
 use Rattle.footprint.specs.declared.part.Part.{Part}
-use Rattle.footprint.specs.declared.part.Part.TheVariants.{Header as HeaderPart, Children as ChildrenPart, Contents as ContentsPart, Defines as DefinesPart, Verbs as VerbsPart}
+use Rattle.footprint.specs.declared.part.Part.TheVariants.{Header as HeaderPart, Children as ChildrenPart, Contents as ContentsPart, Defines as DefinesPart, Verbs as VerbsPart, Slot as SlotPart}
 use Rattle.footprint.specs.declared.question.Answer.{Answer}
 use Rattle.footprint.specs.declared.question.Answer.TheVariants.{Header, Children, Contents, Defines, Slot, Verbs, Link, Greatest, Ending}
 use Rattle.footprint.specs.declared.question.Question.{Question}
@@ -82,6 +82,7 @@ from_part (new_children os) = ChildrenPart os
 from_part (new_contents os) = ContentsPart os
 from_part (new_defines ts) = DefinesPart ts
 from_part (new_verbs vs) = VerbsPart vs
+from_part (new_slot p s) = SlotPart p s
 
 part_back : (a : meant.Part) → part_of (from_part a) ≡ a
 part_back (new_header h) = refl
@@ -89,6 +90,7 @@ part_back (new_children os) = refl
 part_back (new_contents os) = refl
 part_back (new_defines ts) = refl
 part_back (new_verbs vs) = refl
+part_back (new_slot p s) = refl
 
 abbrev pub from_change : meant.Change → Change
 from_change (new_part o a) = PartOf o (from_part a)

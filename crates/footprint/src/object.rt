@@ -1,5 +1,5 @@
 //! Objects.
-ghost use Rattle.std.specs.Prelude.{◌≡◌, IfOk};
+ghost use Rattle.std.specs.Prelude.{◌≡◌, IfOk, OnOk, OnErr};
 ghost use Rattle.spec_value.specs.Datum.{fold_case};
 ghost use Rattle.spec_value.specs.Table.{named, with_name};
 ghost use Rattle.spec_world.specs.Questions.{put_part};
@@ -130,9 +130,10 @@ impl Object {
         &self.verbs
     }
 
-    /// The object has another part.
-    pub fn put_part(&mut self, part: Part)
-        ensures { self.new ≡ put_part (part_of part) self.old }
+    /// The object has another part. After an `Err` it is as it was.
+    pub fn put_part(&mut self, alloc: Global, part: Part) -> Result<(), AllocError>
+        ensures ok { OnOk result (self.new ≡ put_part (part_of part) self.old) }
+        ensures err { OnErr result (self.new ≡ self.old) }
     {
         match part {
             Part::Header(header) => self.header = header,
@@ -140,7 +141,12 @@ impl Object {
             Part::Contents(contents) => self.contents = contents,
             Part::Defines(names) => self.defines = names,
             Part::Verbs(verbs) => self.verbs = verbs,
+            Part::Slot(name, slot) => match slot {
+                Some(slot) => self.slots.put(alloc, &name, slot)?,
+                None => self.slots.remove(&name),
+            },
         }
+        Ok(())
     }
 
     /// The object with another value in a slot, or None where it has no such slot.

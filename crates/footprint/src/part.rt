@@ -3,7 +3,9 @@ ghost use Rattle.std.specs.Prelude.{◌≡◌, IfOk};
 
 use crate::header::Header;
 use crate::lists::{Names, Objects};
+use crate::slot::Slot;
 use crate::verb::Verbs;
+use moo_value::text::Text;
 use std::alloc::AllocError;
 
 /// Another content for one part of an object.
@@ -15,6 +17,8 @@ pub enum Part {
     /// The names of the properties that the object defines, in the order of definition.
     Defines(Names),
     Verbs(Verbs),
+    /// The slot of a property, by the property's name; case is ignored.
+    Slot(Text, Option<Slot>),
 }
 
 impl Clone for Part {
@@ -27,6 +31,7 @@ impl Clone for Part {
             Part::Contents(contents) => Ok(Part::Contents(contents.clone()?)),
             Part::Defines(names) => Ok(Part::Defines(names.clone()?)),
             Part::Verbs(verbs) => Ok(Part::Verbs(verbs.clone()?)),
+            Part::Slot(name, slot) => Ok(Part::Slot(name.clone()?, slot.as_ref().cloned()?)),
         }
     }
 }

@@ -39,7 +39,8 @@ pub enum Answer {
     Children(Option<Objects>),
     Contents(Option<Objects>),
     Defines(Option<Names>),
-    Slot(Option<Slot>),
+    /// That there is no such object, or that it has no such slot.
+    Slot(Option<Option<Slot>>),
     Verbs(Option<Verbs>),
     Link(Option<Link>),
     Greatest(i32),

@@ -62,6 +62,16 @@ fn same_contents(a: &Option<Value>, b: &Option<Value>) -> bool
     }
 }
 
+fn same_slot(a: Option<&Slot>, b: &Option<Slot>) -> bool
+    ensures { IsTrue result ↔ option_map (λ x. x.now) a.entry ≡ b.now }
+{
+    match (a, b) {
+        (Some(x), Some(y)) => x.same(y),
+        (None, None) => true,
+        _ => false,
+    }
+}
+
 impl Link {
     /// Whether two links are the same.
     pub fn same(&self, other: &Link) -> bool
@@ -253,12 +263,12 @@ impl Answer {
         }
     }
 
-    /// Whether the answer is this slot, or that there is none.
-    pub fn is_slot(&self, found: Option<&Slot>) -> bool
-        ensures { IsTrue result ↔ the_slot (option_map (λ x. x.now) found.entry) ≡ answer_of self.now }
+    /// Whether the answer is this slot, or that there is none on the object, or no such object.
+    pub fn is_slot(&self, found: Option<Option<&Slot>>) -> bool
+        ensures { IsTrue result ↔ the_slot (option_map (λ s. option_map (λ x. x.now) s) found.entry) ≡ answer_of self.now }
     {
         match (found, self) {
-            (Some(a), Answer::Slot(Some(b))) => a.same(b),
+            (Some(a), Answer::Slot(Some(b))) => same_slot(a, b),
             (None, Answer::Slot(None)) => true,
             _ => false,
         }
@@ -315,7 +325,7 @@ impl Answer {
             Answer::Children(found) => other.is_children(found.as_ref()),
             Answer::Contents(found) => other.is_contents(found.as_ref()),
             Answer::Defines(found) => other.is_defines(found.as_ref()),
-            Answer::Slot(found) => other.is_slot(found.as_ref()),
+            Answer::Slot(found) => other.is_slot(found.as_ref().map(|slot| slot.as_ref())),
             Answer::Verbs(found) => other.is_verbs(found.as_ref()),
             Answer::Link(found) => other.is_link(found.as_ref()),
             Answer::Greatest(greatest) => other.is_greatest(*greatest),

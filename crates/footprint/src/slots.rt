@@ -1,13 +1,14 @@
 //! The slots of an object.
-ghost use Rattle.std.specs.Prelude.{◌≡◌, ◌<◌, ◌↔◌, IfOk, IsTrue, Some, None, [], ◌∷◌, option_map, MatchOption, ℕ, slice_index_or, slice_set, length, vec_len};
+ghost use Rattle.std.specs.Prelude.{◌≡◌, ◌<◌, ◌≤◌, ◌↔◌, IfOk, IfErr, OnOk, OnErr, IsTrue, Some, None, [], ◌∷◌, option_map, MatchOption, ℕ, slice_index_or, slice_set, insert, remove, length, vec_len};
 ghost use Rattle.spec_value.specs.Datum.{Text as Characters, fold_case};
 ghost use Rattle.spec_world.specs.World.{Slot as SlotOf};
-ghost use Rattle.spec_value.specs.Table.{named, with_name};
+ghost use Rattle.spec_value.specs.Table.{named, with_name, without_name};
 
 use crate::slot::Slot;
 use moo_value::text::Text;
 use moo_value::value::Value;
 use std::alloc::{AllocError, Global};
+use std::cmp::Ordering;
 use std::marker::Model;
 
 /// The slots of an object by their properties' names in lower case, in rising order of names.
@@ -60,6 +61,29 @@ impl Slots {
         }
     }
 
+    /// Another slot for a property, or one more. After an `Err` they are as they were.
+    #[tactic(auto, using(crate::proofs::Spots::put_sorted))]
+    pub fn put(&mut self, alloc: Global, name: &Text, slot: Slot) -> Result<(), AllocError>
+        ensures ok { OnOk result (self.new ≡ with_name self.old (fold_case name.now) slot) }
+        ensures err { OnErr result (self.new ≡ self.old) }
+    {
+        let key = folded(alloc, name)?;
+        match spot(&self.entries, key.as_str().as_bytes()) {
+            Ok(index) => self.entries[index] = (key, slot),
+            Err(index) => self.entries.insert(index, (key, slot))?,
+        }
+        Ok(())
+    }
+
+    /// No slot for a property.
+    pub fn remove(&mut self, name: &Text)
+        ensures { self.new ≡ without_name self.old (fold_case name.now) }
+    {
+        if let Some(index) = position(&self.entries, name) {
+            take_out(&mut self.entries, index);
+        }
+    }
+
     /// The slots with another value in one, or None where there is no such slot.
     pub fn with_value(
         &self,
@@ -88,6 +112,32 @@ impl Clone for Slots {
             entries: self.entries.clone()?,
         })
     }
+}
+
+// A name in lower case.
+#[tactic(auto, using(crate::proofs::Spots::folded_is_text))]
+fn folded(alloc: Global, name: &Text) -> Result<Text, AllocError>
+    ensures { IfOk result (λ t. t ≡ fold_case name.now) }
+{
+    name.know();
+    let mut text = String::from_str(alloc, name.as_str())?;
+    text.make_ascii_lowercase();
+    Text::from_string(text)
+}
+
+// Where the slot of this name in lower case stands, or else before which one it is to come.
+fn spot(entries: &[(Text, Slot)], key: &[u8]) -> Result<usize, usize>
+    ensures there { IfOk result (λ i. (i < length entries.now) × ((s : SlotOf) → with_name entries.now key.now s ≡ slice_set entries.now i (key.now, s))) }
+    ensures before { IfErr result (λ i. (i ≤ length entries.now) × ((s : SlotOf) → with_name entries.now key.now s ≡ insert entries.now i (key.now, s))) }
+{
+    for (index, entry) in entries.iter().enumerate() {
+        match key.cmp(entry.0.as_str().as_bytes()) {
+            Ordering::Less => return Err(index),
+            Ordering::Equal => return Ok(index),
+            Ordering::Greater => {}
+        }
+    }
+    Err(entries.len())
 }
 
 // Where the slot of a property stands.
@@ -134,6 +184,14 @@ fn fill(entries: &mut Vec<(Text, Slot)>, index: usize, value: Value)
 {
     let slot = &mut entries[index].1;
     slot.content = Some(value);
+}
+
+// The slot at an index goes.
+fn take_out(entries: &mut Vec<(Text, Slot)>, index: usize)
+    requires { index < vec_len entries.old }
+    ensures { entries.new.items ≡ remove entries.old.items index }
+{
+    entries.remove(index);
 }
 
 fn copies(alloc: Global, entries: &[(Text, Slot)]) -> Result<Vec<(Text, Slot)>, AllocError>

@@ -21,7 +21,10 @@ const ROOM: i32 = 3;
 // The number that the room has counted to.
 fn counted(alloc: Global, world: &World) -> Result<Option<i32>, AllocError> {
     let counter = Text::from_str(alloc, "n")?;
-    let Answer::Slot(slot) = world.ask(&Question::Slot(ROOM, counter))? else {
+    let Answer::Slot(found) = world.ask(&Question::Slot(ROOM, counter))? else {
+        return Ok(None);
+    };
+    let Some(slot) = found else {
         return Ok(None);
     };
     Ok(integer_in(slot))

@@ -1,7 +1,7 @@
 -- What a world is asked and told while a step runs: questions, answers, agreement and changes.
 use Rattle.std.specs.Prelude.{◌≡◌, ℕ, max, min, ℤ, pos, int_le, Bool, ◌&&◌, List, [], ◌∷◌, Option, Some, None, option_map, if◌then◌else◌}
-use Rattle.spec_value.specs.Datum.{Datum, Text}
-use Rattle.spec_value.specs.Table.{Numbered, at, with, without}
+use Rattle.spec_value.specs.Datum.{Datum, Text, fold_case}
+use Rattle.spec_value.specs.Table.{Numbered, Named, at, with, without, named, with_name, without_name}
 use Rattle.spec_world.specs.World.{World, Header, Object, Slot, Verb, Link, object_at}
 use Rattle.spec_world.specs.Inherit.{slot_at, with_slot}
 use Rattle.spec_world.specs.Families.{change_object}
@@ -18,12 +18,12 @@ pub data Question : Type 0 where
   about_greatest : Question
   about_ending : Question
 
--- that it is not there is an answer too
+-- that it is not there is an answer too; of a slot, that the object is not there, or that it has none
 pub data Answer : Type 0 where
   the_header : Option Header → Answer
   the_children the_contents : Option (List ℤ) → Answer
   the_defines : Option (List Text) → Answer
-  the_slot : Option Slot → Answer
+  the_slot : Option (Option Slot) → Answer
   the_verbs : Option (List Verb) → Answer
   the_link : Option Link → Answer
   the_greatest : ℤ → Answer
@@ -41,6 +41,10 @@ contents_at w o = option_map (λ x. x.contents) (object_at w o)
 abbrev pub defines_at : World → ℤ → Option (List Text)
 defines_at w o = option_map (λ x. x.defines) (object_at w o)
 
+-- the slot of a property, or that there is none, on an object that is there
+abbrev pub slot_on : World → ℤ → Text → Option (Option Slot)
+slot_on w o p = option_map (λ x. named x.slots (fold_case p)) (object_at w o)
+
 abbrev pub verbs_at : World → ℤ → Option (List Verb)
 verbs_at w o = option_map (λ x. x.verbs) (object_at w o)
 
@@ -49,7 +53,7 @@ ask w (about_header o) = the_header (header_at w o)
 ask w (about_children o) = the_children (children_at w o)
 ask w (about_contents o) = the_contents (contents_at w o)
 ask w (about_defines o) = the_defines (defines_at w o)
-ask w (about_slot o p) = the_slot (slot_at w o p)
+ask w (about_slot o p) = the_slot (slot_on w o p)
 ask w (about_verbs o) = the_verbs (verbs_at w o)
 ask w (about_link c) = the_link (at w.links c)
 ask w about_greatest = the_greatest w.greatest
@@ -66,12 +70,14 @@ Agrees w (r ∷ rs) = (ask w r.question ≡ r.answer) × Agrees w rs
 
 -- ---- changes
 
--- another content for one part of an object: its header, its children, its contents, the names of the properties that it defines, its verbs
+-- another content for one part of an object: its header, its children, its contents, the names of the properties that it defines,
+-- its verbs, the slot of a property, or none
 pub data Part : Type 0 where
   new_header : Header → Part
   new_children new_contents : List ℤ → Part
   new_defines : List Text → Part
   new_verbs : List Verb → Part
+  new_slot : Text → Option Slot → Part
 
 abbrev pub put_header : Part → Header → Header
 put_header (new_header h) _ = h
@@ -93,6 +99,11 @@ abbrev pub put_verbs : Part → List Verb → List Verb
 put_verbs (new_verbs vs) _ = vs
 put_verbs _ vs = vs
 
+abbrev pub put_slots : Part → Named Slot → Named Slot
+put_slots (new_slot p None) ss = without_name ss (fold_case p)
+put_slots (new_slot p (Some s)) ss = with_name ss (fold_case p) s
+put_slots _ ss = ss
+
 abbrev pub put_part : Part → Object → Object
 put_part a x =
     record {
@@ -100,7 +111,7 @@ put_part a x =
       children = put_children a x.children;
       contents = put_contents a x.contents;
       defines = put_defines a x.defines;
-      slots = x.slots;
+      slots = put_slots a x.slots;
       verbs = put_verbs a x.verbs;
     }
 

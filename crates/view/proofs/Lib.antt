@@ -2,3 +2,4 @@ pub mod Local
 pub mod History
 pub mod Goings
 pub mod StaysSound
+pub mod Slots

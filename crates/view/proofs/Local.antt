@@ -5,13 +5,14 @@ use Rattle.std.specs.Cmp.{int_cmp_total, Equal-is}
 use Rattle.std.specs.Cmp.Lexicographic.{slice_cmp, nat_list_cmp_total}
 use Rattle.std.specs.FinMap.{int_cmp-IsAntisymmetric, slice_cmp-IsAntisymmetric, nat_cmp-IsAntisymmetric}
 use Rattle.std.specs.FinMap.Entries.{find-put}
-use Rattle.spec_value.specs.Datum.{Datum, Text, fold_case}
+use Rattle.spec_value.specs.Datum.{Datum, Text, fold_case, same_text}
 use Rattle.spec_value.specs.Table.{Numbered, at, with, named, with_name}
 use Rattle.spec_world.specs.World.{World, Object, Slot, object_at, with_object}
 use Rattle.spec_world.specs.Inherit.{slot_of, slot_at, put_slot, with_slot}
 use Rattle.spec_world.specs.Families.{change_at, change_object}
 use Rattle.spec_world.proofs.Households.{at_changed, at_without}
-use Rattle.spec_world.specs.Questions.{Question, about_header, about_children, about_contents, about_defines, about_slot, about_verbs, about_link, about_greatest, about_ending, Answer, the_header, the_children, the_contents, the_defines, the_slot, the_verbs, the_link, the_greatest, the_ending, ask, Part, put_header, put_children, put_contents, put_defines, put_verbs, put_part, Change, new_part, new_value, new_object, new_link, new_greatest, new_ending, new_next, put_value, is_number, put_record, apply, apply_all}
+use Rattle.spec_world.proofs.SlotTables.{text_turned, named_with, named_without}
+use Rattle.spec_world.specs.Questions.{Question, about_header, about_children, about_contents, about_defines, about_slot, about_verbs, about_link, about_greatest, about_ending, Answer, the_header, the_children, the_contents, the_defines, the_slot, the_verbs, the_link, the_greatest, the_ending, ask, Part, put_header, put_children, put_contents, put_defines, put_verbs, put_slots, put_part, new_slot, slot_on, Change, new_part, new_value, new_object, new_link, new_greatest, new_ending, new_next, put_value, is_number, put_record, apply, apply_all}
 
 abbrev same_number : ℤ → ℤ → Bool
 same_number = eq_by_cmp int_cmp
@@ -48,6 +49,10 @@ filled s v = record s { content = Some v }
 abbrev refilled : Bool → Datum → Option Slot → Option Slot
 refilled b v s = cond b (option_map (λ t. filled t v) s) s
 
+slot_with : Part → Text → Option Slot → Option Slot
+slot_with (new_slot p t) r s = cond (same_text (fold_case r) (fold_case p)) t s
+slot_with _ r s = s
+
 -- whether another record, or none, for a number is one for this number
 hits : {X : Type 0} → ℤ → Option X → ℤ → Bool
 hits n None q = int_eq q n
@@ -58,13 +63,14 @@ after (new_part o a) (about_header q) (the_header h) = the_header (cond (int_eq 
 after (new_part o a) (about_children q) (the_children os) = the_children (cond (int_eq q o) (option_map (put_children a) os) os)
 after (new_part o a) (about_contents q) (the_contents os) = the_contents (cond (int_eq q o) (option_map (put_contents a) os) os)
 after (new_part o a) (about_defines q) (the_defines ts) = the_defines (cond (int_eq q o) (option_map (put_defines a) ts) ts)
+after (new_part o a) (about_slot q r) (the_slot s) = the_slot (cond (int_eq q o) (option_map (slot_with a r) s) s)
 after (new_part o a) (about_verbs q) (the_verbs vs) = the_verbs (cond (int_eq q o) (option_map (put_verbs a) vs) vs)
-after (new_value o p v) (about_slot q r) (the_slot s) = the_slot (refilled (same_number q o && same_name (fold_case r) (fold_case p)) v s)
+after (new_value o p v) (about_slot q r) (the_slot s) = the_slot (option_map (refilled (same_number q o && same_name (fold_case r) (fold_case p)) v) s)
 after (new_object o x) (about_header q) (the_header h) = the_header (cond (hits o x q) (option_map (λ y. y.header) x) h)
 after (new_object o x) (about_children q) (the_children os) = the_children (cond (hits o x q) (option_map (λ y. y.children) x) os)
 after (new_object o x) (about_contents q) (the_contents os) = the_contents (cond (hits o x q) (option_map (λ y. y.contents) x) os)
 after (new_object o x) (about_defines q) (the_defines ts) = the_defines (cond (hits o x q) (option_map (λ y. y.defines) x) ts)
-after (new_object o x) (about_slot q r) (the_slot s) = the_slot (cond (hits o x q) (slot_of x r) s)
+after (new_object o x) (about_slot q r) (the_slot s) = the_slot (cond (hits o x q) (option_map (λ y. named y.slots (fold_case r)) x) s)
 after (new_object o x) (about_verbs q) (the_verbs vs) = the_verbs (cond (hits o x q) (option_map (λ y. y.verbs) x) vs)
 after (new_link c k) (about_link d) (the_link l) = the_link (cond (hits c k d) k l)
 after (new_greatest o) about_greatest a = the_greatest o
@@ -95,13 +101,22 @@ here w o q p r e =
     ap (λ (n : ℤ). slot_at w n r) (number_is q o parts.0) ∙ slot_of_named (object_at w o) r
     ∙ ap (slot_named (object_at w o)) (name_is (fold_case r) (fold_case p) parts.1) ∙ sym (slot_of_named (object_at w o) p)
 
+nothing_slot : (w : World) (o q : ℤ) (p r : Text) (v : Datum) → slot_at w o p ≡ None
+    → slot_on w q r ≡ option_map (refilled (same_number q o && same_name (fold_case r) (fold_case p)) v) (slot_on w q r)
+nothing_slot w o q p r v none = go (object_at w q) refl
+  where
+    go : (y : Option Object) → object_at w q ≡ y
+        → option_map (λ x. named x.slots (fold_case r)) y ≡ option_map (refilled (same_number q o && same_name (fold_case r) (fold_case p)) v) (option_map (λ x. named x.slots (fold_case r)) y)
+    go None is = refl
+    go (Some x) is = ap Some (unchanged _ v (named x.slots (fold_case r)) (λ e. ap (λ (z : Option Object). slot_of z r) (sym is) ∙ here w o q p r e ∙ none))
+
 -- where there was no such slot
 nothing_after : (w : World) (o : ℤ) (p : Text) (v : Datum) → slot_at w o p ≡ None → (q : Question) → ask w q ≡ after (new_value o p v) q (ask w q)
 nothing_after w o p v none (about_header q) = refl
 nothing_after w o p v none (about_children q) = refl
 nothing_after w o p v none (about_contents q) = refl
 nothing_after w o p v none (about_defines q) = refl
-nothing_after w o p v none (about_slot q r) = ap the_slot (unchanged _ v (slot_at w q r) (λ e. here w o q p r e ∙ none))
+nothing_after w o p v none (about_slot q r) = ap the_slot (nothing_slot w o q p r v none)
 nothing_after w o p v none (about_verbs q) = refl
 nothing_after w o p v none (about_link c) = refl
 nothing_after w o p v none about_greatest = refl
@@ -111,20 +126,25 @@ abbrev revalued : Object → Text → Slot → Object
 revalued x p t = record x { slots = with_name x.slots (fold_case p) t }
 
 slot_after : (w : World) (o q : ℤ) (p r : Text) (v : Datum) (x : Object) (s : Slot) → object_at w o ≡ Some x → named x.slots (fold_case p) ≡ Some s
-    → slot_at (with_object w o (revalued x p (filled s v))) q r ≡ refilled (same_number q o && same_name (fold_case r) (fold_case p)) v (slot_at w q r)
+    → slot_on (with_object w o (revalued x p (filled s v))) q r ≡ option_map (refilled (same_number q o && same_name (fold_case r) (fold_case p)) v) (slot_on w q r)
 slot_after w o q p r v x s is at_p =
-    ap (λ (z : Option Object). slot_of z r) (object_put w o q (revalued x p (filled s v))) ∙ on_object (same_number q o) refl
+    ap (option_map (λ (z : Object). named z.slots (fold_case r))) (object_put w o q (revalued x p (filled s v))) ∙ on_object (same_number q o) refl
   where
     on_name : (c : Bool) → same_name (fold_case r) (fold_case p) ≡ c → cond c (Some (filled s v)) (named x.slots (fold_case r)) ≡ refilled c v (named x.slots (fold_case r))
     on_name true e = sym (ap (option_map (λ t. filled t v)) (ap (named x.slots) (name_is (fold_case r) (fold_case p) e) ∙ at_p))
     on_name false e = refl
 
+    the_same : (y : Option (Option Slot)) → y ≡ option_map (refilled false v) y
+    the_same None = refl
+    the_same (Some t) = refl
+
     on_object : (b : Bool) → same_number q o ≡ b
-        → slot_of (cond b (Some (revalued x p (filled s v))) (object_at w q)) r ≡ refilled (b && same_name (fold_case r) (fold_case p)) v (slot_of (object_at w q) r)
+        → option_map (λ (z : Object). named z.slots (fold_case r)) (cond b (Some (revalued x p (filled s v))) (object_at w q))
+        ≡ option_map (refilled (b && same_name (fold_case r) (fold_case p)) v) (slot_on w q r)
     on_object true e =
-        slot_put x (fold_case p) (fold_case r) (filled s v) ∙ on_name (same_name (fold_case r) (fold_case p)) refl
-        ∙ ap (λ (z : Option Object). refilled (same_name (fold_case r) (fold_case p)) v (slot_of z r)) (sym (ap (object_at w) (number_is q o e) ∙ is))
-    on_object false e = refl
+        ap Some (slot_put x (fold_case p) (fold_case r) (filled s v) ∙ on_name (same_name (fold_case r) (fold_case p)) refl)
+        ∙ ap (λ (z : Option Object). option_map (refilled (same_name (fold_case r) (fold_case p)) v) (option_map (λ (y : Object). named y.slots (fold_case r)) z)) (sym (ap (object_at w) (number_is q o e) ∙ is))
+    on_object false e = the_same (slot_on w q r)
 
 -- where there was one
 something_after : (w : World) (o : ℤ) (p : Text) (v : Datum) (x : Object) (s : Slot) → object_at w o ≡ Some x → named x.slots (fold_case p) ≡ Some s
@@ -149,20 +169,19 @@ facet_changed get f g fits w o q = ap (option_map get) (at_changed w o q f) ∙ 
     go true (Some x) = ap Some (fits x)
     go false y = refl
 
-slot_stays : (a : Part) (w : World) (o q : ℤ) (r : Text) → slot_at (change_object w o (put_part a)) q r ≡ slot_at w q r
-slot_stays a w o q r = ap (λ (y : Option Object). slot_of y r) (at_changed w o q (put_part a)) ∙ go (int_eq q o) (object_at w q)
-  where
-    go : (b : Bool) (y : Option Object) → slot_of (cond b (option_map (put_part a) y) y) r ≡ slot_of y r
-    go true None = refl
-    go true (Some x) = refl
-    go false y = refl
+slot_fits : (a : Part) (r : Text) (x : Object) → named (put_slots a x.slots) (fold_case r) ≡ slot_with a r (named x.slots (fold_case r))
+unfolding slot_with
+slot_fits (new_slot p None) r x =
+    named_without x.slots (fold_case p) (fold_case r) ∙ ap (λ b. cond b None (named x.slots (fold_case r))) (text_turned (fold_case p) (fold_case r))
+slot_fits (new_slot p (Some s)) r x = named_with x.slots (fold_case p) (fold_case r) s
+slot_fits _ r x = refl
 
 part_after : (o : ℤ) (a : Part) (w : World) (q : Question) → ask (change_object w o (put_part a)) q ≡ after (new_part o a) q (ask w q)
 part_after o a w (about_header q) = ap the_header (facet_changed (λ x. x.header) (put_part a) (put_header a) (λ x. refl) w o q)
 part_after o a w (about_children q) = ap the_children (facet_changed (λ x. x.children) (put_part a) (put_children a) (λ x. refl) w o q)
 part_after o a w (about_contents q) = ap the_contents (facet_changed (λ x. x.contents) (put_part a) (put_contents a) (λ x. refl) w o q)
 part_after o a w (about_defines q) = ap the_defines (facet_changed (λ x. x.defines) (put_part a) (put_defines a) (λ x. refl) w o q)
-part_after o a w (about_slot q r) = ap the_slot (slot_stays a w o q r)
+part_after o a w (about_slot q r) = ap the_slot (facet_changed (λ x. named x.slots (fold_case r)) (put_part a) (slot_with a r) (slot_fits a r) w o q)
 part_after o a w (about_verbs q) = ap the_verbs (facet_changed (λ x. x.verbs) (put_part a) (put_verbs a) (λ x. refl) w o q)
 part_after o a w q = rest (object_at w o)
   where
@@ -189,7 +208,7 @@ object_after o x w (about_header q) = ap (λ y. the_header (option_map (λ z. z.
 object_after o x w (about_children q) = ap (λ y. the_children (option_map (λ z. z.children) y)) (at_record w.objects o q x) ∙ ap the_children (either_way (option_map (λ z. z.children)) (hits o x q) x (object_at w q))
 object_after o x w (about_contents q) = ap (λ y. the_contents (option_map (λ z. z.contents) y)) (at_record w.objects o q x) ∙ ap the_contents (either_way (option_map (λ z. z.contents)) (hits o x q) x (object_at w q))
 object_after o x w (about_defines q) = ap (λ y. the_defines (option_map (λ z. z.defines) y)) (at_record w.objects o q x) ∙ ap the_defines (either_way (option_map (λ z. z.defines)) (hits o x q) x (object_at w q))
-object_after o x w (about_slot q r) = ap (λ y. the_slot (slot_of y r)) (at_record w.objects o q x) ∙ ap the_slot (either_way (λ y. slot_of y r) (hits o x q) x (object_at w q))
+object_after o x w (about_slot q r) = ap (λ y. the_slot (option_map (λ z. named z.slots (fold_case r)) y)) (at_record w.objects o q x) ∙ ap the_slot (either_way (option_map (λ z. named z.slots (fold_case r))) (hits o x q) x (object_at w q))
 object_after o x w (about_verbs q) = ap (λ y. the_verbs (option_map (λ z. z.verbs) y)) (at_record w.objects o q x) ∙ ap the_verbs (either_way (option_map (λ z. z.verbs)) (hits o x q) x (object_at w q))
 object_after o x w q = refl
 

@@ -69,6 +69,7 @@ pub fn read_defines<V: View>(view: &mut V, object: i32) -> Result<Option<Names>,
 }
 
 /// A property's slot on an object, or None where there is none. Case is ignored.
+#[tactic(auto, using(crate::proofs::Slots::slot_told, crate::proofs::Slots::no_object_told))]
 pub fn read_slot<V: View>(
     view: &mut V,
     object: i32,
@@ -79,7 +80,8 @@ pub fn read_slot<V: View>(
     ensures sound { OnOk result (StaysSound V.home V.now view.old view.new) }
 {
     match view.get(&Question::Slot(object, name.clone()?))? {
-        Answer::Slot(slot) => Ok(slot),
+        Answer::Slot(Some(slot)) => Ok(slot),
+        Answer::Slot(None) => Ok(None),
         _ => unreachable!(),
     }
 }

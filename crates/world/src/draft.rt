@@ -2,8 +2,7 @@
 ghost use Rattle.std.specs.Prelude.{◌≡◌, ◌↔◌, ◌<◌, ℕ, ℤ, pos, negsuc, false, [], max, IfOk, OnOk, OnErr, IsTrue, is_some, option_map, MatchOption};
 ghost use Rattle.spec_value.specs.Table.{at, with};
 ghost use Rattle.spec_world.specs.World.{object_at, with_object};
-ghost use Rattle.spec_world.specs.Inherit.{slot_at};
-ghost use Rattle.spec_world.specs.Questions.{header_at, children_at, contents_at, defines_at, verbs_at, ask, Agrees, apply, apply_all, new_part, new_value, new_next};
+ghost use Rattle.spec_world.specs.Questions.{header_at, children_at, contents_at, defines_at, slot_on, verbs_at, ask, Agrees, apply, apply_all, new_part, new_value, new_next};
 ghost use Rattle.footprint.specs.Meanings.{question_of, answer_of, part_of, change_of};
 ghost use Rattle.world.specs.Numbered.{numbered};
 
@@ -163,10 +162,10 @@ impl Draft {
         Some(self.object(number)?.defines())
     }
 
-    fn slot(&self, number: i32, name: &Text) -> Option<&Slot>
-        ensures { option_map (λ s. s.now) result ≡ slot_at self.now number name.now }
+    fn slot(&self, number: i32, name: &Text) -> Option<Option<&Slot>>
+        ensures { option_map (λ s. option_map (λ x. x.now) s) result ≡ slot_on self.now number name.now }
     {
-        self.object(number)?.slots().get(name)
+        Some(self.object(number)?.slots().get(name))
     }
 
     fn verbs(&self, number: i32) -> Option<&Verbs>
@@ -190,7 +189,7 @@ impl Draft {
             Question::Children(object) => Ok(Answer::Children(self.children(*object).cloned()?)),
             Question::Contents(object) => Ok(Answer::Contents(self.contents(*object).cloned()?)),
             Question::Defines(object) => Ok(Answer::Defines(self.defines(*object).cloned()?)),
-            Question::Slot(object, name) => Ok(Answer::Slot(self.slot(*object, name).cloned()?)),
+            Question::Slot(object, name) => Ok(Answer::Slot(copied(self.slot(*object, name))?)),
             Question::Verbs(object) => Ok(Answer::Verbs(self.verbs(*object).cloned()?)),
             Question::Link(number) => Ok(Answer::Link(self.link(*number).cloned()?)),
             Question::Greatest => Ok(Answer::Greatest(self.greatest)),
@@ -273,7 +272,7 @@ impl Draft {
             return Ok(());
         };
         let mut changed = object.clone()?;
-        changed.put_part(part);
+        changed.put_part(self.alloc, part)?;
         put_record(&mut self.objects, number, changed)
     }
 
@@ -303,5 +302,16 @@ impl Draft {
             return Ok(None);
         };
         object.with_value(self.alloc, name, value)
+    }
+}
+
+// A slot, or that there is none, of its own.
+fn copied(found: Option<Option<&Slot>>) -> Result<Option<Option<Slot>>, AllocError>
+    ensures { IfOk result (λ s. s ≡ option_map (λ y. option_map (λ x. x.now) y) found.entry) }
+{
+    match found {
+        Some(Some(slot)) => Ok(Some(Some(slot.clone()?))),
+        Some(None) => Ok(Some(None)),
+        None => Ok(None),
     }
 }

@@ -1,5 +1,7 @@
 //! Lists on a board, and by several workers.
-use crate::row::{Line, board_on, counts, guess_of, idles, others, others_by, steps_of};
+use crate::row::{
+    Line, board_on, counts, counts_in_a_race, guess_of, idles, others, others_by, steps_of,
+};
 use speculate::board::Board;
 use speculate::gate::Free;
 use speculate::held::Mark;
@@ -21,17 +23,25 @@ fn apart(alloc: Global) -> Result<Vec<Line>, AllocError> {
     Ok(row)
 }
 
-// Two players count in turn in one room. The first of each round is guessed right.
-fn in_turn(alloc: Global) -> Result<Vec<Line>, AllocError> {
+// Two players count in turn in one room. One worker keeps each guess; of several, one may guess before the step ahead is committed.
+fn in_turn(alloc: Global, is_alone: bool) -> Result<Vec<Line>, AllocError> {
     let mut row = Vec::with_capacity(alloc, 200)?;
     for value in 1..201 {
         let connection = if value % 2 == 1 { 1 } else { 2 };
-        let mark = if value % 64 == 1 {
-            Mark::Kept
+        row.push(if is_alone || value == 1 {
+            counts(connection, value, Mark::Kept)
         } else {
-            Mark::Rerun
-        };
-        row.push(counts(connection, value, mark))?;
+            counts_in_a_race(connection, value)
+        })?;
+    }
+    Ok(row)
+}
+
+// One player counts 64 times.
+fn by_one(alloc: Global) -> Result<Vec<Line>, AllocError> {
+    let mut row = Vec::with_capacity(alloc, 64)?;
+    for value in 1..65 {
+        row.push(counts(1, value, Mark::Kept))?;
     }
     Ok(row)
 }
@@ -115,9 +125,25 @@ fn counts_in_one_room(rt: HostRuntime) -> Result<(), Fail> {
         others_on_board(alloc, fixture(alloc)?, &three)?.as_str(),
         ""
     );
-    assert_eq!(rt; others_by_workers(&rt, false, &two, &[1, 2])?.as_str(), "");
+    Ok(())
+}
+
+// The same lists by workers: one guesses each step on the world before it.
+#[test]
+fn counts_in_one_room_by_workers(rt: HostRuntime) -> Result<(), Fail> {
+    let alone = [
+        counts(1, 1, Mark::Kept),
+        idles(3, Mark::Kept),
+        counts(2, 2, Mark::Kept),
+    ];
+    let together = [
+        counts(1, 1, Mark::Kept),
+        idles(3, Mark::Kept),
+        counts_in_a_race(2, 2),
+    ];
+    assert_eq!(rt; others_by_workers(&rt, false, &alone, &[1])?.as_str(), "");
     assert_eq!(rt;
-        others_by_workers(&rt, false, &three, &[1, 2])?.as_str(),
+        others_by_workers(&rt, false, &together, &[2, 3, 64])?.as_str(),
         ""
     );
     Ok(())
@@ -140,9 +166,24 @@ fn counts_in_rooms_of_their_own(rt: HostRuntime) -> Result<(), Fail> {
 
 #[test]
 fn counts_in_turn(rt: HostRuntime) -> Result<(), Fail> {
-    let row = in_turn(rt.alloc())?;
+    let alone = in_turn(rt.alloc(), true)?;
+    let together = in_turn(rt.alloc(), false)?;
     assert_eq!(rt;
-        others_by_workers(&rt, false, row.as_slice(), &[1, 2, 3, 63, 64])?.as_str(),
+        others_by_workers(&rt, false, alone.as_slice(), &[1])?.as_str(),
+        ""
+    );
+    assert_eq!(rt;
+        others_by_workers(&rt, false, together.as_slice(), &[2, 3, 63, 64])?.as_str(),
+        ""
+    );
+    Ok(())
+}
+
+#[test]
+fn counts_by_one_worker(rt: HostRuntime) -> Result<(), Fail> {
+    let row = by_one(rt.alloc())?;
+    assert_eq!(rt;
+        others_by_workers(&rt, false, row.as_slice(), &[1])?.as_str(),
         ""
     );
     Ok(())

@@ -23,8 +23,8 @@ pub(super) struct Line {
     value: Option<i32>,
     // How many ticks it uses.
     ticks: u32,
-    // How it is committed.
-    mark: Mark,
+    // How it is committed, or none where that depends on which worker was first: it is kept or run again.
+    mark: Option<Mark>,
 }
 
 /// A connection whose player counts to a value.
@@ -33,7 +33,17 @@ pub(super) fn counts(connection: u32, value: i32, mark: Mark) -> Line {
         connection,
         value: Some(value),
         ticks: 5,
-        mark,
+        mark: Some(mark),
+    }
+}
+
+/// A connection whose player counts to a value, after one whose guess another worker may have made at the same time.
+pub(super) fn counts_in_a_race(connection: u32, value: i32) -> Line {
+    Line {
+        connection,
+        value: Some(value),
+        ticks: 5,
+        mark: None,
     }
 }
 
@@ -43,7 +53,7 @@ pub(super) fn idles(connection: u32, mark: Mark) -> Line {
         connection,
         value: None,
         ticks: 0,
-        mark,
+        mark: Some(mark),
     }
 }
 
@@ -120,7 +130,16 @@ pub(super) fn others(alloc: Global, report: &Report, row: &[Line]) -> Result<Str
 }
 
 fn is_wanted(line: &Line, outcome: &Outcome, mark: Mark) -> bool {
-    has_value(&outcome.result, line.value) && outcome.ticks == line.ticks && mark == line.mark
+    has_value(&outcome.result, line.value)
+        && outcome.ticks == line.ticks
+        && is_mark(line.mark, mark)
+}
+
+fn is_mark(wanted: Option<Mark>, mark: Mark) -> bool {
+    match wanted {
+        Some(wanted) => mark == wanted,
+        None => mark != Mark::Lost,
+    }
 }
 
 // Whether a step gave this integer, or nothing where there is none.

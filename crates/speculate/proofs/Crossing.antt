@@ -4,14 +4,17 @@ use denote.Param.Send.{IsSend, IsSync, sendable}
 use denote.Param.SendFields.{as_row_send, declared_send}
 use denote.RattleType.{RattleType}
 use denote.Ref.{NamedLft}
-use denote.Struct.Field.{shr_ref_field, shr_slice_field, u64-field}
+use denote.Struct.Field.{shr_ref_field, shr_slice_field}
 use denote.Struct.Tuple.{type_at, TupleAt}
 use mir.Syntax.{Sym}
 use Rattle.std.specs.Prelude.{List, [], ◌∷◌}
 use Rattle.std.proofs.Crossing.{crosses}
+use Rattle.round_claims.proofs.Crossing.{claims_sync, seat_send}
+use Rattle.round_claims.specs.contracts.claims.Claims as claims
+use Rattle.round_claims.specs.contracts.claims.ClaimSeat as seat
 use Rattle.footprint.proofs.Crossing.{reads_send, changes_send}
 use Rattle.task_step.proofs.Crossing.{step_send, step_sync, outcome_send}
-use Rattle.world.proofs.Crossing.{count_send, world_send, snapshot_sync}
+use Rattle.world.proofs.Crossing.{count_send, world_send}
 use Rattle.speculate.specs.contracts.board.Board as board
 use Rattle.speculate.specs.contracts.guesses.Guess as guess
 use Rattle.speculate.specs.contracts.held.Held as held
@@ -22,7 +25,6 @@ use Rattle.speculate.specs.declared.shared.Run as Run
 use Rattle.std.specs.contracts.alloc.Global as Global
 use Rattle.std.specs.contracts.marker.PhantomData as PhantomData
 use Rattle.task_step.specs.contracts.step.Step as step
-use Rattle.world.specs.contracts.worlds.Snapshot as snapshot
 
 guess_send : IsSend guess.the_row
 guess_send = search (sendable, crosses, step_send, reads_send, changes_send, outcome_send) depth 60
@@ -45,12 +47,12 @@ tied_send J g s = declared_send (tied.the_type J g) (as_row_send board.the_field
 pub shared_sync : (J : RattleType) (g : Run.Ghosts J.Denot) → IsSend J → IsSync (shared.the_row J g)
 shared_sync J g s = let t = tied_send J g s in search (sendable, crosses, t) depth 60
 
--- what a worker is lent: the runtime, the allocator, the gate, the board, the snapshot and the steps, and three numbers
-abbrev Lent : (J G R : RattleType) → Run.Ghosts J.Denot → (runtime gate board snapshot steps : NamedLft) → List RattleType
+-- what a worker is lent: the runtime, the allocator, the gate, the board, the claims and the steps; and its seat
+abbrev Lent : (J G R : RattleType) → Run.Ghosts J.Denot → (runtime gate board claims steps : NamedLft) → List RattleType
 Lent J G R g a b c d e =
     (shr_ref_field a (param.param 2 R) tt).row ∷ Global.the_row ∷ (shr_ref_field b (param.param 1 G) tt).row
-    ∷ (shr_ref_field c (shared.the_row (param.param 0 J) g) tt).row ∷ (shr_ref_field d snapshot.the_row tt).row
-    ∷ (shr_slice_field e step.the_row tt).row ∷ u64-field.row ∷ u64-field.row ∷ u64-field.row ∷ []
+    ∷ (shr_ref_field c (shared.the_row (param.param 0 J) g) tt).row ∷ (shr_ref_field d claims.the_row tt).row
+    ∷ seat.the_row ∷ (shr_slice_field e step.the_row tt).row ∷ []
 
 pub worker_send : (J G R : RattleType) (g : Run.Ghosts J.Denot) (n : Sym) (a b c d e : NamedLft)
     → IsSend (param.param 0 J) → IsSync (param.param 1 G) → IsSync (param.param 2 R) → IsSend (TupleAt n (Lent J G R g a b c d e))
@@ -65,18 +67,12 @@ worker_send J G R g n a b c d e j gate runtime =
           (
             (search (sendable, crosses, board) depth 60),
             (
-              (search (sendable, crosses, as_row_send, snapshot_sync) depth 60),
+              (search (sendable, crosses, as_row_send, claims_sync) depth 60),
               (
-                (search (sendable, crosses, as_row_send, step_sync) depth 60),
+                (search (sendable, crosses, as_row_send, seat_send) depth 60),
                 (
-                  (search (sendable, crosses, as_row_send) depth 60),
-                  (
-                    (search (sendable, crosses, as_row_send) depth 60),
-                    (
-                      (search (sendable, crosses, as_row_send) depth 60),
-                      tt,
-                    ),
-                  ),
+                  (search (sendable, crosses, as_row_send, step_sync) depth 60),
+                  tt,
                 ),
               ),
             ),

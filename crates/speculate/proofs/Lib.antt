@@ -5,3 +5,4 @@ pub mod Plays
 pub mod Recorded
 pub mod Rests
 pub mod Seen
+pub mod Stays

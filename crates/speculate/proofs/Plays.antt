@@ -1,8 +1,10 @@
 -- Playing one step more.
-use Rattle.std.proofs.Common.{◌≡◌, ℕ, zero, suc, List, [], ◌∷◌, ◌++◌, take, IsTrue, Some, slice_get, refl, ap, subst}
+use Rattle.std.proofs.Common.{◌≡◌, ◌≤◌, ◌+◌, ◌==◌, ℕ, zero, suc, List, [], ◌∷◌, ◌++◌, length, take, IsTrue, Some, slice_get, refl, ap, subst, arith}
+use Rattle.std.proofs.lemmas.Bool.{eqb-true}
 use Rattle.std.specs.List.{list_all}
 use Rattle.spec_world.specs.World.{World}
-use Rattle.spec_task.specs.Step.{Step, Outcome, in_range, AllInRange, play1, play}
+use Rattle.spec_task.specs.Step.{Step, Outcome, in_range, runs_on, RunsOn, AllInRange, play1, play}
+use Rattle.spec_task.proofs.StepKeeps.{number_small}
 use Rattle.spec_value.proofs.Entries.{first_holds, second_holds}
 use Rattle.world.specs.Counted.{Counted}
 
@@ -33,3 +35,20 @@ play_none w (s ∷ ss) = refl
 -- nothing was played
 pub nothing_played : (w u : Counted) (ss : List Step) (n : ℕ) (os : List Outcome) → n ≡ 0 → u ≡ w → os ≡ [] → play w.plain (take n ss) ≡ (u.plain, os)
 nothing_played w u ss n os a b c = rw (a, b, c) (play_none w.plain ss)
+
+-- ---- a list is not long, since its numbers run on
+
+runs_below : (n : ℕ) (ss : List Step) → n ≤ 33554432 → IsTrue (runs_on n ss) → AllInRange ss → n + length ss ≤ 33554432
+runs_below n [] small runs all = omega arith
+runs_below n (s ∷ ss) small runs all =
+    let number : s.number ≡ n = eqb-true s.number n (first_holds (s.number == n) (runs_on (suc n) ss) runs) in
+    let most = number_small s (first_holds (in_range s) (list_all in_range ss) all) in
+    let rest = runs_below (suc n) ss (omega arith) (second_holds (s.number == n) (runs_on (suc n) ss) runs) (second_holds (in_range s) (list_all in_range ss) all) in
+    omega (arith, rest)
+
+pub runs_few : (w : World) (ss : List Step) → RunsOn w ss → AllInRange ss → length ss ≤ 33554432
+runs_few w [] runs all = omega arith
+runs_few w (s ∷ ss) runs all =
+    let number : s.number ≡ w.next = eqb-true s.number w.next (first_holds (s.number == w.next) (runs_on (suc w.next) ss) runs) in
+    let most = number_small s (first_holds (in_range s) (list_all in_range ss) all) in
+    omega (arith, runs_below w.next (s ∷ ss) (omega arith) runs all)

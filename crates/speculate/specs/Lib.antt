@@ -1,4 +1,5 @@
 pub mod BoardCode
 pub mod BoardState
+pub mod Events
 pub mod Progress
 pub mod Right

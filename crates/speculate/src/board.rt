@@ -250,8 +250,8 @@ impl Board {
         Ok(self.count() - from)
     }
 
-    /// Posts a guess, or loses the position where there is none or it is refused.
-    pub(crate) fn settle(&mut self, position: usize, guess: Option<Guess>)
+    // Posts a guess, or loses the position where there is none or it is refused.
+    fn settle(&mut self, position: usize, guess: Option<Guess>)
         ensures { (self.new.base ≡ self.old.base) × (self.new.steps ≡ self.old.steps) }
     {
         let posted = match guess {
@@ -261,6 +261,15 @@ impl Board {
         if !posted {
             let _ = self.lose(position);
         }
+    }
+
+    /// Posts a guess, or loses the position where there is none or it is refused. Then it commits as far as each position holds something; want of
+    /// memory is no answer, since what is left is committed at the end.
+    pub(crate) fn hand_in(&mut self, alloc: Global, position: usize, guess: Option<Guess>)
+        ensures { (self.new.base ≡ self.old.base) × (self.new.steps ≡ self.old.steps) }
+    {
+        self.settle(position, guess);
+        let _ = self.advance(alloc);
     }
 
     /// Loses each position that is not committed yet and holds nothing.

@@ -1,5 +1,5 @@
 //! A list on the caller's thread alone, without a lock and without threads.
-ghost use Rattle.std.specs.Prelude.{◌≡◌, ◌≤◌, ◌+◌, length, take, IfOk, IfErr};
+ghost use Rattle.std.specs.Prelude.{◌≡◌, ◌≤◌, ◌<◌, ◌+◌, length, take, IfOk, IfErr};
 ghost use Rattle.spec_task.specs.Step.{AllInRange, play};
 ghost use Rattle.speculate.specs.BoardState.{runs};
 
@@ -7,12 +7,11 @@ use crate::board::Board;
 use crate::finish::conclude;
 use crate::gate::{Gate, guess_at};
 use crate::report::Report;
-use crate::rounds::end_of_round;
 use std::alloc::Global;
 use task_step::partial::{Partial, Refusal};
 use task_step::step::Step;
 
-/// Plays a board to its end in rounds, each with guesses on one snapshot.
+/// Plays a board to its end, each step guessed on the world that those before it left.
 pub(crate) fn play_here<G: Gate>(
     alloc: Global,
     gate: &G,
@@ -26,35 +25,21 @@ pub(crate) fn play_here<G: Gate>(
     ensures err { IfErr result (λ p. (p.count ≡ length p.outcomes.items) × (p.count ≤ length board.steps) × (p.refusal ≡ Refusal.Memory)) }
     ensures views { IfOk result (λ r. board.base.opened + runs r.marks.items ≤ r.world.opened) }
 {
-    let mut first = 0;
-    'round: while first < steps.len() {
-        let end = end_of_round(first, steps.len());
-        round_here(alloc, gate, &mut board, steps, first, end);
-        first = end;
+    'step: for at in 0..steps.len() {
+        step_here(alloc, gate, &mut board, steps, at);
     }
     conclude(alloc, board)
 }
 
-// The positions from `first` on below `end`, guessed on one snapshot, and one advance.
-fn round_here<G: Gate>(
-    alloc: Global,
-    gate: &G,
-    board: &mut Board,
-    steps: &[Step],
-    first: usize,
-    end: usize,
-)
+// One position, guessed on the world as it is.
+fn step_here<G: Gate>(alloc: Global, gate: &G, board: &mut Board, steps: &[Step], at: usize)
     requires range { AllInRange steps.now }
-    requires end { end ≤ length steps.now }
+    requires at { at < length steps.now }
     ensures { (board.new.base ≡ board.old.base) × (board.new.steps ≡ board.old.steps) }
 {
-    let snapshot = board.snapshot().ok();
-    'step: for at in first..end {
-        let guess = match &snapshot {
-            Some(snapshot) => guess_at(alloc, gate, snapshot, steps, at),
-            None => None,
-        };
-        board.settle(at, guess);
-    }
-    let _ = board.advance(alloc);
+    let guess = match board.snapshot() {
+        Ok(snapshot) => guess_at(alloc, gate, &snapshot, steps, at),
+        Err(_) => None,
+    };
+    board.hand_in(alloc, at, guess);
 }

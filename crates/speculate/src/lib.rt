@@ -3,6 +3,7 @@
 
 pub mod board;
 mod commit;
+mod crew;
 mod finish;
 pub mod gate;
 pub mod guesses;
@@ -11,5 +12,5 @@ pub mod held;
 mod here;
 pub mod list;
 pub mod report;
-mod rounds;
+pub mod schedules;
 pub mod shared;

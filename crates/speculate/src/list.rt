@@ -4,10 +4,11 @@ ghost use Rattle.spec_task.specs.Step.{RunsOn, AllInRange, play};
 ghost use Rattle.speculate.specs.BoardState.{runs};
 
 use crate::board::Board;
+use crate::crew::play_by_claims;
 use crate::gate::Gate;
 use crate::here::play_here;
 use crate::report::Report;
-use crate::rounds::play_in_rounds;
+use round_claims::Claims;
 use std::alloc::Global;
 use std::marker::Brand;
 use std::sync::Wait;
@@ -58,5 +59,8 @@ pub fn run_list<G: Gate, R: Threads + Wait + Sync>(
     if workers == 1 || steps.len() <= 1 {
         return play_here(alloc, gate, board, steps);
     }
-    play_in_rounds::<Brand, G, R>(rt, alloc, gate, board, steps, workers)
+    let Ok((claims, seats)) = Claims::new(alloc, steps.len(), workers.min(steps.len())) else {
+        return play_here(alloc, gate, board, steps);
+    };
+    play_by_claims::<Brand, G, R>(rt, alloc, gate, board, &claims, seats, steps)
 }

@@ -64,14 +64,9 @@ impl<J: Run> SharedBoard<J> {
         self.board.lock(rt).board.snapshot()
     }
 
-    /// Posts a guess, or loses the position where there is none or it is refused.
-    pub fn settle<R: Wait>(&self, rt: &R, position: usize, guess: Option<Guess>) {
-        self.board.lock(rt).board.settle(position, guess);
-    }
-
-    /// Commits from the next position on, as far as each holds a guess or a loss, and answers how many.
-    pub fn advance<R: Wait>(&self, rt: &R, alloc: Global) -> Result<usize, AllocError> {
-        self.board.lock(rt).board.advance(alloc)
+    /// Posts a guess, or loses the position where there is none or it is refused. Then it commits as far as each position holds something.
+    pub fn hand_in<R: Wait>(&self, rt: &R, alloc: Global, position: usize, guess: Option<Guess>) {
+        self.board.lock(rt).board.hand_in(alloc, position, guess);
     }
 
     /// The board, when no worker has it any more.

@@ -1,3 +1,4 @@
+pub mod ArgumentRows
 pub mod Assembled
 pub mod Drafted
 pub mod StatementRows

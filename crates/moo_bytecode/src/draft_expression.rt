@@ -97,11 +97,18 @@ impl<'a> Draft<'a> {
                 self.operand(around.above(height(target)?)?, value)?;
                 self.target_part(around.above(0)?, target)
             }
-            ExpressionNode::List(_)
-            | ExpressionNode::Call(_, _)
-            | ExpressionNode::VerbCall(_, _, _)
-            | ExpressionNode::Catch(_, _, _)
-            | ExpressionNode::Scatter(_, _) => Err(DraftError::Unsupported),
+            ExpressionNode::List(items) => {
+                self.argument_list(around, Operation::MakeList, items)
+            }
+            ExpressionNode::Call(name, arguments) => {
+                self.argument_list(around, Operation::CallFunction(name), arguments)
+            }
+            ExpressionNode::VerbCall(object, name, arguments) => {
+                self.verb_call(around, object, name, arguments)
+            }
+            ExpressionNode::Catch(_, _, _) | ExpressionNode::Scatter(_, _) => {
+                Err(DraftError::Unsupported)
+            }
         }
     }
 

@@ -7,6 +7,7 @@
 
 pub mod around;
 pub mod draft;
+mod draft_arguments;
 mod draft_expression;
 mod draft_statement;
 pub mod laws;

@@ -34,8 +34,8 @@ pub enum Operation<'a> {
     CallFunction(&'a Text),
     Store(&'a Target),
     Scatter(&'a [Item]),
-    /// The items, the number of the one whose default is done, and the items after it.
-    ScatterOn(&'a [Item], usize, &'a [Item]),
+    /// After the default of the item with this number.
+    ScatterOn(&'a [Item], usize),
     StoreDefault(&'a Text),
     Pop,
     Return,

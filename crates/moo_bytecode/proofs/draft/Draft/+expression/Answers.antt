@@ -1,9 +1,18 @@
-use Rattle.std.proofs.Common.{◌-◌, length, ap, ◌∙◌, false}
+use Rattle.std.proofs.Common.{◌-◌, ◌<◌, ◌≤◌, length, [], ◌∷◌, ap, ◌∙◌, false, arith}
 use Rattle.spec_program.specs.Construct.{of_expr}
+use Rattle.moo_tree.specs.Depth.{arguments_depth}
+use Rattle.moo_tree.specs.ExpressionView.{arguments_of}
+use Rattle.moo_tree.proofs.Sameness.{argument_within}
 use Rattle.moo_code.specs.Layout.{opens as opens_of, size, expr_layout, target_layout}
 use Rattle.moo_bytecode.specs.Drafting.{around_of, state, count, over, with_part}
 use Rattle.moo_bytecode.proofs.Drafted.{closed}
 use Rattle.moo_bytecode.proofs.draft.Draft.+expression.Goals as goal
+
+pub arguments-argument-requires : goal.arguments-argument-requires
+arguments-argument-requires t c =
+    let b : c.loop-i.i - 1 < length c.args.arguments.now = omega (arith, c.loop-i-test.true, c.loop-i.auto.i) in
+    let h : arguments_depth (arguments_of (c.index-arguments-i.result ∷ [])) ≤ arguments_depth (arguments_of c.args.arguments.now) = rw c.index-arguments-i.is (argument_within _ _ _ b) in
+    (omega (arith, h), tt)
 
 pub part-returns : goal.part-returns
 part-returns t c =

@@ -1,5 +1,9 @@
-use Rattle.std.proofs.Common.{◌+◌, ◌*◌}
-use Rattle.moo_tree.specs.Depth.{expr_depth, target_depth}
+use Rattle.std.proofs.Common.{◌≡◌, ◌+◌, ◌*◌, drop, [], ◌∷◌}
+use Rattle.std.specs.Prelude.{max}
+use Rattle.moo_tree.specs.Depth.{expr_depth, target_depth, arguments_depth}
+use Rattle.moo_tree.specs.ExpressionView.{arguments_of}
+use Rattle.moo_code.specs.Layout.{stop, arguments_layout}
+use Rattle.moo_bytecode.specs.Drafting.{around_of, unraised_of, state, over}
 use Rattle.moo_bytecode.proofs.draft.Draft.+expression.Given as goal
 
 abbrev pub decreases-expression : goal.decreases-expression
@@ -16,3 +20,19 @@ decreases-target l = 8 * target_depth l.target.now
 
 abbrev pub decreases-target_part : goal.decreases-target_part
 decreases-target_part l = 8 * target_depth l.target.now + 1
+
+abbrev pub decreases-argument : goal.decreases-argument
+decreases-argument l = 8 * arguments_depth (arguments_of (l.argument.now ∷ [])) + 2
+
+abbrev pub decreases-arguments : goal.decreases-arguments
+decreases-arguments l = 8 * arguments_depth (arguments_of l.arguments.now) + 3
+
+abbrev pub invariant-arguments-loop-i : goal.invariant-arguments-loop-i
+invariant-arguments-loop-i l =
+    state l.self ≡ over (arguments_layout (around_of l.around) l.held (unraised_of l.unraised) (arguments_of (drop l.i l.arguments)) stop) (state l.initial.self)
+
+abbrev pub decreases-argument_list : goal.decreases-argument_list
+decreases-argument_list l = 8 * arguments_depth (arguments_of l.arguments.now) + 4
+
+abbrev pub decreases-verb_call : goal.decreases-verb_call
+decreases-verb_call l = 8 * max (expr_depth l.object.now) (max (expr_depth l.name.now) (arguments_depth (arguments_of l.arguments.now))) + 4

@@ -1,18 +1,17 @@
 -- Similar things stand for each other under any frames.
-use Rattle.std.proofs.Common.{◌≡◌, ℕ, Bool, true, false, List, [], ◌∷◌, ◌++◌, map, Option, Some, None, refl, sym, ap, ◌∙◌}
+use Rattle.std.proofs.Common.{◌≡◌, ℕ, true, false, List, [], ◌∷◌, ◌++◌, map, Option, Some, None, refl, sym, ap, ◌∙◌}
 use Rattle.spec_value.specs.Datum.{Text, fold_case}
-use Rattle.spec_program.specs.Tree.{Expr, unary, binary, both, either, conditional, call, assignment, scatter, codes_in, instead, the_code, evaluate, give, branch, Branches, Otherwise, on, no_branches, else_do, for_each, for_range, repeat, fork, seq, guarded, finished, except}
+use Rattle.spec_program.specs.Tree.{unary, binary, both, either, conditional, call, assignment, scatter, codes_in, instead, the_code, evaluate, give, branch, on, no_branches, else_do, for_each, for_range, repeat, fork, seq, guarded, finished, except}
 use Rattle.spec_program.specs.Tokens as t
 use Rattle.spec_program.specs.Tokens.{Placed}
-use Rattle.spec_program.specs.Reading.{Read, got, stuck, and_then, is_sign, is_keyword, Node, under}
+use Rattle.spec_program.specs.Reading.{Read, is_sign, is_keyword}
 use Rattle.spec_program.specs.ReadExpressions as by
 use Rattle.spec_program.specs.ReadExpressions.{Found, some_arguments, steps, items_from, operators, expression}
 use Rattle.spec_program.specs.ReadPrograms as in_programs
 use Rattle.spec_program.specs.ReadPrograms.{FoundBlock, FoundStatement, FoundBranches, FoundArms, Stray, block, branches, arms, out_of_loop, cut, too_deep, Parsed, parsed_by, tested, tested_loops, fault_at}
 use Rattle.spec_program.specs.Frames as f
 use Rattle.spec_program.specs.Frames.{Kind, an_expression, an_operand, some_arguments_read, some_items_read, some_codes_read, a_statement, a_block, some_branches_read, some_arms_read, Of, Frame, Frames, push, whole_text, Head, Body, resume, resume_all, means}
-use Rattle.spec_program.specs.KeptNodes.{kept}
-use Rattle.spec_program.specs.Similar.{Similar, SimilarFound, SimilarOperand, SimilarArguments, SimilarItems, SimilarCodes, SimilarStatement, SimilarBlock, SimilarBranches, SimilarArms, SimilarOf, SimilarRead, both_got, both_stuck, Interchange}
+use Rattle.spec_program.specs.Similar.{SimilarFound, SimilarCodes, SimilarStatement, SimilarBlock, SimilarBranches, SimilarArms, SimilarOf, SimilarRead, both_got, both_stuck, Interchange}
 use Rattle.spec_program.proofs.KeptNodesTell.{kept_tells_depth}
 use Rattle.spec_program.proofs.SimilarParts.{like, mapped, mapped_both, of_two, of_three, of_two_and, around, made, as_whole, next, onward, if_there, past, past_word}
 use Rattle.spec_program.proofs.SimilarReaders.{found_like, operand_like, codes_like, two, three, property_similar, call_similar, verb_similar, index_similar, range_similar, steps_similar, operators_similar, value_similar, argument_similar, default_similar, expression_similar, item_similar, and_items_similar, braces_similar, caught_similar}
@@ -45,8 +44,8 @@ branch_similar h k l = record {
 
 and_branches_similar : (n : ℕ) {c d : Found} {p q : FoundBlock} → SimilarFound c d → SimilarBlock p q → (ts : List Placed)
     → SimilarRead SimilarBranches
-        (in_programs.and_branches (block n) (branches n (expression n) (block n)) c p ts)
-        (in_programs.and_branches (block n) (branches n (expression n) (block n)) d q ts)
+    (in_programs.and_branches (block n) (branches n (expression n) (block n)) c p ts)
+    (in_programs.and_branches (block n) (branches n (expression n) (block n)) d q ts)
 and_branches_similar n h k ts =
     onward (in_programs.more_branches (block n) (branches n (expression n) (block n)) ts)
     (λ b us. both_got _ _ us (branch_similar h k (branches_like b)))

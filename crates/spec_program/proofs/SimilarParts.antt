@@ -10,7 +10,7 @@ use Rattle.spec_program.specs.ReadExpressions as by
 use Rattle.spec_program.specs.ReadExpressions.{Found}
 use Rattle.spec_program.specs.ReadPrograms.{too_deep, greatest_depth}
 use Rattle.spec_program.specs.KeptNodes.{kept}
-use Rattle.spec_program.specs.Similar.{Similar, SimilarFound, SimilarTarget, no_target, a_target, SimilarBraces, none, SimilarOperand, SimilarRead, both_got, both_stuck}
+use Rattle.spec_program.specs.Similar.{Similar, SimilarFound, SimilarTarget, no_target, a_target, none, SimilarOperand, SimilarRead, both_got, both_stuck}
 use Rattle.spec_program.proofs.KeptNodesTell.{kept_of_both, kept_under}
 
 -- ---- what is not too deep has no part that is

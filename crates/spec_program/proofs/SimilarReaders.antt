@@ -1,12 +1,12 @@
 -- What is read behind similar parts is similar.
-use Rattle.std.proofs.Common.{◌≡◌, ℕ, zero, suc, Bool, true, false, List, [], ◌∷◌, ◌++◌, Option, Some, None, if◌then◌else◌, refl, sym, ap, ◌∙◌, subst}
+use Rattle.std.proofs.Common.{◌≡◌, ℕ, zero, suc, Bool, true, false, List, [], ◌∷◌, ◌++◌, Option, Some, None, if◌then◌else◌, refl, ap, subst}
 use Rattle.std.specs.Prelude.{nat_le}
 use Rattle.spec_value.specs.Datum.{Text, fold_case}
-use Rattle.spec_program.specs.Tree.{Expr, binary, both, either, conditional, verb_call, property, index, range, assignment, scatter, listing, argument, splice, variable, Target, to_property, to_index, to_range, Items, required, optional, remaining, defaulted, Arguments, Codes, codes_in, caught, Fallback, the_code, instead}
+use Rattle.spec_program.specs.Tree.{Expr, binary, both, either, conditional, verb_call, property, index, range, assignment, scatter, listing, argument, splice, variable, Target, to_property, to_index, to_range, Items, required, optional, remaining, defaulted, caught, Fallback}
 use Rattle.spec_program.specs.Spelling.{operator_level, right_level}
 use Rattle.spec_program.specs.Tokens as t
 use Rattle.spec_program.specs.Tokens.{Sign, Token, Placed}
-use Rattle.spec_program.specs.Reading.{Read, got, stuck, and_then, is_sign, is_keyword, Node, under}
+use Rattle.spec_program.specs.Reading.{Read, is_sign, Node, under}
 use Rattle.spec_program.specs.ReadExpressions as by
 use Rattle.spec_program.specs.ReadExpressions.{ReadsExpression, Found, FoundArguments, Operand, Braces, Allowed, FoundItems, FoundCodes, Joint, Continues, steps, operators}
 use Rattle.spec_program.specs.Frames as f
@@ -270,8 +270,8 @@ and_items_similar more a ts k = onward _ (λ i us. both_got _ _ us (k i))
 
 braces_by : (l s : Bool) {xs ys : Items} {ns ms : List Node} → Similar ns ms xs ys
     → SimilarBraces
-        (if s then (if l then by.perhaps_scatter xs ns else by.surely_scatter xs ns) else by.no_braces)
-        (if s then (if l then by.perhaps_scatter ys ms else by.surely_scatter ys ms) else by.no_braces)
+    (if s then (if l then by.perhaps_scatter xs ns else by.surely_scatter xs ns) else by.no_braces)
+    (if s then (if l then by.perhaps_scatter ys ms else by.surely_scatter ys ms) else by.no_braces)
 braces_by l false h = none
 braces_by true true {xs} {ys} {ns} {ms} h = perhaps xs ys ns ms h
 braces_by false true {xs} {ys} {ns} {ms} h = surely xs ys ns ms h
@@ -291,7 +291,7 @@ braces_similar line {i} {j} h =
       target = no_target _ _;
       ranged = refl;
       braces = subst (λ z. SimilarBraces (by.braces_of i) z) (allowed_as i.allowed j.allowed j.items j.default_nodes h.allowed)
-      (braces_by i.allowed.as_list i.allowed.as_scatter h.items);
+          (braces_by i.allowed.as_list i.allowed.as_scatter h.items);
     }
 
 pub caught_similar : (line : ℕ) {e d : Found} {c x : FoundCodes} {w v : Fallback} {ns ms : List Node} → SimilarFound e d → SimilarCodes c x

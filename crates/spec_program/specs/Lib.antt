@@ -18,6 +18,8 @@ pub mod StatementMoves
 pub mod OtherMoves
 pub mod TextMoves
 pub mod KeptNodes
+pub mod CanonicalTokens
+pub mod CanonicalLaws
 pub mod Trees
 pub mod TreeRows
 pub mod TreeLaws

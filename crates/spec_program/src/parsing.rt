@@ -145,3 +145,10 @@ pub fn kept_nodes()
     ensures behind { KeptBehind }
     ensures few { KeptFew }
 {}
+
+ghost use Rattle.spec_program.specs.CanonicalLaws.{SimpleReadBack};
+
+/// An expression without braces, catches and assignments is read back from the tokens of its canonical spelling, whatever may stand behind it.
+pub fn canonical_expressions()
+    ensures simple { SimpleReadBack }
+{}

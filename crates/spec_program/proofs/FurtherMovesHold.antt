@@ -72,12 +72,12 @@ any_level : (k : ℕ) (there more : List Placed → Read Found) (ts : List Place
 any_level zero there more ts e = sign_absent t.assign there more ts e
 any_level (suc k) there more ts e = refl
 
-no_assignment : (n : ℕ) (b : Bool) (k : ℕ) (a : Found) (y : Option Target) (more : List Placed → Read Found) (ts : List Placed)
+pub no_assignment : (n : ℕ) (b : Bool) (k : ℕ) (a : Found) (y : Option Target) (more : List Placed → Read Found) (ts : List Placed)
     → begins_with t.assign ts ≡ false → by.target_or_value (expression n) b k a y more ts ≡ more ts
 no_assignment n b k a None more ts e = refl
 no_assignment n b k a (Some y) more ts e = any_level k (by.assigned (expression n) b a y) more ts e
 
-not_assigned : (n : ℕ) (b : Bool) (k : ℕ) (o : Operand) (x : Braces) (more : List Placed → Read Found) (ts : List Placed)
+pub not_assigned : (n : ℕ) (b : Bool) (k : ℕ) (o : Operand) (x : Braces) (more : List Placed → Read Found) (ts : List Placed)
     → by.is_surely_scatter x ≡ false → begins_with t.assign ts ≡ false → by.braces_or_value (expression n) b k o x more ts ≡ more ts
 not_assigned n b k o by.no_braces more ts d e = no_assignment n b k o.found o.target more ts e
 not_assigned n b k o (by.perhaps_scatter items ns) more ts d e = any_level k (by.scattered (expression n) b o.found.line items ns) more ts e

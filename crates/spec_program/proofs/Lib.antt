@@ -9,6 +9,13 @@ pub mod StatementMovesHold
 pub mod OtherMovesHold
 pub mod TextMovesHold
 pub mod KeptNodesTell
+pub mod Laid
+pub mod OperatorsBack
+pub mod OperandsBack
+pub mod StepsBack
+pub mod ArgumentsBack
+pub mod VerbsBack
+pub mod CanonicalBack
 pub mod ReadFits
 pub mod LowTrees
 pub mod ExpressionsFit

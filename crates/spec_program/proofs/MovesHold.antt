@@ -143,7 +143,7 @@ argument_moves n b fs =
     one : Bool → List Placed → Read FoundArguments
     one spliced = by.one_argument (expression n) b (some_arguments n (expression n) b) spliced
 
-loose : (n : ℕ) (b : Bool) (k : ℕ) (a : Found) (j : Joint) (p : Placed) (ts : List Placed) → is_tight k j ≡ false
+pub loose : (n : ℕ) (b : Bool) (k : ℕ) (a : Found) (j : Joint) (p : Placed) (ts : List Placed) → is_tight k j ≡ false
     → by.join_by (expression n) b (operators n (expression n) b k) k a j ts (p ∷ ts) ≡ got a (p ∷ ts)
 loose n b k a (by.operator o) p ts e =
     ap (λ c. by.if_tight c (by.joined (expression n) b (operators n (expression n) b k) a (right_level o) (binary o)) (got a) ts (p ∷ ts)) e

@@ -51,7 +51,7 @@ codes_end n b fs = record { listed = λ es ts. refl; nothing_left = pushed n f.a
 
 -- ---- operands and what stands behind them
 
-no_operand : (n : ℕ) (reads : ReadsExpression) (b : Bool) (k : ℕ) (x : Token) (line : ℕ) (rest all : List Placed)
+pub no_operand : (n : ℕ) (reads : ReadsExpression) (b : Bool) (k : ℕ) (x : Token) (line : ℕ) (rest all : List Placed)
     → begins_expression x ≡ false → by.operand_by n reads b k x line rest all ≡ stuck all
 no_operand n reads b k (t.keyword x) line rest all e = refl
 no_operand n reads b k (t.bad x) line rest all e = refl
@@ -85,12 +85,12 @@ no_step n b o (t.sign s) rest all e = by_sign s e
     by_sign _ e = refl
 no_step n b o _ rest all e = refl
 
-stops : (n : ℕ) (c b : Bool) (o : Operand) (p : Placed) (ts : List Placed)
+pub stops : (n : ℕ) (c b : Bool) (o : Operand) (p : Placed) (ts : List Placed)
     → is_step p.token ≡ false → by.steps_unless c n (expression n) b (steps n (expression n) b) o (p ∷ ts) ≡ got o (p ∷ ts)
 stops n true b o p ts e = refl
 stops n false b o p ts e = no_step n b o p.token ts (p ∷ ts) e
 
-stops_at_end : (n : ℕ) (c b : Bool) (o : Operand) → by.steps_unless c n (expression n) b (steps n (expression n) b) o [] ≡ got o []
+pub stops_at_end : (n : ℕ) (c b : Bool) (o : Operand) → by.steps_unless c n (expression n) b (steps n (expression n) b) o [] ≡ got o []
 stops_at_end n true b o = refl
 stops_at_end n false b o = refl
 
@@ -148,7 +148,7 @@ alone_by : (n : ℕ) (b : Bool) (line : ℕ) (k : Token) (l : ℕ) (rest all : L
 alone_by n b line (t.word x) l rest all e = cc
 alone_by n b line _ l rest all e = refl
 
-alone : (n : ℕ) (b : Bool) (line : ℕ) (ts : List Placed) → begins_with_word ts ≡ false → by.dollar_first n (expression n) b line ts ≡ by.dollar_alone b line ts
+pub alone : (n : ℕ) (b : Bool) (line : ℕ) (ts : List Placed) → begins_with_word ts ≡ false → by.dollar_first n (expression n) b line ts ≡ by.dollar_alone b line ts
 alone n b line [] e = refl
 alone n b line (p ∷ ts) e = alone_by n b line p.token p.line ts (p ∷ ts) e
 

@@ -19,6 +19,8 @@ pub mod OtherMoves
 pub mod TextMoves
 pub mod KeptNodes
 pub mod Similar
+pub mod CanonicalTokens
+pub mod CanonicalLaws
 pub mod Trees
 pub mod TreeRows
 pub mod TreeLaws

@@ -153,3 +153,10 @@ ghost use Rattle.spec_program.specs.Similar.{Interchange};
 pub fn interchange()
     ensures { Interchange }
 {}
+
+ghost use Rattle.spec_program.specs.CanonicalLaws.{SimpleReadBack};
+
+/// An expression without braces, catches and assignments is read back from the tokens of its canonical spelling, whatever may stand behind it.
+pub fn canonical_expressions()
+    ensures simple { SimpleReadBack }
+{}

@@ -2,3 +2,4 @@ pub mod Assembling
 pub mod Branches
 pub mod Drafting
 pub mod Expressions
+pub mod Handling

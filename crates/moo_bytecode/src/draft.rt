@@ -32,21 +32,6 @@ pub struct Mark {
     pub size: usize,
 }
 
-/// Why there is no draft.
-#[derive(Debug, Drop)]
-pub enum DraftError {
-    /// There was no memory, or the program is too large for the numbers of the machine.
-    Memory,
-    /// A construct has no draft yet.
-    Unsupported,
-}
-
-impl From<AllocError> for DraftError {
-    fn from(_error: AllocError) -> DraftError {
-        DraftError::Memory
-    }
-}
-
 impl<'a> Draft<'a> {
     /// Nothing.
     pub fn new(alloc: Global) -> Draft<'a>

@@ -7,9 +7,10 @@ ghost use Rattle.moo_code.specs.Layout.{stop, own, above, expr_layout, arguments
 ghost use Rattle.moo_bytecode.specs.Drafting.{around_of, operation_of, parts_of, unraised_of, state, over};
 
 use crate::around::Around;
-use crate::draft::{Draft, DraftError};
+use crate::draft::Draft;
 use crate::operation::{Operation, Reception, Unraised, Way};
 use moo_tree::expression::{Argument, Expression};
+use std::alloc::AllocError;
 
 impl<'a> Draft<'a> {
     /// An argument into the last of so many held values.
@@ -20,7 +21,7 @@ impl<'a> Draft<'a> {
         held: usize,
         unraised: Unraised,
         argument: &'a Argument,
-    ) -> Result<(), DraftError>
+    ) -> Result<(), AllocError>
         ensures { OnOk result (state self.new ≡ over (arguments_layout (around_of around.entry) held (unraised_of unraised) (arguments_of (argument.now ∷ [])) stop) (state self.old)) }
     {
         match argument {
@@ -44,7 +45,7 @@ impl<'a> Draft<'a> {
         held: usize,
         unraised: Unraised,
         arguments: &'a [Argument],
-    ) -> Result<(), DraftError>
+    ) -> Result<(), AllocError>
         ensures { OnOk result (state self.new ≡ over (arguments_layout (around_of around.entry) held (unraised_of unraised) (arguments_of arguments.now) stop) (state self.old)) }
     {
         for i in (0..arguments.len()).rev() {
@@ -61,7 +62,7 @@ impl<'a> Draft<'a> {
         around: Around<'a, '_>,
         operation: Operation<'a>,
         arguments: &'a [Argument],
-    ) -> Result<(), DraftError>
+    ) -> Result<(), AllocError>
         ensures { OnOk result (state self.new ≡ over (arguments_layout (above (around_of around.entry) 1) 1 as_value (arguments_of arguments.now) (own (operation_of operation.entry) (parts_of operation.entry) stop)) (state self.old)) }
     {
         self.own(operation)?;
@@ -77,7 +78,7 @@ impl<'a> Draft<'a> {
         object: &'a Expression,
         name: &'a Expression,
         arguments: &'a [Argument],
-    ) -> Result<(), DraftError>
+    ) -> Result<(), AllocError>
         ensures { OnOk result (state self.new ≡ over (expr_layout (around_of around.entry) (verb_call object.now name.now (arguments_of arguments.now))) (state self.old)) }
     {
         let named = Reception::Received(Way::BeforeList, 1, Unraised::AsValue);

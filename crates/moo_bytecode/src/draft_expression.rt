@@ -7,7 +7,7 @@ ghost use Rattle.moo_bytecode.specs.Drafting.{around_of, reception_of, caught_of
 ghost use Rattle.moo_bytecode.specs.Expressions.{link_to};
 
 use crate::around::{Around, Bracketed, next};
-use crate::draft::{Draft, DraftError};
+use crate::draft::Draft;
 use crate::operation::{Caught, Operation, Reception};
 use moo_tree::expression::{Expression, ExpressionNode, Target, TargetNode};
 use std::alloc::AllocError;
@@ -41,13 +41,13 @@ impl<'a> Draft<'a> {
         &mut self,
         around: Around<'a, '_>,
         expression: &'a Expression,
-    ) -> Result<(), DraftError>
+    ) -> Result<(), AllocError>
         ensures { OnOk result (state self.new ≡ over (expr_layout (around_of around.entry) expression.now) (state self.old)) }
     {
         match &expression.node {
-            ExpressionNode::Literal(value) => Ok(self.own(Operation::Push(value))?),
-            ExpressionNode::Variable(name) => Ok(self.own(Operation::Load(name))?),
-            ExpressionNode::OwnLength => Ok(self.own(Operation::LengthOf(around.bracketed))?),
+            ExpressionNode::Literal(value) => self.own(Operation::Push(value)),
+            ExpressionNode::Variable(name) => self.own(Operation::Load(name)),
+            ExpressionNode::OwnLength => self.own(Operation::LengthOf(around.bracketed)),
             ExpressionNode::Unary(operator, a) => {
                 self.own(Operation::Unary(*operator))?;
                 self.operand(around.above(0)?, a)
@@ -106,9 +106,10 @@ impl<'a> Draft<'a> {
             ExpressionNode::VerbCall(object, name, arguments) => {
                 self.verb_call(around, object, name, arguments)
             }
-            ExpressionNode::Catch(_, _, _) | ExpressionNode::Scatter(_, _) => {
-                Err(DraftError::Unsupported)
+            ExpressionNode::Catch(value, codes, fallback) => {
+                self.caught_expression(around, value, codes, fallback)
             }
+            ExpressionNode::Scatter(items, value) => self.scatter(around, items, value),
         }
     }
 
@@ -118,7 +119,7 @@ impl<'a> Draft<'a> {
         &mut self,
         around: Around<'a, '_>,
         expression: &'a Expression,
-    ) -> Result<(), DraftError>
+    ) -> Result<(), AllocError>
         ensures { OnOk result (state self.new ≡ over (inner (plain (of_expr expression.now)) (expr_layout (around_of around.entry) expression.now) stop) (state self.old)) }
     {
         self.part(around, expression, Reception::Straight, None)
@@ -132,7 +133,7 @@ impl<'a> Draft<'a> {
         expression: &'a Expression,
         reception: Reception,
         caught: Option<Caught<'a>>,
-    ) -> Result<(), DraftError>
+    ) -> Result<(), AllocError>
         ensures { OnOk result (state self.new ≡ over (inner (link_to (of_expr expression.now) (reception_of reception) (caught_of caught.entry)) (expr_layout (around_of around.entry) expression.now) stop) (state self.old)) }
     {
         self.close(reception, caught)?;
@@ -144,7 +145,7 @@ impl<'a> Draft<'a> {
 
     // A target.
     #[cycle(expression)]
-    fn target(&mut self, around: Around<'a, '_>, target: &'a Target) -> Result<(), DraftError>
+    fn target(&mut self, around: Around<'a, '_>, target: &'a Target) -> Result<(), AllocError>
         ensures { OnOk result (state self.new ≡ over (target_layout (around_of around.entry) target.now) (state self.old)) }
     {
         match &target.node {
@@ -171,7 +172,7 @@ impl<'a> Draft<'a> {
 
     // A target as a part.
     #[cycle(expression)]
-    fn target_part(&mut self, around: Around<'a, '_>, target: &'a Target) -> Result<(), DraftError>
+    fn target_part(&mut self, around: Around<'a, '_>, target: &'a Target) -> Result<(), AllocError>
         ensures { OnOk result (state self.new ≡ over (inner (plain (of_target target.now)) (target_layout (around_of around.entry) target.now) stop) (state self.old)) }
     {
         self.close(Reception::Straight, None)?;

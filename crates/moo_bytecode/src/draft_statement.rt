@@ -9,7 +9,7 @@ ghost use Rattle.moo_bytecode.specs.Expressions.{link_to};
 ghost use Rattle.moo_bytecode.specs.Branches.{otherwise_if};
 
 use crate::around::{Around, next, plus};
-use crate::draft::{Draft, DraftError};
+use crate::draft::Draft;
 use crate::operation::{Caught, Operation, Reception, Sign};
 use moo_tree::statement::{Branch, Statement, StatementNode};
 use moo_value::text::Text;
@@ -65,7 +65,7 @@ impl<'a> Draft<'a> {
         alloc: Global,
         around: Around<'a, '_>,
         statements: &'a [Statement],
-    ) -> Result<(), DraftError>
+    ) -> Result<(), AllocError>
         ensures { OnOk result (state self.new ≡ over (program_layout (around_of around.entry) (program_of statements.now)) (state self.old)) }
     {
         for i in (0..statements.len()).rev() {
@@ -81,7 +81,7 @@ impl<'a> Draft<'a> {
         alloc: Global,
         around: Around<'a, '_>,
         statement: &'a Statement,
-    ) -> Result<(), DraftError>
+    ) -> Result<(), AllocError>
         ensures { OnOk result (state self.new ≡ over (inner (plain (of_statement statement.now)) (statement_layout (around_of around.entry) statement.now) stop) (state self.old)) }
     {
         self.close(Reception::Straight, None)?;
@@ -91,15 +91,15 @@ impl<'a> Draft<'a> {
         Ok(())
     }
 
-    // A program as a part.
+    /// A program as a part.
     #[cycle(statement)]
-    fn program_part(
+    pub(crate) fn program_part(
         &mut self,
         alloc: Global,
         around: Around<'a, '_>,
         statements: &'a [Statement],
         caught: Option<Caught<'a>>,
-    ) -> Result<(), DraftError>
+    ) -> Result<(), AllocError>
         ensures { OnOk result (state self.new ≡ over (inner (link_to (of_program (program_of statements.now)) straight (caught_of caught.entry)) (program_layout (around_of around.entry) (program_of statements.now)) stop) (state self.old)) }
     {
         self.close(Reception::Straight, caught)?;
@@ -116,7 +116,7 @@ impl<'a> Draft<'a> {
         alloc: Global,
         around: Around<'a, '_>,
         statement: &'a Statement,
-    ) -> Result<(), DraftError>
+    ) -> Result<(), AllocError>
         ensures { OnOk result (state self.new ≡ over (statement_layout (around_of around.entry) statement.now) (state self.old)) }
     {
         match &statement.node {
@@ -128,7 +128,7 @@ impl<'a> Draft<'a> {
                 self.own(Operation::Return)?;
                 self.operand(around.above(0)?, value)
             }
-            StatementNode::Return(None) => Ok(self.own(Operation::ReturnZero)?),
+            StatementNode::Return(None) => self.own(Operation::ReturnZero),
             StatementNode::ForEach {
                 variable,
                 list,
@@ -178,8 +178,7 @@ impl<'a> Draft<'a> {
                 self.program_part(alloc, around.in_body(0, &loops)?, body, Some(caught))?;
                 self.own(Operation::TestLoop)?;
                 self.operand(around.in_body(0, &loops)?, condition)?;
-                self.own(Operation::BeginFirst)?;
-                Ok(())
+                self.own(Operation::BeginFirst)
             }
             StatementNode::Fork {
                 variable,
@@ -200,16 +199,13 @@ impl<'a> Draft<'a> {
                 self.program_part(alloc, around.above(1)?, cleanup, None)?;
                 self.own(Operation::FinishBody)?;
                 self.program_part(alloc, around.above(0)?, body, Some(caught))?;
-                self.own(Operation::BeginFirst)?;
-                Ok(())
+                self.own(Operation::BeginFirst)
             }
             StatementNode::Break(name) => {
-                self.own(Operation::LeaveLoops(loops_left(name, around.loops)))?;
-                Ok(())
+                self.own(Operation::LeaveLoops(loops_left(name, around.loops)))
             }
             StatementNode::Continue(name) => {
-                self.own(Operation::ContinueLoops(loops_left(name, around.loops)))?;
-                Ok(())
+                self.own(Operation::ContinueLoops(loops_left(name, around.loops)))
             }
             StatementNode::If {
                 branches,
@@ -219,7 +215,7 @@ impl<'a> Draft<'a> {
                 branches,
                 otherwise: Some(body),
             } => self.if_with_else(alloc, around, branches, body),
-            StatementNode::TryExcept { .. } => Err(DraftError::Unsupported),
+            StatementNode::TryExcept { body, arms } => self.try_except(alloc, around, body, arms),
         }
     }
 
@@ -231,7 +227,7 @@ impl<'a> Draft<'a> {
         around: Around<'a, '_>,
         branches: &'a [Branch],
         followed: bool,
-    ) -> Result<(), DraftError>
+    ) -> Result<(), AllocError>
         ensures { OnOk result (state self.new ≡ over (branches_layout (around_of around.entry) true 1 (branches_of branches.now) (otherwise_if followed) stop) (state self.old)) }
     {
         for i in (0..branches.len()).rev() {
@@ -251,7 +247,7 @@ impl<'a> Draft<'a> {
         around: Around<'a, '_>,
         branches: &'a [Branch],
         body: &'a [Statement],
-    ) -> Result<(), DraftError>
+    ) -> Result<(), AllocError>
         ensures { OnOk result (state self.new ≡ over (branches_layout (around_of around.entry) true 1 (branches_of branches.now) (else_do (program_of body.now)) (otherwise_layout (around_of around.entry) (else_do (program_of body.now)))) (state self.old)) }
     {
         self.program_part(alloc, around.above(0)?, body, None)?;
@@ -269,7 +265,7 @@ impl<'a> Draft<'a> {
         part: usize,
         followed: bool,
         branch: &'a Branch,
-    ) -> Result<(), DraftError>
+    ) -> Result<(), AllocError>
         ensures { OnOk result (state self.new ≡ over (branches_layout (around_of around.entry) first part (branch_of branch.now) (otherwise_if followed) stop) (state self.old)) }
     {
         let body = next(part)?;

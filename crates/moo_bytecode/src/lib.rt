@@ -8,7 +8,10 @@
 pub mod around;
 pub mod draft;
 mod draft_arguments;
+mod draft_catch;
 mod draft_expression;
+mod draft_handlers;
+mod draft_scatter;
 mod draft_statement;
 pub mod laws;
 pub mod operation;

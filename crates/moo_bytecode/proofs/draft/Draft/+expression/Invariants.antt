@@ -1,8 +1,8 @@
-use Rattle.std.proofs.Common.{◌≡◌, ◌+◌, ◌*◌, drop, [], ◌∷◌}
+use Rattle.std.proofs.Common.{◌≡◌, ◌+◌, ◌*◌, suc, drop, [], ◌∷◌}
 use Rattle.std.specs.Prelude.{max}
-use Rattle.moo_tree.specs.Depth.{expr_depth, target_depth, arguments_depth}
-use Rattle.moo_tree.specs.ExpressionView.{arguments_of}
-use Rattle.moo_code.specs.Layout.{stop, arguments_layout}
+use Rattle.moo_tree.specs.Depth.{expr_depth, target_depth, arguments_depth, codes_depth, fallback_depth, items_depth}
+use Rattle.moo_tree.specs.ExpressionView.{arguments_of, codes_of, fallback_of, items_of}
+use Rattle.moo_code.specs.Layout.{stop, arguments_layout, items_layout, slots_of, default_parts}
 use Rattle.moo_bytecode.specs.Drafting.{around_of, unraised_of, state, over}
 use Rattle.moo_bytecode.proofs.draft.Draft.+expression.Given as goal
 
@@ -36,3 +36,30 @@ decreases-argument_list l = 8 * arguments_depth (arguments_of l.arguments.now) +
 
 abbrev pub decreases-verb_call : goal.decreases-verb_call
 decreases-verb_call l = 8 * max (expr_depth l.object.now) (max (expr_depth l.name.now) (arguments_depth (arguments_of l.arguments.now))) + 4
+
+abbrev pub decreases-fallback : goal.decreases-fallback
+decreases-fallback l = 8 * fallback_depth (fallback_of l.fallback.now) + 3
+
+abbrev pub decreases-codes : goal.decreases-codes
+decreases-codes l = 8 * codes_depth (codes_of l.codes.now) + 4
+
+abbrev pub decreases-caught_expression : goal.decreases-caught_expression
+decreases-caught_expression l =
+    8 * max (expr_depth l.expression.now) (max (codes_depth (codes_of l.codes.now)) (fallback_depth (fallback_of l.fallback.now))) + 5
+
+abbrev pub decreases-default_part : goal.decreases-default_part
+decreases-default_part l = 8 * expr_depth l.value.now + 3
+
+abbrev pub decreases-item : goal.decreases-item
+decreases-item l = 8 * items_depth (items_of (l.item.now ∷ [])) + 4
+
+abbrev pub decreases-items : goal.decreases-items
+decreases-items l = 8 * items_depth (items_of l.items.now) + 5
+
+abbrev pub invariant-items-loop-i : goal.invariant-items-loop-i
+invariant-items-loop-i l =
+    state l.self
+    ≡ over (items_layout (around_of l.around) (slots_of (items_of l.items)) (default_parts 1 (items_of l.items)) (suc l.i) (items_of (drop l.i l.items)) stop) (state l.initial.self)
+
+abbrev pub decreases-scatter : goal.decreases-scatter
+decreases-scatter l = 8 * max (items_depth (items_of l.items.now)) (expr_depth l.value.now) + 6

@@ -1,11 +1,12 @@
 use Rattle.std.proofs.Common.{rules, ◌≡◌, ◌+◌, suc, nat_eq, drop, ◌-◌, ◌<◌, ◌≤◌, length, ap, ◌∙◌, false, arith}
-use Rattle.moo_tree.specs.Depth.{statement_depth, program_depth, branches_depth}
-use Rattle.moo_tree.specs.StatementView.{program_of, branches_of, branch_of}
-use Rattle.moo_tree.proofs.Sameness.{statement_within, branch_within}
+use Rattle.moo_tree.specs.Depth.{statement_depth, program_depth, branches_depth, arms_depth}
+use Rattle.moo_tree.specs.StatementView.{program_of, branches_of, branch_of, arms_of, arm_of}
+use Rattle.moo_tree.proofs.Sameness.{statement_within, branch_within, arm_within}
 use Rattle.moo_code.specs.Layout.{stop, size, statement_layout, program_layout, branches_layout}
 use Rattle.moo_bytecode.specs.Drafting.{around_of, state, count, over, with_part}
 use Rattle.moo_bytecode.specs.Branches.{otherwise_if}
 use Rattle.moo_bytecode.proofs.StatementRows.{branch_put}
+use Rattle.moo_bytecode.proofs.HandlerRows.{rows_counted, arm_next}
 use Rattle.moo_bytecode.proofs.Drafted.{closed}
 use Rattle.moo_bytecode.proofs.draft.Draft.+statement.Goals as goal
 
@@ -20,6 +21,27 @@ if_branches-if_branch-requires t c =
     let b : c.loop-i.i - 1 < length c.args.branches.now = omega (arith, c.loop-i-test.true, c.loop-i.auto.i) in
     let h : branches_depth (branch_of c.index-branches-i.result) ≤ branches_depth (branches_of c.args.branches.now) = rw c.index-branches-i.is (branch_within _ _ _ b) in
     (omega (arith, h), tt)
+
+pub arms-arm-requires : goal.arms-arm-requires
+arms-arm-requires t c =
+    let b : c.loop-i.i - 1 < length c.args.arms.now = omega (arith, c.loop-i-test.true, c.loop-i.auto.i) in
+    let h : arms_depth (arm_of c.index-arms-i.result) ≤ arms_depth (arms_of c.args.arms.now) = rw c.index-arms-i.is (arm_within _ _ _ b) in
+    (omega (arith, h), tt)
+
+pub arms-bounds-rows-i : goal.arms-bounds-rows-i
+arms-bounds-rows-i t c = omega (arith, c.loop-i-test.true, c.loop-i.auto.i, rows_counted 1 c.args.rows.now c.args.arms.now c.requires)
+
+pub arms-bounds-rows-i-in-loop-i : goal.arms-bounds-rows-i-in-loop-i
+arms-bounds-rows-i-in-loop-i t c = omega (arith, c.loop-i-test.true, c.loop-i.auto.i, rows_counted 1 c.args.rows.now c.args.arms.now c.requires)
+
+pub arms-loop-i-preserved : goal.arms-loop-i-preserved
+arms-loop-i-preserved t c =
+    let j = c.loop-i.i - 1 in
+    let hs = c.args.arms.now in
+    let b : j < length hs = omega (arith, c.loop-i-test.true, c.loop-i.auto.i) in
+    let i : c.loop-i.i ≡ suc j = omega (arith, c.loop-i-test.true) in
+    c.in_ok-arm.ensures
+    ∙ arm_next (around_of c.args.around) hs c.args.rows.now c.loop-i.i j c.index-arms-i.result c.index-rows-i.result (state c.loop-i.self) (state c.args.self.now) i b c.requires c.index-arms-i.is c.loop-i.invariant
 
 pub statement_part-returns : goal.statement_part-returns
 statement_part-returns t c =

@@ -1,10 +1,11 @@
 use Rattle.std.proofs.Common.{◌≡◌, ◌+◌, ◌*◌, suc, nat_eq, drop}
 use Rattle.std.specs.Prelude.{max}
-use Rattle.moo_tree.specs.Depth.{statement_depth, program_depth, branches_depth}
-use Rattle.moo_tree.specs.StatementView.{program_of, branches_of, branch_of}
-use Rattle.moo_code.specs.Layout.{stop, program_layout, branches_layout}
+use Rattle.moo_tree.specs.Depth.{statement_depth, program_depth, branches_depth, arms_depth}
+use Rattle.moo_tree.specs.StatementView.{program_of, branches_of, branch_of, arms_of}
+use Rattle.moo_code.specs.Layout.{stop, program_layout, branches_layout, arms_layout}
 use Rattle.moo_bytecode.specs.Drafting.{around_of, state, over}
 use Rattle.moo_bytecode.specs.Branches.{otherwise_if}
+use Rattle.moo_bytecode.proofs.HandlerRows.{first_part}
 use Rattle.moo_bytecode.proofs.draft.Draft.+statement.Given as goal
 
 abbrev pub decreases-statement : goal.decreases-statement
@@ -34,3 +35,15 @@ invariant-if_branches-loop-i l =
 
 abbrev pub decreases-if_with_else : goal.decreases-if_with_else
 decreases-if_with_else l = 8 * max (branches_depth (branches_of l.branches.now)) (program_depth (program_of l.body.now)) + 6
+
+abbrev pub decreases-arm : goal.decreases-arm
+decreases-arm l = 8 * program_depth (program_of l.arm.now.body.items) + 4
+
+abbrev pub decreases-arms : goal.decreases-arms
+decreases-arms l = 8 * arms_depth (arms_of l.arms.now) + 5
+
+abbrev pub invariant-arms-loop-i : goal.invariant-arms-loop-i
+invariant-arms-loop-i l = state l.self ≡ over (arms_layout (around_of l.around) l.i (first_part 2 l.i l.arms) (arms_of (drop l.i l.arms))) (state l.initial.self)
+
+abbrev pub decreases-try_except : goal.decreases-try_except
+decreases-try_except l = 8 * max (program_depth (program_of l.body.now)) (arms_depth (arms_of l.arms.now)) + 6

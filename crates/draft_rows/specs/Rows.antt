@@ -36,10 +36,16 @@ one = push (integer (pos 1))
 abbrev pub division : Operation
 division = push (error zero_division)
 
-abbrev pub a b c x : Text
+abbrev pub a : Text
 a = codes "a"
+
+abbrev pub b : Text
 b = codes "b"
+
+abbrev pub c : Text
 c = codes "c"
+
+abbrev pub x : Text
 x = codes "x"
 
 abbrev pub x_read : Expr

@@ -12,12 +12,13 @@ ghost use Rattle.moo_program.specs.declared.tables.Tables.{Tables as TablesRecor
 ghost use Rattle.moo_program.specs.Walking.{walk_of, with_own, with_part, with_close, start_of, caught_in, Adds};
 
 use crate::emit::{instruction, narrow, place, some_slot};
+use crate::error::CompileError;
 use crate::instruction::{Catch, CatchArm, Handler, Instruction, Part};
 use crate::names::Names;
 use crate::open::Open;
 use crate::tables::Tables;
 use moo_bytecode::around::next;
-use moo_bytecode::draft::{DraftError, Item};
+use moo_bytecode::draft::Item;
 use moo_bytecode::operation::{Caught, HandlerRow, Operation, Reception, Sign};
 use std::alloc::{AllocError, Global};
 
@@ -45,7 +46,7 @@ pub fn assemble(
     tables: &Tables<'_>,
     items: &[Item],
     size: usize,
-) -> Result<Assembled, DraftError>
+) -> Result<Assembled, CompileError>
     ensures code { IfOk result (λ a. map (meant_in tables.now) a.code.items ≡ code_in (opened 0 (map item_of items.now) size ∷ []) 0 (map item_of items.now)) }
     ensures handlers { IfOk result (λ a. map (handler_in tables.now) a.handlers.items ≡ handlers_in (opened 0 (map item_of items.now) size ∷ []) 0 (map item_of items.now)) }
 {
@@ -80,7 +81,7 @@ impl Assembly {
         tables: &Tables<'_>,
         item: &Item<'_>,
         after: &[Item<'_>],
-    ) -> Result<(), DraftError>
+    ) -> Result<(), CompileError>
         ensures { OnOk result (Adds (walk_of tables.now self.old) (item_of item.now) (map item_of after.now) (walk_of tables.now self.new)) }
     {
         match item {
@@ -103,7 +104,7 @@ impl Assembly {
         alloc: Global,
         tables: &Tables<'_>,
         operation: &Operation<'_>,
-    ) -> Result<(), DraftError>
+    ) -> Result<(), CompileError>
         ensures { OnOk result (walk_of tables.now self.new ≡ with_own (operation_of operation.now) (parts_of operation.now) (walk_of tables.now self.old)) }
     {
         let instruction = instruction(alloc, tables, &self.here, self.forks, operation)?;
@@ -145,11 +146,11 @@ impl Assembly {
         tables: &Tables<'_>,
         reception: Reception,
         caught: Option<&Caught<'_>>,
-    ) -> Result<(), DraftError>
+    ) -> Result<(), CompileError>
         ensures { OnOk result (walk_of tables.now self.new ≡ with_close (reception_of reception) (caught_in caught.entry) (walk_of tables.now self.old)) }
     {
         let Some(around) = self.around.pop() else {
-            return Err(DraftError::Unsupported);
+            return Err(CompileError::Unsupported);
         };
         let first = self.here.first;
         let past = self.place;

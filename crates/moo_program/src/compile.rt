@@ -9,10 +9,11 @@ ghost use Rattle.moo_program.specs.Meaning.{meant, handler_meant};
 ghost use Rattle.moo_program.specs.Names.{known};
 
 use crate::assembly::{Assembled, assemble};
+use crate::error::CompileError;
 use crate::gather::gather;
 use crate::tables::Tables;
 use moo_bytecode::around::{Around, Bracketed};
-use moo_bytecode::draft::{Draft, DraftError, Item};
+use moo_bytecode::draft::{Draft, Item};
 use moo_tree::statement::Tree;
 use moo_value::text::Text;
 use std::alloc::Global;
@@ -25,7 +26,7 @@ pub struct Code {
 }
 
 /// The code of a tree.
-pub fn compile(alloc: Global, tree: &Tree) -> Result<Code, DraftError>
+pub fn compile(alloc: Global, tree: &Tree) -> Result<Code, CompileError>
     ensures names { IfOk result (λ c. known c.names.items ≡ names_of tree.now) }
     ensures code { IfOk result (λ c. map (meant (names_of tree.now) (forks_in (code_of tree.now))) c.assembled.code.items ≡ code_of tree.now) }
     ensures handlers { IfOk result (λ c. map (handler_meant (names_of tree.now)) c.assembled.handlers.items ≡ handlers_of tree.now) }
@@ -40,7 +41,7 @@ pub fn compile(alloc: Global, tree: &Tree) -> Result<Code, DraftError>
 }
 
 // The draft of a tree, from its first item to the last.
-fn drafted(alloc: Global, tree: &Tree) -> Result<Draft<'_>, DraftError>
+fn drafted(alloc: Global, tree: &Tree) -> Result<Draft<'_>, CompileError>
     ensures { IfOk result (λ d. IsDraft tree.now (map item_of d.items.items) d.size) }
 {
     let mut draft = Draft::new(alloc);
@@ -61,10 +62,10 @@ fn turn(items: &mut Vec<Item<'_>>)
 }
 
 // The bodies of forks have no code yet.
-fn without_forks(tables: &Tables<'_>) -> Result<(), DraftError> {
+fn without_forks(tables: &Tables<'_>) -> Result<(), CompileError> {
     if tables.bodies.is_empty() {
         Ok(())
     } else {
-        Err(DraftError::Unsupported)
+        Err(CompileError::Unsupported)
     }
 }

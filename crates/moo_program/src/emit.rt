@@ -11,12 +11,12 @@ ghost use Rattle.moo_program.specs.Names.{known};
 ghost use Rattle.moo_program.specs.Opens.{open_of};
 ghost use Rattle.moo_program.specs.Tables.{bodies_of, meant_in};
 
+use crate::error::CompileError;
 use crate::instruction::{Beginning, Bracket, Instruction, Part, Shape};
 use crate::names::Names;
 use crate::open::Open;
 use crate::tables::Tables;
 use moo_bytecode::around::{Bracketed, next};
-use moo_bytecode::draft::DraftError;
 use moo_bytecode::operation::{KnownCodes, Operation};
 use moo_tree::expression::{Target, TargetNode};
 use moo_tree::statement::Statement;
@@ -171,7 +171,7 @@ pub fn instruction(
     here: &Open,
     forks: usize,
     operation: &Operation<'_>,
-) -> Result<Instruction, DraftError>
+) -> Result<Instruction, CompileError>
     ensures { IfOk result (λ i. meant_in tables.now i ≡ perform (operation_of operation.now) (placed (place_of (open_of here.now)) (parts_of operation.now))) }
 {
     Ok(match operation {
@@ -202,7 +202,7 @@ pub fn instruction(
         Operation::BeginFirst => Instruction::BeginFirst,
         Operation::StartFork(variable, body) => {
             if !is_body(tables.bodies.as_slice(), forks, body) {
-                return Err(DraftError::Unsupported);
+                return Err(CompileError::Unsupported);
             }
             let variable = some_slot(&tables.names, *variable)?;
             Instruction::StartFork(variable, narrow(forks)?)
@@ -217,7 +217,7 @@ fn jump(
     tables: &Tables<'_>,
     here: &Open,
     operation: &Operation<'_>,
-) -> Result<Instruction, DraftError>
+) -> Result<Instruction, CompileError>
     ensures { IfOk result (λ i. meant_in tables.now i ≡ perform (operation_of operation.now) (placed (place_of (open_of here.now)) (parts_of operation.now))) }
 {
     Ok(match operation {
@@ -268,7 +268,7 @@ fn jump(
             };
             Instruction::BeginAbove(boxed(alloc, beginning)?)
         }
-        _ => return Err(DraftError::Unsupported),
+        _ => return Err(CompileError::Unsupported),
     })
 }
 

@@ -4,6 +4,7 @@
 mod assembly;
 mod compile;
 mod emit;
+pub mod error;
 mod gather;
 pub mod instruction;
 pub mod names;

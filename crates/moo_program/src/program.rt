@@ -7,8 +7,8 @@ ghost use Rattle.moo_program.specs.Meaning.{meant, handler_meant};
 ghost use Rattle.moo_program.specs.Names.{known};
 
 use crate::compile::{Code, compile};
+use crate::error::CompileError;
 use crate::instruction::{Handler, Instruction};
-use moo_bytecode::draft::DraftError;
 use moo_tree::statement::Tree;
 use moo_value::text::Text;
 use std::alloc::{AllocError, Global};
@@ -45,13 +45,13 @@ impl Model for Program {
 
 impl Program {
     /// The program of a tree.
-    pub fn compile(alloc: Global, tree: Tree) -> Result<Program, DraftError>
+    pub fn compile(alloc: Global, tree: Tree) -> Result<Program, CompileError>
         ensures { IfOk result (λ program. program ≡ tree) }
     {
         let code = compile(alloc, &tree)?;
         match Arc::new(alloc, Compiled { tree, code }) {
             Ok(compiled) => Ok(Program { compiled }),
-            Err(_) => Err(DraftError::Memory),
+            Err(_) => Err(CompileError::Memory),
         }
     }
 

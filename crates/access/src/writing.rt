@@ -81,11 +81,7 @@ pub fn with_attribute(
     }
 }
 
-fn with_name(
-    alloc: Global,
-    header: Header,
-    value: &Value,
-) -> Result<Option<Header>, AllocError>
+fn with_name(alloc: Global, header: Header, value: &Value) -> Result<Option<Header>, AllocError>
     ensures { IfOk result (λ h. (x : Object) → x.header ≡ header → with_built_in x own_name value.now ≡ option_map (λ k. record x { header = k }) h) }
 {
     value.know();
@@ -112,10 +108,25 @@ fn with_flag(header: Header, flag: Flag, truth: bool) -> Header
     ensures { (x : Object) → x.header ≡ header → (v : Datum) → is_true v ≡ truth → with_built_in x (flag_of flag) v ≡ Some (record x { header = result }) }
 {
     match flag {
-        Flag::Programmer => Header { is_programmer: truth, ..header },
-        Flag::Wizard => Header { is_wizard: truth, ..header },
-        Flag::Readable => Header { readable: truth, ..header },
-        Flag::Writable => Header { writable: truth, ..header },
-        Flag::Fertile => Header { fertile: truth, ..header },
+        Flag::Programmer => Header {
+            is_programmer: truth,
+            ..header
+        },
+        Flag::Wizard => Header {
+            is_wizard: truth,
+            ..header
+        },
+        Flag::Readable => Header {
+            readable: truth,
+            ..header
+        },
+        Flag::Writable => Header {
+            writable: truth,
+            ..header
+        },
+        Flag::Fertile => Header {
+            fertile: truth,
+            ..header
+        },
     }
 }

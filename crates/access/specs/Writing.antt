@@ -1,0 +1,31 @@
+-- What is written to an object that may not be there, and what an answer says of it.
+use Rattle.std.specs.Prelude.{◌≡◌, ℤ, Bool, true, false, ◌&&◌, not, Result, Ok, Err, Option, Some, None}
+use Rattle.std.specs.Ordering.{int_eq}
+use Rattle.spec_value.specs.Datum.{Datum, Text, invalid_indirection}
+use Rattle.spec_world.specs.World.{World, Object, Header}
+use Rattle.spec_world.specs.Inherit.{slot_at}
+use Rattle.spec_moo.specs.Properties.{BuiltInProperty, own_name, r_bit, w_bit, f_bit, Written, wrote, refused, write_slot}
+use Rattle.moo_value.specs.Errors.{code_of}
+use Rattle.moo_value.specs.declared.error.MooError.{MooError}
+
+-- where nothing is refused the world now is the written one, and else the one before
+abbrev pub IsWritten : {A : Type 0} → World → World → Written → Result A MooError → Type 0
+IsWritten before after written (Ok done) = written ≡ wrote after
+IsWritten before after written (Err e) = (written ≡ refused (code_of e)) × (after ≡ before)
+
+-- a property that is no built-in one
+abbrev pub write_named : World → ℤ → ℤ → Text → Datum → Option Object → Written
+write_named w who o p v None = refused invalid_indirection
+write_named w who o p v (Some x) = write_slot w who o p v (slot_at w o p)
+
+-- one of the bits r, w, f
+abbrev pub is_bit : BuiltInProperty → Bool
+is_bit r_bit = true
+is_bit w_bit = true
+is_bit f_bit = true
+is_bit b = false
+
+-- who is no wizard, by an object's header
+abbrev pub owner_may : Header → ℤ → BuiltInProperty → Bool
+owner_may h who own_name = int_eq who h.owner && not h.is_player
+owner_may h who b = is_bit b && int_eq who h.owner

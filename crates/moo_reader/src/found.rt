@@ -1,0 +1,60 @@
+//! What was read.
+
+use crate::node::Node;
+use moo_tree::expression::{Argument, Codes, Expression, Item};
+
+/// An expression with the line of its first token, its parentheses included.
+#[derive(Drop)]
+pub struct Found {
+    pub tree: Expression,
+    pub line: u64,
+    pub nodes: Vec<Node>,
+}
+
+/// Arguments, the last one first.
+#[derive(Drop)]
+pub struct Arguments {
+    pub reversed: Vec<Argument>,
+    pub nodes: Vec<Node>,
+}
+
+/// What braces may be beside a list, with the nodes of their defaults.
+#[derive(Drop)]
+pub enum Braces {
+    NoScatter,
+    PerhapsScatter(Vec<Item>, Vec<Node>),
+    SurelyScatter(Vec<Item>, Vec<Node>),
+}
+
+/// What stands before operators. A range is the last step of a target.
+#[derive(Drop)]
+pub struct Operand {
+    pub found: Found,
+    pub is_target: bool,
+    pub ranged: bool,
+    pub braces: Braces,
+}
+
+/// What the items so far allow: a list, a scatter; and whether one of them takes the rest.
+#[derive(Clone, Copy, Debug, PartialEq, Eq)]
+pub struct Allowed {
+    pub as_list: bool,
+    pub as_scatter: bool,
+    pub has_rest: bool,
+}
+
+/// Items of braces, the last one first: as arguments of a list, and as items of a scatter.
+#[derive(Drop)]
+pub struct Items {
+    pub allowed: Allowed,
+    pub arguments: Arguments,
+    pub reversed: Vec<Item>,
+    pub default_nodes: Vec<Node>,
+}
+
+/// The codes that a caught expression names.
+#[derive(Drop)]
+pub struct FoundCodes {
+    pub tree: Codes,
+    pub nodes: Vec<Node>,
+}

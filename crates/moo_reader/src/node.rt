@@ -1,0 +1,50 @@
+//! How deep the parts of a tree lie.
+
+ghost use Rattle.std.specs.Prelude.{◌≡◌, ◌++◌, IfOk};
+ghost use Rattle.spec_program.specs.Reading.{under, deeper};
+ghost use Rattle.moo_reader.specs.Nodes.{node_of, nodes_of};
+
+use std::alloc::{AllocError, Global};
+
+/// A statement or an expression: how many of them are on the path to it, itself included, and the line where it begins.
+#[derive(Clone, Copy, Debug, PartialEq, Eq)]
+pub struct Node {
+    pub depth: u64,
+    pub line: u64,
+}
+
+impl Node {
+    // The node in one that is around it. A depth beyond all memory is a lack of memory.
+    fn deeper(self) -> Result<Node, AllocError>
+        ensures { IfOk result (λ n. node_of n ≡ deeper (node_of self)) }
+    {
+        if self.depth == u64::MAX {
+            return Err(AllocError);
+        }
+        Ok(Node {
+            depth: self.depth + 1,
+            line: self.line,
+        })
+    }
+}
+
+/// A node of this line around others.
+pub fn under(alloc: Global, line: u64, nodes: &[Node]) -> Result<Vec<Node>, AllocError>
+    ensures { IfOk result (λ v. nodes_of v.items ≡ under line (nodes_of nodes.now)) }
+{
+    let mut around = Vec::with_capacity(alloc, 1)?;
+    around.push(Node { depth: 1, line })?;
+    for node in nodes {
+        let node = node.deeper()?;
+        around.push(node)?;
+    }
+    Ok(around)
+}
+
+/// Nodes, and others behind them.
+pub fn followed(mut nodes: Vec<Node>, others: &[Node]) -> Result<Vec<Node>, AllocError>
+    ensures { IfOk result (λ v. v.items ≡ nodes.items ++ others.now) }
+{
+    nodes.extend_from_slice(others)?;
+    Ok(nodes)
+}

@@ -1,12 +1,11 @@
 -- Numbers that are great enough read statements alike, and what is left is an end of the tokens.
 use Rattle.std.proofs.Common.{ap, ℕ, zero, suc, ◌<◌, true, false, List, [], ◌∷◌, ◌++◌, length, arith, Option, Some, None}
-use Rattle.std.specs.Prelude.{map}
 use Rattle.spec_value.specs.Datum.{Text, fold_case}
-use Rattle.spec_program.specs.Tree.{Statement, evaluate, give, give_zero, branch, for_each, for_range, repeat, fork, guarded, finished, leave_loop, next_turn, no_arms}
+use Rattle.spec_program.specs.Tree.{Statement, evaluate, give, give_zero, for_each, for_range, repeat, leave_loop, next_turn}
 use Rattle.spec_program.specs.Tokens as t
 use Rattle.spec_program.specs.Tokens.{Sign, Keyword, Token, Placed}
-use Rattle.spec_program.specs.Reading.{Read, under, line_of}
-use Rattle.spec_program.specs.ReadExpressions.{ReadsExpression, Found}
+use Rattle.spec_program.specs.Reading.{Read, line_of}
+use Rattle.spec_program.specs.ReadExpressions.{ReadsExpression}
 use Rattle.spec_program.specs.ReadPrograms as by
 use Rattle.spec_program.specs.ReadPrograms.{FoundBlock, FoundStatement, FoundBranches, FoundArms, ReadsBlock, branches, arms, block}
 use Rattle.spec_program.specs.Remaining.{Ends, all, past, Behind, EnoughForBlock, BlockLeaves, EnoughForBranches, EnoughForArms, StatementPartsConsume, EnoughForText}
@@ -60,12 +59,9 @@ branches_alike zero m ts k h = let l = k.first in absurd (omega (arith, l))
 branches_alike (suc n) zero ts k h = let l = k.second in absurd (omega (arith, l))
 branches_alike (suc n) (suc m) ts k h = one_branch_alike ts k h (λ us d. branches_alike n m us (inner d k) (later_blocks (weakly d) h))
 
-abbrev branch_of : ℕ → FoundBranches → FoundStatement
-branch_of line b = record { tree = branch b.branches b.otherwise; nodes = under line b.nodes; strays = b.strays }
-
 if_statement_alike : {n m : ℕ} {f g : ReadsExpression} {blocks others : ReadsBlock} (line : ℕ) (ts : List Placed)
     → Good n m f g ts → GoodBlocks blocks others ts → Alike true ts (by.if_statement n f blocks line ts) (by.if_statement m g others line ts)
-if_statement_alike {n} {m} line ts k h = then (branches_alike n m ts k h) (λ b us d. found (branch_of line b))
+if_statement_alike {n} {m} line ts k h = then (branches_alike n m ts k h) (λ b us d. found (by.branch_of line b))
 
 -- ---- loops and `fork`
 
@@ -95,23 +91,17 @@ while_statement_alike line ts k h =
     perhaps_then (perhaps_word_alike ts) (λ x us d. then (in_parentheses_alike us (later d k)) (λ c vs e.
     then (block_to_alike t.endwhile_word vs (later_blocks (on (weakly e) d) h)) (λ p ws i. found (by.loop_of line x (repeat x c.tree p.tree) c.nodes p))))
 
-abbrev fork_of : ℕ → Option Text → Found → FoundBlock → FoundStatement
-fork_of line x e p = record { tree = fork x e.tree p.tree; nodes = under line (e.nodes ++ p.nodes); strays = map by.cut p.strays }
-
 fork_statement_alike : {n m : ℕ} {f g : ReadsExpression} {blocks others : ReadsBlock} (line : ℕ) (ts : List Placed)
     → Good n m f g ts → GoodBlocks blocks others ts → Alike true ts (by.fork_statement f blocks line ts) (by.fork_statement g others line ts)
 fork_statement_alike line ts k h =
     perhaps_then (perhaps_word_alike ts) (λ x us d. then (in_parentheses_alike us (later d k)) (λ e vs i.
-    then (block_to_alike t.endfork_word vs (later_blocks (on (weakly i) d) h)) (λ p ws j. found (fork_of line x e p))))
+    then (block_to_alike t.endfork_word vs (later_blocks (on (weakly i) d) h)) (λ p ws j. found (by.forked line x e p))))
 
 -- ---- `try`
 
-abbrev no_more_arms : FoundArms
-no_more_arms = record { tree = no_arms; nodes = []; strays = [] }
-
 more_arms_alike : {more less : List Placed → Read FoundArms} (ts : List Placed)
     → ((us : List Placed) → Behind us ts → Alike true us (more us) (less us)) → Alike true ts (by.more_arms more ts) (by.more_arms less ts)
-more_arms_alike ts i = if_word_there t.except_word ts (λ us d. i us d) (λ us d. beyond_word t.endtry_word us (λ vs e. found no_more_arms))
+more_arms_alike ts i = if_word_there t.except_word ts (λ us d. i us d) (λ us d. beyond_word t.endtry_word us (λ vs e. found by.no_more_arms))
 
 one_arm_alike : {n m : ℕ} {f g : ReadsExpression} {blocks others : ReadsBlock} {more less : List Placed → Read FoundArms} (ts : List Placed)
     → Good (suc n) (suc m) f g ts → GoodBlocks blocks others ts → ((us : List Placed) → Behind us ts → Alike true us (more us) (less us))
@@ -130,20 +120,14 @@ arms_alike zero m ts k h = let l = k.first in absurd (omega (arith, l))
 arms_alike (suc n) zero ts k h = let l = k.second in absurd (omega (arith, l))
 arms_alike (suc n) (suc m) ts k h = one_arm_alike ts k h (λ us d. arms_alike n m us (inner d k) (later_blocks (weakly d) h))
 
-abbrev finished_of : ℕ → FoundBlock → FoundBlock → FoundStatement
-finished_of line p q = record { tree = finished p.tree q.tree; nodes = under line (p.nodes ++ q.nodes); strays = p.strays ++ q.strays }
-
-abbrev guarded_of : ℕ → FoundBlock → FoundArms → FoundStatement
-guarded_of line p a = record { tree = guarded p.tree a.tree; nodes = under line (p.nodes ++ a.nodes); strays = p.strays ++ a.strays }
-
 finally_part_alike : {f g : ReadsBlock} (line : ℕ) (p : FoundBlock) (ts : List Placed)
     → GoodBlocks f g ts → Alike true ts (by.finally_part f line p ts) (by.finally_part g line p ts)
-finally_part_alike line p ts h = then (block_to_alike t.endtry_word ts h) (λ q us d. found (finished_of line p q))
+finally_part_alike line p ts h = then (block_to_alike t.endtry_word ts h) (λ q us d. found (by.finished_of line p q))
 
 handlers_alike : {n m : ℕ} {f g : ReadsExpression} {blocks others : ReadsBlock} (line : ℕ) (p : FoundBlock) (ts : List Placed)
     → Good n m f g ts → GoodBlocks blocks others ts → Alike true ts (by.handlers n f blocks line p ts) (by.handlers m g others line p ts)
 handlers_alike {n} {m} line p ts k h =
-    beyond_word t.except_word ts (λ us d. then (arms_alike n m us (later (weakly d) k) (later_blocks (weakly d) h)) (λ a vs e. found (guarded_of line p a)))
+    beyond_word t.except_word ts (λ us d. then (arms_alike n m us (later (weakly d) k) (later_blocks (weakly d) h)) (λ a vs e. found (by.guarded_of line p a)))
 
 try_statement_alike : {n m : ℕ} {f g : ReadsExpression} {blocks others : ReadsBlock} (line : ℕ) (ts : List Placed)
     → Good n m f g ts → GoodBlocks blocks others ts → Alike true ts (by.try_statement n f blocks line ts) (by.try_statement m g others line ts)

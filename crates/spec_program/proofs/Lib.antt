@@ -5,6 +5,7 @@ pub mod MovesHold
 pub mod FurtherMovesHold
 pub mod BracedMovesHold
 pub mod ItemChoicesHold
+pub mod StatementMovesHold
 pub mod ReadFits
 pub mod LowTrees
 pub mod ExpressionsFit

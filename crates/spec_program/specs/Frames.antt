@@ -1,15 +1,17 @@
--- What is still to be read behind a part of an expression, as data: a list of frames, whose meaning is that of the definition's own functions.
-use Rattle.std.specs.Prelude.{ℕ, Bool, true, List, [], ◌++◌}
+-- What is still to be read behind a part of a text, as data: a list of frames, whose meaning is that of the definition's own functions.
+use Rattle.std.specs.Prelude.{ℕ, Bool, false, true, List, [], ◌++◌, Option, Some}
 use Rattle.spec_value.specs.Datum.{Text, fold_case}
 use Rattle.spec_value.specs.Operators.{UnaryOperator, BinaryOperator}
-use Rattle.spec_program.specs.Tree.{Expr, unary, binary, both, either, conditional, call, verb_call, assignment, scatter, Target, Items, codes_in, instead, the_code}
-use Rattle.spec_program.specs.Tokens.{Sign, Placed, close_parenthesis, close_bracket, double_dot, bar, not_sign, arrow, quote}
-use Rattle.spec_program.specs.Reading.{Read, got, and_then, if_sign, past_sign, Node}
+use Rattle.spec_program.specs.Tree.{Expr, evaluate, give, for_each, for_range, repeat, unary, binary, both, either, conditional, call, verb_call, assignment, scatter, Target, Items, codes_in, instead, the_code}
+use Rattle.spec_program.specs.Tokens.{Sign, Keyword, Placed, endfor_word, endwhile_word, endfork_word, finally_word, close_parenthesis, close_bracket, double_dot, bar, not_sign, arrow, quote}
+use Rattle.spec_program.specs.Reading.{Read, got, and_then, if_sign, if_keyword, past_sign, past_keyword, Node}
 use Rattle.spec_program.specs.ReadExpressions.{Found, found_at, FoundArguments, with_argument, further_ones, some_arguments, Operand, whole, property_of, verb_of, index_of, range_of, steps, Allowed, list_alone, scatter_alone, FoundItems, with_required, with_rest, with_optional, with_expression, with_default, and_items, items_from, braces_found, FoundCodes, error_codes, caught_with, operators, braces_or_value, expression}
+use Rattle.spec_program.specs.ReadPrograms.{FoundStatement, FoundBlock, FoundBranches, FoundArms, simple, block_to, with_branch, and_branches, branches, branch_of, else_block, loop_of, forked, with_arm, and_arms, arms, finally_part, finished_of, handlers, guarded_of, ended_by_semicolon, and_block, block}
 
 -- what a frame takes, and what it gives
 pub data Kind : Type 0 where
   an_expression an_operand some_arguments_read some_items_read some_codes_read : Kind
+  a_statement a_block some_branches_read some_arms_read : Kind
 
 abbrev pub Of : Kind → Type 0
 Of an_expression = Found
@@ -17,6 +19,10 @@ Of an_operand = Operand
 Of some_arguments_read = FoundArguments
 Of some_items_read = FoundItems
 Of some_codes_read = FoundCodes
+Of a_statement = FoundStatement
+Of a_block = FoundBlock
+Of some_branches_read = FoundBranches
+Of some_arms_read = FoundArms
 
 -- an operator between two expressions, and how it joins them
 pub data Join : Type 0 where
@@ -41,6 +47,34 @@ with_item (bare_rest x line) f = with_rest x line f
 with_item (bare_optional x) f = with_optional x f
 with_item (with_its_default x e) f = with_default x e f
 with_item (other spliced e) f = with_expression spliced e f
+
+-- a loop or a fork whose expression is read next, and one whose body is
+pub data Head : Type 0 where
+  for_head : Text → Head
+  while_head fork_head : Option Text → Head
+
+pub data Body : Type 0 where
+  list_body : Text → Found → Body
+  range_body : Text → Found → Found → Body
+  while_body fork_body : Option Text → Found → Body
+
+abbrev pub body_of : Head → Found → Body
+body_of (for_head x) e = list_body x e
+body_of (while_head x) e = while_body x e
+body_of (fork_head x) e = fork_body x e
+
+abbrev pub end_word : Body → Keyword
+end_word (list_body x e) = endfor_word
+end_word (range_body x a b) = endfor_word
+end_word (while_body x c) = endwhile_word
+end_word (fork_body x e) = endfork_word
+
+-- the whole statement, from its line on
+abbrev pub with_body : ℕ → Body → FoundBlock → FoundStatement
+with_body line (list_body x e) p = loop_of line (Some x) (for_each x e.tree p.tree) e.nodes p
+with_body line (range_body x a b) p = loop_of line (Some x) (for_range x a.tree b.tree p.tree) (a.nodes ++ b.nodes) p
+with_body line (while_body x c) p = loop_of line x (repeat x c.tree p.tree) c.nodes p
+with_body line (fork_body x e) p = forked line x e p
 
 -- the first Bool of a frame tells whether it stands in brackets, where `$` may
 pub data Frame : Kind → Kind → Type 0 where
@@ -71,6 +105,30 @@ pub data Frame : Kind → Kind → Type 0 where
   caught_codes : Bool → ℕ → Found → Frame some_codes_read an_operand
   as_codes : Frame some_arguments_read some_codes_read
   caught_instead : ℕ → Found → FoundCodes → Frame an_expression an_operand
+  statement_before : FoundStatement → Frame a_block a_block
+  block_behind : Frame a_statement a_block
+  to_word : Keyword → Frame a_block a_block
+  in_head : Frame an_expression an_expression  -- to the closing parenthesis of a statement's head
+  evaluated returned : ℕ → Frame an_expression a_statement
+  branches_of : ℕ → Frame some_branches_read a_statement
+  condition : Frame an_expression some_branches_read
+  block_of_branch : Found → Frame a_block some_branches_read
+  branch_before : Found → FoundBlock → Frame some_branches_read some_branches_read
+  as_else : Frame a_block some_branches_read
+  head_of : ℕ → Head → Frame an_expression a_statement
+  range_first : ℕ → Text → Frame an_expression a_statement
+  range_last : ℕ → Text → Found → Frame an_expression a_statement
+  block_of_body : ℕ → Body → Frame a_block a_statement
+  tried : ℕ → Frame a_block a_statement
+  finally_of : ℕ → FoundBlock → Frame a_block a_statement
+  arms_of : ℕ → FoundBlock → Frame some_arms_read a_statement
+  codes_of_arm : Option Text → Frame some_codes_read some_arms_read
+  block_of_arm : Option Text → FoundCodes → Frame a_block some_arms_read
+  arm_before : Option Text → FoundCodes → FoundBlock → Frame some_arms_read some_arms_read
+
+-- the body of a loop or a fork up to its end word
+abbrev pub body_read : ℕ → ℕ → Body → List Placed → Read FoundStatement
+body_read n line b ts = and_then (block_to (end_word b) (block n) ts) (λ p us. got (with_body line b p) us)
 
 -- how reading goes on behind what the frame takes; the number is that of the definition, enough for all tokens
 abbrev pub resume : {a c : Kind} → ℕ → Frame a c → Of a → List Placed → Read (Of c)
@@ -119,16 +177,40 @@ resume n (caught_codes b line e) c ts =
     ts
 resume n as_codes es ts = got (record { tree = codes_in es.tree; nodes = es.nodes }) ts
 resume n (caught_instead line e c) d ts = past_sign quote ts (got (caught_with line e c (instead d.tree) d.nodes))
+resume n (statement_before s) p ts = got (and_block s p) ts
+resume n block_behind s ts = and_then (block n ts) (λ p us. got (and_block s p) us)
+resume n (to_word k) p ts = past_keyword k ts (got p)
+resume n in_head e ts = past_sign close_parenthesis ts (got e)
+resume n (evaluated line) e ts = ended_by_semicolon (simple line (evaluate e.tree) e.nodes) ts
+resume n (returned line) e ts = ended_by_semicolon (simple line (give e.tree) e.nodes) ts
+resume n (branches_of line) b ts = got (branch_of line b) ts
+resume n condition c ts = and_then (block n ts) (λ p us. and_branches (block n) (branches n (expression n) (block n)) c p us)
+resume n (block_of_branch c) p ts = and_branches (block n) (branches n (expression n) (block n)) c p ts
+resume n (branch_before c p) b ts = got (with_branch c p b) ts
+resume n as_else p ts = got (else_block p) ts
+resume n (head_of line h) e ts = body_read n line (body_of h e) ts
+resume n (range_first line x) a ts =
+    past_sign double_dot ts (λ us. and_then (expression n false 0 us) (λ b vs.
+    past_sign close_bracket vs (body_read n line (range_body x a b))))
+resume n (range_last line x a) b ts = past_sign close_bracket ts (body_read n line (range_body x a b))
+resume n (block_of_body line b) p ts = got (with_body line b p) ts
+resume n (tried line) p ts = if_keyword finally_word (finally_part (block n) line p) (handlers n (expression n) (block n) line p) ts
+resume n (finally_of line p) q ts = got (finished_of line p q) ts
+resume n (arms_of line p) a ts = got (guarded_of line p a) ts
+resume n (codes_of_arm x) c ts =
+    past_sign close_parenthesis ts (λ us. and_then (block n us) (λ p vs. and_arms (arms n (expression n) (block n)) x c p vs))
+resume n (block_of_arm x c) p ts = and_arms (arms n (expression n) (block n)) x c p ts
+resume n (arm_before x c p) a ts = got (with_arm x c p a) ts
 
--- the newest frame first; at the end an expression is whole
+-- the newest frame first; at the end the text is whole
 pub data Frames : Kind → Type 0 where
-  whole_expression : Frames an_expression
+  whole_text : Frames a_block
   push : {a c : Kind} → Frame a c → Frames c → Frames a
 
-abbrev pub resume_all : {a : Kind} → ℕ → Frames a → Of a → List Placed → Read Found
-resume_all n whole_expression e ts = got e ts
+abbrev pub resume_all : {a : Kind} → ℕ → Frames a → Of a → List Placed → Read FoundBlock
+resume_all n whole_text p ts = got p ts
 resume_all n (push f fs) v ts = and_then (resume n f v ts) (resume_all n fs)
 
 -- what frames mean, where this is read next
-abbrev pub means : {a : Kind} → ℕ → Frames a → Read (Of a) → Read Found
+abbrev pub means : {a : Kind} → ℕ → Frames a → Read (Of a) → Read FoundBlock
 means n fs r = and_then r (resume_all n fs)

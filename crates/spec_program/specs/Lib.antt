@@ -14,6 +14,7 @@ pub mod Moves
 pub mod FurtherMoves
 pub mod BracedMoves
 pub mod ItemChoices
+pub mod StatementMoves
 pub mod Trees
 pub mod TreeRows
 pub mod TreeLaws

@@ -1,9 +1,9 @@
 -- Statements and programs as they are read (Programmer's Manual, "MOO Language Statements"), and what is wrong with a text that is no program.
-use Rattle.std.specs.Prelude.{ℕ, zero, suc, ◌+◌, ◌==◌, nat_lt, Bool, true, false, ◌||◌, List, [], ◌∷◌, ◌++◌, map, filter, not, length, Option, Some, None, if◌then◌else◌, codes}
+use Rattle.std.specs.Prelude.{ℕ, zero, suc, nat_lt, Bool, true, false, ◌||◌, List, [], ◌∷◌, ◌++◌, map, filter, not, length, Option, Some, None, if◌then◌else◌, codes}
 use Rattle.std.specs.Fmt.{decimal}
 use Rattle.spec_value.specs.Datum.{Text, fold_case, same_text}
 use Rattle.spec_program.specs.Tree.{Statement, evaluate, give, give_zero, branch, for_each, for_range, repeat, fork, guarded, finished, leave_loop, next_turn, Program, the_end, seq, Branches, no_branches, on, Otherwise, no_else, else_do, Arms, no_arms, except}
-use Rattle.spec_program.specs.Tokens.{FaultKind, character, unclosed, token, nesting, number, loop_name, Keyword, Sign, Token, word, keyword, error_name, integer, object, string, sign, bad, Placed, tokens_of, if_word, else_word, elseif_word, endif_word, for_word, in_word, endfor_word, while_word, endwhile_word, break_word, continue_word, return_word, fork_word, endfork_word, try_word, except_word, finally_word, endtry_word, open_parenthesis, close_parenthesis, open_bracket, close_bracket, open_brace, semicolon, double_dot, not_sign, minus_sign, dollar, backquote}
+use Rattle.spec_program.specs.Tokens.{FaultKind, character, unclosed, token, nesting, number, loop_name, Keyword, Token, word, keyword, sign, bad, Placed, tokens_of, if_word, else_word, elseif_word, endif_word, for_word, in_word, endfor_word, while_word, endwhile_word, break_word, continue_word, return_word, fork_word, endfork_word, try_word, except_word, finally_word, endtry_word, open_parenthesis, close_parenthesis, open_bracket, close_bracket, open_brace, semicolon, double_dot, not_sign, minus_sign, dollar, backquote}
 use Rattle.spec_program.specs.Reading.{Read, got, stuck, and_then, if_sign, if_keyword, past_sign, past_keyword, past_word, line_of, Node, under}
 use Rattle.spec_program.specs.ReadExpressions.{Found, ReadsExpression, expression, FoundCodes, error_codes}
 
@@ -101,17 +101,21 @@ more_branches blocks more ts =
     us)
     ts
 
+abbrev pub and_branches : ReadsBlock → (List Placed → Read FoundBranches) → Found → FoundBlock → List Placed → Read FoundBranches
+and_branches blocks more c p ts = and_then (more_branches blocks more ts) (λ b us. got (with_branch c p b) us)
+
 abbrev pub one_branch : ReadsExpression → ReadsBlock → (List Placed → Read FoundBranches) → List Placed → Read FoundBranches
-one_branch reads blocks more ts =
-    and_then (in_parentheses reads ts) (λ c us. and_then (blocks us) (λ p vs. and_then (more_branches blocks more vs) (λ b ws. got (with_branch c p b) ws)))
+one_branch reads blocks more ts = and_then (in_parentheses reads ts) (λ c us. and_then (blocks us) (λ p vs. and_branches blocks more c p vs))
 
 unfoldable pub branches : ℕ → ReadsExpression → ReadsBlock → List Placed → Read FoundBranches
 branches zero reads blocks ts = stuck ts
 branches (suc n) reads blocks ts = one_branch reads blocks (branches n reads blocks) ts
 
+abbrev pub branch_of : ℕ → FoundBranches → FoundStatement
+branch_of line b = record { tree = branch b.branches b.otherwise; nodes = under line b.nodes; strays = b.strays }
+
 abbrev pub if_statement : ℕ → ReadsExpression → ReadsBlock → ℕ → List Placed → Read FoundStatement
-if_statement n reads blocks line ts =
-    and_then (branches n reads blocks ts) (λ b us. got (record { tree = branch b.branches b.otherwise; nodes = under line b.nodes; strays = b.strays }) us)
+if_statement n reads blocks line ts = and_then (branches n reads blocks ts) (λ b us. got (branch_of line b) us)
 
 -- ---- loops
 
@@ -129,21 +133,37 @@ over_list reads blocks line x ts =
     and_then (in_parentheses reads ts) (λ e us. and_then (block_to endfor_word blocks us) (λ p vs.
     got (loop_of line (Some x) (for_each x e.tree p.tree) e.nodes p) vs))
 
+-- behind `for x in`, and behind `for x`
+abbrev pub for_in : ReadsExpression → ReadsBlock → ℕ → Text → List Placed → Read FoundStatement
+for_in reads blocks line x ts = if_sign open_bracket (over_range reads blocks line x) (over_list reads blocks line x) ts
+
+abbrev pub for_named : ReadsExpression → ReadsBlock → ℕ → Text → List Placed → Read FoundStatement
+for_named reads blocks line x ts = past_keyword in_word ts (for_in reads blocks line x)
+
 abbrev pub for_statement : ReadsExpression → ReadsBlock → ℕ → List Placed → Read FoundStatement
-for_statement reads blocks line ts =
-    past_word ts (λ x at us. past_keyword in_word us (λ vs. if_sign open_bracket (over_range reads blocks line (fold_case x)) (over_list reads blocks line (fold_case x)) vs))
+for_statement reads blocks line ts = past_word ts (λ x at us. for_named reads blocks line (fold_case x) us)
+
+-- behind `while` and its name
+abbrev pub while_named : ReadsExpression → ReadsBlock → ℕ → Option Text → List Placed → Read FoundStatement
+while_named reads blocks line x ts =
+    and_then (in_parentheses reads ts) (λ c us. and_then (block_to endwhile_word blocks us) (λ p vs.
+    got (loop_of line x (repeat x c.tree p.tree) c.nodes p) vs))
 
 abbrev pub while_statement : ReadsExpression → ReadsBlock → ℕ → List Placed → Read FoundStatement
-while_statement reads blocks line ts =
-    and_then (perhaps_word ts) (λ x us. and_then (in_parentheses reads us) (λ c vs. and_then (block_to endwhile_word blocks vs) (λ p ws.
-    got (loop_of line x (repeat x c.tree p.tree) c.nodes p) ws)))
+while_statement reads blocks line ts = and_then (perhaps_word ts) (while_named reads blocks line)
 
 -- ---- `fork`
 
+abbrev pub forked : ℕ → Option Text → Found → FoundBlock → FoundStatement
+forked line x e p = record { tree = fork x e.tree p.tree; nodes = under line (e.nodes ++ p.nodes); strays = map cut p.strays }
+
+-- behind `fork` and its name
+abbrev pub fork_named : ReadsExpression → ReadsBlock → ℕ → Option Text → List Placed → Read FoundStatement
+fork_named reads blocks line x ts =
+    and_then (in_parentheses reads ts) (λ e us. and_then (block_to endfork_word blocks us) (λ p vs. got (forked line x e p) vs))
+
 abbrev pub fork_statement : ReadsExpression → ReadsBlock → ℕ → List Placed → Read FoundStatement
-fork_statement reads blocks line ts =
-    and_then (perhaps_word ts) (λ x us. and_then (in_parentheses reads us) (λ e vs. and_then (block_to endfork_word blocks vs) (λ p ws.
-    got (record { tree = fork x e.tree p.tree; nodes = under line (e.nodes ++ p.nodes); strays = map cut p.strays }) ws)))
+fork_statement reads blocks line ts = and_then (perhaps_word ts) (fork_named reads blocks line)
 
 -- ---- `try`
 
@@ -155,27 +175,39 @@ pub record FoundArms : Type 0 where
 abbrev pub with_arm : Option Text → FoundCodes → FoundBlock → FoundArms → FoundArms
 with_arm x c p more = record { tree = except x c.tree p.tree more.tree; nodes = c.nodes ++ (p.nodes ++ more.nodes); strays = p.strays ++ more.strays }
 
+abbrev pub no_more_arms : FoundArms
+no_more_arms = record { tree = no_arms; nodes = []; strays = [] }
+
 abbrev pub more_arms : (List Placed → Read FoundArms) → List Placed → Read FoundArms
-more_arms more ts = if_keyword except_word more (λ us. past_keyword endtry_word us (got (record { tree = no_arms; nodes = []; strays = [] }))) ts
+more_arms more ts = if_keyword except_word more (λ us. past_keyword endtry_word us (got no_more_arms)) ts
+
+abbrev pub and_arms : (List Placed → Read FoundArms) → Option Text → FoundCodes → FoundBlock → List Placed → Read FoundArms
+and_arms more x c p ts = and_then (more_arms more ts) (λ a us. got (with_arm x c p a) us)
+
+-- behind `except` and its name
+abbrev pub arm_named : ℕ → ReadsExpression → ReadsBlock → (List Placed → Read FoundArms) → Option Text → List Placed → Read FoundArms
+arm_named n reads blocks more x ts =
+    past_sign open_parenthesis ts (λ us. and_then (error_codes n reads false us) (λ c vs.
+    past_sign close_parenthesis vs (λ ws. and_then (blocks ws) (λ p xs. and_arms more x c p xs))))
 
 abbrev pub one_arm : ℕ → ReadsExpression → ReadsBlock → (List Placed → Read FoundArms) → List Placed → Read FoundArms
-one_arm n reads blocks more ts =
-    and_then (perhaps_word ts) (λ x us. past_sign open_parenthesis us (λ vs. and_then (error_codes n reads false vs) (λ c ws.
-    past_sign close_parenthesis ws (λ xs. and_then (blocks xs) (λ p ys. and_then (more_arms more ys) (λ a zs. got (with_arm x c p a) zs))))))
+one_arm n reads blocks more ts = and_then (perhaps_word ts) (arm_named n reads blocks more)
 
 unfoldable pub arms : ℕ → ReadsExpression → ReadsBlock → List Placed → Read FoundArms
 arms zero reads blocks ts = stuck ts
 arms (suc n) reads blocks ts = one_arm n reads blocks (arms n reads blocks) ts
 
+abbrev pub finished_of : ℕ → FoundBlock → FoundBlock → FoundStatement
+finished_of line p q = record { tree = finished p.tree q.tree; nodes = under line (p.nodes ++ q.nodes); strays = p.strays ++ q.strays }
+
 abbrev pub finally_part : ReadsBlock → ℕ → FoundBlock → List Placed → Read FoundStatement
-finally_part blocks line p ts =
-    and_then (block_to endtry_word blocks ts) (λ q us.
-    got (record { tree = finished p.tree q.tree; nodes = under line (p.nodes ++ q.nodes); strays = p.strays ++ q.strays }) us)
+finally_part blocks line p ts = and_then (block_to endtry_word blocks ts) (λ q us. got (finished_of line p q) us)
+
+abbrev pub guarded_of : ℕ → FoundBlock → FoundArms → FoundStatement
+guarded_of line p a = record { tree = guarded p.tree a.tree; nodes = under line (p.nodes ++ a.nodes); strays = p.strays ++ a.strays }
 
 abbrev pub handlers : ℕ → ReadsExpression → ReadsBlock → ℕ → FoundBlock → List Placed → Read FoundStatement
-handlers n reads blocks line p ts =
-    past_keyword except_word ts (λ us. and_then (arms n reads blocks us) (λ a vs.
-    got (record { tree = guarded p.tree a.tree; nodes = under line (p.nodes ++ a.nodes); strays = p.strays ++ a.strays }) vs))
+handlers n reads blocks line p ts = past_keyword except_word ts (λ us. and_then (arms n reads blocks us) (λ a vs. got (guarded_of line p a) vs))
 
 abbrev pub try_statement : ℕ → ReadsExpression → ReadsBlock → ℕ → List Placed → Read FoundStatement
 try_statement n reads blocks line ts =

@@ -80,3 +80,18 @@ pub fn item_choices()
     ensures lists { ListItemsHold }
     ensures scatters { ScatterItemsHold }
 {}
+
+ghost use Rattle.spec_program.specs.StatementMoves.{BlockMovesHold, BlockEndsHold, SimpleMovesHold, HeadMovesHold, HeadEndsHold, HeadFaultsHold, BranchMovesHold, ArmMovesHold, TryMovesHold};
+
+/// So do those where statements are read, and where a statement lacks a token reading sticks there.
+pub fn statement_moves()
+    ensures blocks { BlockMovesHold }
+    ensures ends { BlockEndsHold }
+    ensures simple { SimpleMovesHold }
+    ensures heads { HeadMovesHold }
+    ensures head_ends { HeadEndsHold }
+    ensures head_faults { HeadFaultsHold }
+    ensures branches { BranchMovesHold }
+    ensures arms { ArmMovesHold }
+    ensures tries { TryMovesHold }
+{}

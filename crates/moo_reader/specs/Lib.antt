@@ -1,2 +1,4 @@
 pub mod Nodes
 pub mod Views
+pub mod Left
+pub mod Standing

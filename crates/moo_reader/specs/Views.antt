@@ -1,7 +1,10 @@
 -- What was read, without where it lies in memory.
-use Rattle.std.specs.Prelude.{Bool, true, false, List, map, reverse, Option, Some, None}
+use Rattle.std.specs.Prelude.{◌≡◌, Bool, true, false, List, map, reverse, Option, Some, None}
 use Rattle.spec_program.specs.Tree.{Expr, variable, property, index, range, Target, to_variable, to_property, to_index, to_range}
 use Rattle.spec_program.specs.ReadExpressions as by
+use Rattle.spec_program.specs.Frames as f
+use Rattle.moo_value.specs.Operators.{binary_of}
+use Rattle.moo_tree.specs.declared.expression.Argument.{Argument}
 use Rattle.moo_tree.specs.ExpressionView.{arguments_of, items_of, codes_of}
 use Rattle.moo_reader.specs.Nodes.{nodes_of}
 use Rattle.moo_reader.specs.declared.found.Found.{Found}
@@ -12,12 +15,23 @@ use Rattle.moo_reader.specs.declared.found.Operand.{Operand}
 use Rattle.moo_reader.specs.declared.found.Allowed.{Allowed}
 use Rattle.moo_reader.specs.declared.found.Items.{Items}
 use Rattle.moo_reader.specs.declared.found.FoundCodes.{FoundCodes}
+use Rattle.moo_reader.specs.declared.found.Join.{Join}
+use Rattle.moo_reader.specs.declared.found.Join.TheVariants as join
+use Rattle.moo_reader.specs.declared.node.Node.{Node}
 
 abbrev pub found_of : Found → by.Found
 found_of e = record { tree = e.tree; line = e.line; nodes = nodes_of e.nodes.items }
 
 abbrev pub arguments_found : Arguments → by.FoundArguments
 arguments_found a = record { tree = arguments_of (reverse a.reversed.items); nodes = nodes_of a.nodes.items }
+
+abbrev pub InOrder : List Argument → List Node → Arguments → Type 0
+InOrder es ns a = (arguments_of es ≡ (arguments_found a).tree) × (nodes_of ns ≡ (arguments_found a).nodes)
+
+abbrev pub join_of : Join → f.Join
+join_of (join.Operator o) = f.by_operator (binary_of o)
+join_of join.Both = f.by_both
+join_of join.Either = f.by_either
 
 abbrev pub braces_of : Braces → by.Braces
 braces_of NoScatter = by.no_braces

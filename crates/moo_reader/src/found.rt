@@ -2,6 +2,7 @@
 
 use crate::node::Node;
 use moo_tree::expression::{Argument, Codes, Expression, Item};
+use moo_value::operator::BinaryOperator;
 
 /// An expression with the line of its first token, its parentheses included.
 #[derive(Drop)]
@@ -26,7 +27,7 @@ pub enum Braces {
     SurelyScatter(Vec<Item>, Vec<Node>),
 }
 
-/// What stands before operators. A range is the last step of a target.
+/// What stands before operators: whether it may be assigned to, and whether its last step is a range.
 #[derive(Drop)]
 pub struct Operand {
     pub found: Found,
@@ -57,4 +58,12 @@ pub struct Items {
 pub struct FoundCodes {
     pub tree: Codes,
     pub nodes: Vec<Node>,
+}
+
+/// What stands between two expressions.
+#[derive(Clone, Copy, Debug, PartialEq, Eq)]
+pub enum Join {
+    Operator(BinaryOperator),
+    Both,
+    Either,
 }

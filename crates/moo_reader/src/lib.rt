@@ -1,6 +1,12 @@
 //! Reads tokens as expressions, over a stack of frames: nothing calls itself, however deep a text nests.
 #![tactic(auto)]
 
+mod after_expression;
 pub mod build;
 pub mod found;
+pub mod frame;
 pub mod node;
+pub mod reader;
+pub mod remaining;
+mod operand;
+mod signs;

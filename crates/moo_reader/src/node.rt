@@ -29,10 +29,11 @@ impl Node {
 }
 
 /// A node of this line around others.
+#[tactic(auto, using(crate::proofs::Lists::one_deeper, crate::proofs::Lists::none_left))]
 pub fn under(alloc: Global, line: u64, nodes: &[Node]) -> Result<Vec<Node>, AllocError>
     ensures { IfOk result (λ v. nodes_of v.items ≡ under line (nodes_of nodes.now)) }
 {
-    let mut around = Vec::with_capacity(alloc, 1)?;
+    let mut around = Vec::new(alloc);
     around.push(Node { depth: 1, line })?;
     for node in nodes {
         let node = node.deeper()?;
@@ -42,8 +43,9 @@ pub fn under(alloc: Global, line: u64, nodes: &[Node]) -> Result<Vec<Node>, Allo
 }
 
 /// Nodes, and others behind them.
+#[tactic(auto, using(crate::proofs::Lists::nodes_append))]
 pub fn followed(mut nodes: Vec<Node>, others: &[Node]) -> Result<Vec<Node>, AllocError>
-    ensures { IfOk result (λ v. v.items ≡ nodes.items ++ others.now) }
+    ensures { IfOk result (λ v. nodes_of v.items ≡ nodes_of nodes.items ++ nodes_of others.now) }
 {
     nodes.extend_from_slice(others)?;
     Ok(nodes)

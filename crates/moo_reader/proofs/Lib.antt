@@ -1,0 +1,5 @@
+pub mod Arms
+pub mod Lists
+pub mod Presence
+pub mod Taken
+pub mod Targets

@@ -1,0 +1,30 @@
+-- Lists of nodes.
+use Rattle.std.proofs.Common.{◌≡◌, ℕ, zero, suc, ◌+◌, ◌<◌, ◌≤◌, List, [], ◌∷◌, ◌++◌, length, map, drop, get_or, reverse, refl, sym, ap, ◌∙◌, append_assoc, add-one, arith}
+use Rattle.std.proofs.Math.Seq.{drop-cons}
+use Rattle.std.proofs.Math.ListN.{drop_of_length-le}
+use Rattle.std.proofs.lemmas.List.{map-append, append-nil, reverse-append}
+use Rattle.spec_program.specs.Reading.{deeper}
+use Rattle.moo_tree.specs.declared.expression.Argument.{Argument}
+use Rattle.moo_tree.specs.ExpressionView.{arguments_of}
+use Rattle.moo_reader.specs.declared.node.Node.{Node}
+use Rattle.moo_reader.specs.Nodes.{node_of, nodes_of}
+
+pub nodes_append : (ns ms : List Node) → nodes_of (ns ++ ms) ≡ nodes_of ns ++ nodes_of ms
+nodes_append ns ms = map-append node_of ns ms
+
+-- one node more in the node around
+pub one_deeper : (around nodes : List Node) (i : ℕ) (n m : Node) → i < length nodes → n ≡ get_or nodes i n → node_of m ≡ deeper (node_of n)
+    → nodes_of (around ++ m ∷ []) ++ map deeper (nodes_of (drop (i + 1) nodes)) ≡ nodes_of around ++ map deeper (nodes_of (drop i nodes))
+one_deeper around nodes i n m h e d =
+    let split : drop i nodes ≡ n ∷ drop (i + 1) nodes = drop-cons nodes i n h ∙ ap (λ x. x ∷ drop (suc i) nodes) (sym e) ∙ ap (λ j. n ∷ drop j nodes) (sym add-one) in
+    let rest = map deeper (nodes_of (drop (i + 1) nodes)) in
+    ap (λ x. x ++ rest) (nodes_append around (m ∷ []))
+    ∙ append_assoc (nodes_of around) (node_of m ∷ []) rest
+    ∙ ap (λ x. nodes_of around ++ (x ∷ rest)) d
+    ∙ ap (λ x. nodes_of around ++ map deeper (nodes_of x)) (sym split)
+
+pub none_left : (around nodes : List Node) (i : ℕ) → length nodes ≤ i → nodes_of around ++ map deeper (nodes_of (drop i nodes)) ≡ nodes_of around
+none_left around nodes i h = ap (λ x. nodes_of around ++ map deeper (nodes_of x)) (drop_of_length-le nodes h) ∙ append-nil (nodes_of around)
+
+pub one_before : (reversed : List Argument) (a : Argument) → arguments_of (reverse (reversed ++ a ∷ [])) ≡ arguments_of (a ∷ reverse reversed)
+one_before reversed a = ap arguments_of (reverse-append reversed (a ∷ []))

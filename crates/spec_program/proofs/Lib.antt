@@ -6,6 +6,9 @@ pub mod FurtherMovesHold
 pub mod BracedMovesHold
 pub mod ItemChoicesHold
 pub mod StatementMovesHold
+pub mod OtherMovesHold
+pub mod TextMovesHold
+pub mod KeptNodesTell
 pub mod ReadFits
 pub mod LowTrees
 pub mod ExpressionsFit

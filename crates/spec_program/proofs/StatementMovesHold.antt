@@ -118,7 +118,7 @@ unnamed_then : {X : Type 0} (g : Option Text → List Placed → Read X) (ts : L
     → begins_with_word ts ≡ false → and_then (by.perhaps_word ts) g ≡ g None ts
 unnamed_then g ts e = ap (λ r. and_then r g) (unnamed ts e)
 
-not_named : {X : Type 0} (k : Token) (l : ℕ) (g : Text → ℕ → List Placed → Read X) (rest all : List Placed)
+pub not_named : {X : Type 0} (k : Token) (l : ℕ) (g : Text → ℕ → List Placed → Read X) (rest all : List Placed)
     → is_word k ≡ false → word_or_stuck k l g rest all ≡ stuck all
 not_named (t.word x) l g rest all e = cc
 not_named _ l g rest all e = refl

@@ -15,6 +15,9 @@ pub mod FurtherMoves
 pub mod BracedMoves
 pub mod ItemChoices
 pub mod StatementMoves
+pub mod OtherMoves
+pub mod TextMoves
+pub mod KeptNodes
 pub mod Trees
 pub mod TreeRows
 pub mod TreeLaws

@@ -81,6 +81,34 @@ pub fn item_choices()
     ensures scatters { ScatterItemsHold }
 {}
 
+ghost use Rattle.spec_program.specs.OtherMoves.{OperandEndsHold, ExpressionEndsHold, ItemEndsHold, CodesEndHolds, OperandFaultsHold, StepsStopHolds, StepFaultsHold, DollarMovesHold, ValueFaultsHold, OtherListItemsHold, OtherScatterItemsHold, OptionalItemsHold, ItemFault, CatchFaultsHold};
+
+/// What a frame makes of what was found, where no token has to follow.
+pub fn ends()
+    ensures operands { OperandEndsHold }
+    ensures expressions { ExpressionEndsHold }
+    ensures items { ItemEndsHold }
+    ensures codes { CodesEndHolds }
+    ensures steps { StepsStopHolds }
+{}
+
+/// Each other token where an operand or what is behind it is read: where none fits, reading sticks just there.
+pub fn operand_faults()
+    ensures operands { OperandFaultsHold }
+    ensures steps { StepFaultsHold }
+    ensures dollars { DollarMovesHold }
+    ensures values { ValueFaultsHold }
+    ensures catches { CatchFaultsHold }
+{}
+
+/// Each other token within braces.
+pub fn item_faults()
+    ensures lists { OtherListItemsHold }
+    ensures scatters { OtherScatterItemsHold }
+    ensures optional { OptionalItemsHold }
+    ensures between { ItemFault }
+{}
+
 ghost use Rattle.spec_program.specs.StatementMoves.{BlockMovesHold, BlockEndsHold, SimpleMovesHold, HeadMovesHold, HeadEndsHold, HeadFaultsHold, BranchMovesHold, ArmMovesHold, TryMovesHold};
 
 /// So do those where statements are read, and where a statement lacks a token reading sticks there.
@@ -94,4 +122,26 @@ pub fn statement_moves()
     ensures branches { BranchMovesHold }
     ensures arms { ArmMovesHold }
     ensures tries { TryMovesHold }
+{}
+
+ghost use Rattle.spec_program.specs.TextMoves.{TextStarts, TokensStart, TextFaultsHold, TextEndsHold, LastLine};
+
+/// The tree of a text, or its first fault, is what the start of the frames means: first a token that does not fit, then a tree that is too
+/// deep, then a `break` or `continue` that no loop takes, each with its line.
+pub fn whole_texts()
+    ensures starts { TextStarts }
+    ensures tokens { TokensStart }
+    ensures faults { TextFaultsHold }
+    ensures ends { TextEndsHold }
+    ensures last { LastLine }
+{}
+
+ghost use Rattle.spec_program.specs.KeptNodes.{KeptTellsDepth, KeptUnder, KeptBehind, KeptFew};
+
+/// A reader need not keep all nodes of a tree: few of them tell where it is too deep, and are made of those of its parts.
+pub fn kept_nodes()
+    ensures depth { KeptTellsDepth }
+    ensures around { KeptUnder }
+    ensures behind { KeptBehind }
+    ensures few { KeptFew }
 {}

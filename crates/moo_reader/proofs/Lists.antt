@@ -1,9 +1,10 @@
 -- Lists of nodes.
-use Rattle.std.proofs.Common.{◌≡◌, ℕ, zero, suc, ◌+◌, ◌<◌, ◌≤◌, List, [], ◌∷◌, ◌++◌, length, map, drop, get_or, reverse, refl, sym, ap, ◌∙◌, append_assoc, add-one, arith}
+use Rattle.std.proofs.Common.{◌≡◌, true, false, if◌then◌else◌, ℕ, zero, suc, ◌+◌, ◌<◌, ◌≤◌, List, [], ◌∷◌, ◌++◌, length, map, drop, get_or, reverse, refl, sym, ap, ◌∙◌, append_assoc, add-one, arith}
 use Rattle.std.proofs.Math.Seq.{drop-cons}
 use Rattle.std.proofs.Math.ListN.{drop_of_length-le}
 use Rattle.std.proofs.lemmas.List.{map-append, append-nil, reverse-append}
 use Rattle.spec_program.specs.Reading.{deeper}
+use Rattle.spec_program.specs.KeptNodes.{matters, kept_behind}
 use Rattle.moo_tree.specs.declared.expression.Argument.{Argument}
 use Rattle.moo_tree.specs.ExpressionView.{arguments_of}
 use Rattle.moo_reader.specs.declared.node.Node.{Node}
@@ -28,3 +29,27 @@ none_left around nodes i h = ap (λ x. nodes_of around ++ map deeper (nodes_of x
 
 pub one_before : (reversed : List Argument) (a : Argument) → arguments_of (reverse (reversed ++ a ∷ [])) ≡ arguments_of (a ∷ reverse reversed)
 one_before reversed a = ap arguments_of (reverse-append reversed (a ∷ []))
+
+-- ---- which nodes are kept
+
+first_left : (nodes : List Node) (i : ℕ) (n : Node) → i < length nodes → n ≡ get_or nodes i n → drop i nodes ≡ n ∷ drop (i + 1) nodes
+first_left nodes i n h e = drop-cons nodes i n h ∙ ap (λ x. x ∷ drop (suc i) nodes) (sym e) ∙ ap (λ j. n ∷ drop j nodes) (sym add-one)
+
+pub one_kept : (few nodes : List Node) (i d : ℕ) (n : Node) → i < length nodes → n ≡ get_or nodes i n → true ≡ matters d (node_of n)
+    → nodes_of (few ++ n ∷ []) ++ kept_behind n.depth (nodes_of (drop (i + 1) nodes)) ≡ nodes_of few ++ kept_behind d (nodes_of (drop i nodes))
+one_kept few nodes i d n h e m =
+    let rest = nodes_of (drop (i + 1) nodes) in
+    ap (λ x. x ++ kept_behind n.depth rest) (nodes_append few (n ∷ []))
+    ∙ append_assoc (nodes_of few) (node_of n ∷ []) (kept_behind n.depth rest)
+    ∙ ap (λ c. nodes_of few ++ (if c then node_of n ∷ kept_behind n.depth rest else kept_behind d rest)) m
+    ∙ ap (λ x. nodes_of few ++ kept_behind d (nodes_of x)) (sym (first_left nodes i n h e))
+
+pub one_left_out : (few nodes : List Node) (i d : ℕ) (n : Node) → i < length nodes → n ≡ get_or nodes i n → false ≡ matters d (node_of n)
+    → nodes_of few ++ kept_behind d (nodes_of (drop (i + 1) nodes)) ≡ nodes_of few ++ kept_behind d (nodes_of (drop i nodes))
+one_left_out few nodes i d n h e m =
+    let rest = nodes_of (drop (i + 1) nodes) in
+    ap (λ c. nodes_of few ++ (if c then node_of n ∷ kept_behind n.depth rest else kept_behind d rest)) m
+    ∙ ap (λ x. nodes_of few ++ kept_behind d (nodes_of x)) (sym (first_left nodes i n h e))
+
+pub none_kept : (few nodes : List Node) (i d : ℕ) → length nodes ≤ i → nodes_of few ++ kept_behind d (nodes_of (drop i nodes)) ≡ nodes_of few
+none_kept few nodes i d h = ap (λ x. nodes_of few ++ kept_behind d (nodes_of x)) (drop_of_length-le nodes h) ∙ append-nil (nodes_of few)

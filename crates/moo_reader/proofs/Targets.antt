@@ -26,16 +26,16 @@ range_step false false a i j = refl
 range_step false true a i j = refl
 
 pub indexed : (x a i : by.Found) (b r : Bool) (bs : by.Braces) → x ≡ by.found_at a.line (index a.tree i.tree) (a.nodes ++ i.nodes)
-    → record by.whole x { target = target_if (b && not r) x.tree } ≡ by.index_of (record { found = a; target = target_if b a.tree; ranged = r; braces = bs }) i
+    → record (by.whole x) { target = target_if (b && not r) x.tree } ≡ by.index_of (record { found = a; target = target_if b a.tree; ranged = r; braces = bs }) i
 indexed x a i b r bs h =
-    ap (λ y. record by.whole y { target = target_if (b && not r) y.tree }) h
-    ∙ ap (λ t. record by.whole (by.found_at a.line (index a.tree i.tree) (a.nodes ++ i.nodes)) { target = t }) (index_step b r a.tree i.tree)
+    ap (λ y. record (by.whole y) { target = target_if (b && not r) y.tree }) h
+    ∙ ap (λ t. record (by.whole (by.found_at a.line (index a.tree i.tree) (a.nodes ++ i.nodes))) { target = t }) (index_step b r a.tree i.tree)
 
 pub ranged : (x a i j : by.Found) (b r : Bool) (bs : by.Braces) → x ≡ by.found_at a.line (range a.tree i.tree j.tree) (a.nodes ++ (i.nodes ++ j.nodes))
-    → record by.whole x { target = target_if (b && not r) x.tree; ranged = true } ≡ by.range_of (record { found = a; target = target_if b a.tree; ranged = r; braces = bs }) i j
+    → record (by.whole x) { target = target_if (b && not r) x.tree; ranged = true } ≡ by.range_of (record { found = a; target = target_if b a.tree; ranged = r; braces = bs }) i j
 ranged x a i j b r bs h =
-    ap (λ y. record by.whole y { target = target_if (b && not r) y.tree; ranged = true }) h
-    ∙ ap (λ t. record by.whole (by.found_at a.line (range a.tree i.tree j.tree) (a.nodes ++ (i.nodes ++ j.nodes))) { target = t; ranged = true }) (range_step b r a.tree i.tree j.tree)
+    ap (λ y. record (by.whole y) { target = target_if (b && not r) y.tree; ranged = true }) h
+    ∙ ap (λ t. record (by.whole (by.found_at a.line (range a.tree i.tree j.tree) (a.nodes ++ (i.nodes ++ j.nodes)))) { target = t; ranged = true }) (range_step b r a.tree i.tree j.tree)
 
-pub property_found : (x o p : by.Found) → x ≡ (by.property_of o p).found → record by.whole x { target = target_if true x.tree } ≡ by.property_of o p
-property_found x o p h = ap (λ y. record by.whole y { target = target_if true y.tree }) h
+pub property_found : (x o p : by.Found) → x ≡ (by.property_of o p).found → record (by.whole x) { target = target_if true x.tree } ≡ by.property_of o p
+property_found x o p h = ap (λ y. record (by.whole y) { target = target_if true y.tree }) h

@@ -33,10 +33,17 @@ item_of (i.Other spliced e) = f.other spliced (found_of e)
 abbrev pub assigned_part : ℕ → List Node → by.Found
 assigned_part line ns = record { tree = own_length; line = line; nodes = ns }
 
+-- where there are no more frames: a statement that is an expression
+abbrev pub last_expression : Frames an_expression
+last_expression = push (f.evaluated 0) (push f.block_behind whole_text)
+
+abbrev pub last_operand : Frames an_operand
+last_operand = push (f.value_behind false 0) last_expression
+
 -- The frames behind what is read next. One that takes another kind of thing is passed over.
 abbrev mutual
   pub of_expression : List Frame → Frames an_expression
-  of_expression [] = push (f.evaluated 0) (push f.block_behind whole_text)
+  of_expression [] = last_expression
   of_expression (c.InParentheses line ∷ fs) = push (f.in_parentheses line) (of_expression fs)
   of_expression (c.AsOperand ∷ fs) = push f.as_operand (of_operand fs)
   of_expression (c.BehindSign u line ∷ fs) = push (f.behind_sign (unary_of u) line) (of_operand fs)
@@ -57,13 +64,13 @@ abbrev mutual
   of_expression (_ ∷ fs) = of_expression fs
 
   pub of_operand : List Frame → Frames an_operand
-  of_operand [] = push (f.value_behind false 0) (of_expression [])
+  of_operand [] = last_operand
   of_operand (c.StepsBehind b ∷ fs) = push (f.steps_behind b) (of_operand fs)
   of_operand (c.ValueBehind b k ∷ fs) = push (f.value_behind b k) (of_expression fs)
   of_operand (_ ∷ fs) = of_operand fs
 
   pub of_arguments : List Frame → Frames some_arguments_read
-  of_arguments [] = push (f.call_of [] 0) (of_operand [])
+  of_arguments [] = push (f.call_of [] 0) last_operand
   of_arguments (c.ArgumentBefore spliced e ∷ fs) = push (f.argument_before spliced (found_of e)) (of_arguments fs)
   of_arguments (c.ToParenthesis ∷ fs) = push (f.to_sign t.close_parenthesis) (of_arguments fs)
   of_arguments (c.CallOf x line ∷ fs) = push (f.call_of x line) (of_operand fs)
@@ -72,13 +79,13 @@ abbrev mutual
   of_arguments (_ ∷ fs) = of_arguments fs
 
   pub of_items : List Frame → Frames some_items_read
-  of_items [] = push (f.in_braces 0) (of_operand [])
+  of_items [] = push (f.in_braces 0) last_operand
   of_items (c.ItemBefore x ∷ fs) = push (f.item_before (item_of x)) (of_items fs)
   of_items (c.InBraces line ∷ fs) = push (f.in_braces line) (of_operand fs)
   of_items (_ ∷ fs) = of_items fs
 
   pub of_codes : List Frame → Frames some_codes_read
-  of_codes [] = push (f.caught_codes false 0 (assigned_part 0 [])) (of_operand [])
+  of_codes [] = push (f.caught_codes false 0 (assigned_part 0 [])) last_operand
   of_codes (c.CaughtCodes b line e ∷ fs) = push (f.caught_codes b line (found_of e)) (of_operand fs)
   of_codes (_ ∷ fs) = of_codes fs
 

@@ -75,7 +75,11 @@ fn parts_of(alloc: Global, one: Found, other: Found) -> Result<Two, AllocError>
     ensures nodes { IfOk result (λ p. nodes_of p.nodes.items ≡ nodes_of one.nodes.items ++ nodes_of other.nodes.items) }
 {
     let Found { tree, line, nodes } = one;
-    let Found { tree: behind, nodes: others, .. } = other;
+    let Found {
+        tree: behind,
+        nodes: others,
+        ..
+    } = other;
     let nodes = followed(nodes, &others)?;
     let first = Box::new(alloc, tree)?;
     let second = Box::new(alloc, behind)?;
@@ -120,23 +124,48 @@ fn join_node(join: Join, left: Box<Expression>, right: Box<Expression>) -> Expre
 pub fn joined(alloc: Global, join: Join, left: Found, right: Found) -> Result<Found, AllocError>
     ensures { IfOk result (λ e. found_of e ≡ by.found_at left.line (joins (join_of join) left.tree right.tree) (nodes_of left.nodes.items ++ nodes_of right.nodes.items)) }
 {
-    let Two { first, second, line, nodes } = parts_of(alloc, left, right)?;
+    let Two {
+        first,
+        second,
+        line,
+        nodes,
+    } = parts_of(alloc, left, right)?;
     found_at(alloc, line, join_node(join, first, second), &nodes)
 }
 
 /// A condition and the two values.
-pub fn conditional(alloc: Global, condition: Found, one: Found, other: Found) -> Result<Found, AllocError>
+pub fn conditional(
+    alloc: Global,
+    condition: Found,
+    one: Found,
+    other: Found,
+) -> Result<Found, AllocError>
     ensures { IfOk result (λ e. found_of e ≡ by.found_at condition.line (tree.conditional condition.tree one.tree other.tree) (nodes_of condition.nodes.items ++ (nodes_of one.nodes.items ++ nodes_of other.nodes.items))) }
 {
-    let Two { first, second, nodes: others, .. } = parts_of(alloc, one, other)?;
+    let Two {
+        first,
+        second,
+        nodes: others,
+        ..
+    } = parts_of(alloc, one, other)?;
     let Before { tree, line, nodes } = put_before(alloc, condition, &others)?;
-    found_at(alloc, line, ExpressionNode::Conditional(tree, first, second), &nodes)
+    found_at(
+        alloc,
+        line,
+        ExpressionNode::Conditional(tree, first, second),
+        &nodes,
+    )
 }
 
 fn property(alloc: Global, object: Found, name: Found) -> Result<Found, AllocError>
     ensures { IfOk result (λ e. found_of e ≡ (by.property_of (found_of object) (found_of name)).found) }
 {
-    let Two { first, second, line, nodes } = parts_of(alloc, object, name)?;
+    let Two {
+        first,
+        second,
+        line,
+        nodes,
+    } = parts_of(alloc, object, name)?;
     found_at(alloc, line, ExpressionNode::Property(first, second), &nodes)
 }
 
@@ -156,7 +185,12 @@ pub fn property_of(alloc: Global, object: Found, name: Found) -> Result<Operand,
 fn item(alloc: Global, list: Found, index: Found) -> Result<Found, AllocError>
     ensures { IfOk result (λ e. found_of e ≡ by.found_at list.line (tree.index list.tree index.tree) (nodes_of list.nodes.items ++ nodes_of index.nodes.items)) }
 {
-    let Two { first, second, line, nodes } = parts_of(alloc, list, index)?;
+    let Two {
+        first,
+        second,
+        line,
+        nodes,
+    } = parts_of(alloc, list, index)?;
     found_at(alloc, line, ExpressionNode::Index(first, second), &nodes)
 }
 
@@ -164,7 +198,12 @@ fn item(alloc: Global, list: Found, index: Found) -> Result<Found, AllocError>
 pub fn index_of(alloc: Global, operand: Operand, index: Found) -> Result<Operand, AllocError>
     ensures { IfOk result (λ o. operand_of o ≡ by.index_of (operand_of operand) (found_of index)) }
 {
-    let Operand { found, is_target, ranged, .. } = operand;
+    let Operand {
+        found,
+        is_target,
+        ranged,
+        ..
+    } = operand;
     let found = item(alloc, found, index)?;
     Ok(Operand {
         found,
@@ -177,16 +216,36 @@ pub fn index_of(alloc: Global, operand: Operand, index: Found) -> Result<Operand
 fn range(alloc: Global, list: Found, first: Found, last: Found) -> Result<Found, AllocError>
     ensures { IfOk result (λ e. found_of e ≡ by.found_at list.line (tree.range list.tree first.tree last.tree) (nodes_of list.nodes.items ++ (nodes_of first.nodes.items ++ nodes_of last.nodes.items))) }
 {
-    let Two { first, second, nodes: others, .. } = parts_of(alloc, first, last)?;
+    let Two {
+        first,
+        second,
+        nodes: others,
+        ..
+    } = parts_of(alloc, first, last)?;
     let Before { tree, line, nodes } = put_before(alloc, list, &others)?;
-    found_at(alloc, line, ExpressionNode::Range(tree, first, second), &nodes)
+    found_at(
+        alloc,
+        line,
+        ExpressionNode::Range(tree, first, second),
+        &nodes,
+    )
 }
 
 /// A part, by its first and last index.
-pub fn range_of(alloc: Global, operand: Operand, first: Found, last: Found) -> Result<Operand, AllocError>
+pub fn range_of(
+    alloc: Global,
+    operand: Operand,
+    first: Found,
+    last: Found,
+) -> Result<Operand, AllocError>
     ensures { IfOk result (λ o. operand_of o ≡ by.range_of (operand_of operand) (found_of first) (found_of last)) }
 {
-    let Operand { found, is_target, ranged, .. } = operand;
+    let Operand {
+        found,
+        is_target,
+        ranged,
+        ..
+    } = operand;
     let found = range(alloc, found, first, last)?;
     Ok(Operand {
         found,
@@ -208,11 +267,18 @@ pub fn no_arguments(alloc: Global) -> Arguments
 
 /// Arguments with one before them.
 #[tactic(auto, using(crate::proofs::Lists::one_before))]
-pub fn with_argument(spliced: bool, found: Found, arguments: Arguments) -> Result<Arguments, AllocError>
+pub fn with_argument(
+    spliced: bool,
+    found: Found,
+    arguments: Arguments,
+) -> Result<Arguments, AllocError>
     ensures { IfOk result (λ es. arguments_found es ≡ by.with_argument spliced (found_of found) (arguments_found arguments)) }
 {
     let Found { tree, nodes, .. } = found;
-    let Arguments { mut reversed, nodes: others } = arguments;
+    let Arguments {
+        mut reversed,
+        nodes: others,
+    } = arguments;
     let nodes = followed(nodes, &others)?;
     if spliced {
         reversed.push(Argument::Splice(tree))?;
@@ -226,7 +292,10 @@ pub fn with_argument(spliced: bool, found: Found, arguments: Arguments) -> Resul
 pub fn in_order(arguments: Arguments) -> (Vec<Argument>, Vec<Node>)
     ensures { InOrder result.0.items result.1.items arguments }
 {
-    let Arguments { mut reversed, nodes } = arguments;
+    let Arguments {
+        mut reversed,
+        nodes,
+    } = arguments;
     reversed.reverse();
     (reversed, nodes)
 }
@@ -248,30 +317,73 @@ pub fn listing(alloc: Global, line: u64, arguments: Arguments) -> Result<Found, 
 }
 
 /// A call of a verb.
-pub fn verb_call(alloc: Global, object: Found, name: Found, arguments: Arguments) -> Result<Found, AllocError>
+pub fn verb_call(
+    alloc: Global,
+    object: Found,
+    name: Found,
+    arguments: Arguments,
+) -> Result<Found, AllocError>
     ensures { IfOk result (λ e. found_of e ≡ by.found_at object.line (tree.verb_call object.tree name.tree (arguments_found arguments).tree) (nodes_of object.nodes.items ++ (nodes_of name.nodes.items ++ (arguments_found arguments).nodes))) }
 {
     let (arguments, of_arguments) = in_order(arguments);
-    let Before { tree: second, nodes: others, .. } = put_before(alloc, name, &of_arguments)?;
-    let Before { tree: first, line, nodes } = put_before(alloc, object, &others)?;
-    found_at(alloc, line, ExpressionNode::VerbCall(first, second, arguments), &nodes)
+    let Before {
+        tree: second,
+        nodes: others,
+        ..
+    } = put_before(alloc, name, &of_arguments)?;
+    let Before {
+        tree: first,
+        line,
+        nodes,
+    } = put_before(alloc, object, &others)?;
+    found_at(
+        alloc,
+        line,
+        ExpressionNode::VerbCall(first, second, arguments),
+        &nodes,
+    )
 }
 
 /// An assignment to a target of this line and these nodes.
-pub fn assignment(alloc: Global, target: Target, line: u64, nodes: Vec<Node>, value: Found) -> Result<Found, AllocError>
+pub fn assignment(
+    alloc: Global,
+    target: Target,
+    line: u64,
+    nodes: Vec<Node>,
+    value: Found,
+) -> Result<Found, AllocError>
     ensures { IfOk result (λ e. found_of e ≡ by.found_at line (tree.assignment target value.tree) (nodes_of nodes.items ++ nodes_of value.nodes.items)) }
 {
-    let Found { tree, nodes: others, .. } = value;
+    let Found {
+        tree,
+        nodes: others,
+        ..
+    } = value;
     let nodes = followed(nodes, &others)?;
     let tree = Box::new(alloc, tree)?;
-    found_at(alloc, line, ExpressionNode::Assignment(target, tree), &nodes)
+    found_at(
+        alloc,
+        line,
+        ExpressionNode::Assignment(target, tree),
+        &nodes,
+    )
 }
 
 /// An assignment of a list's items.
-pub fn scatter(alloc: Global, items: Vec<Item>, line: u64, nodes: Vec<Node>, value: Found) -> Result<Found, AllocError>
+pub fn scatter(
+    alloc: Global,
+    items: Vec<Item>,
+    line: u64,
+    nodes: Vec<Node>,
+    value: Found,
+) -> Result<Found, AllocError>
     ensures { IfOk result (λ e. found_of e ≡ by.found_at line (tree.scatter (items_of items.items) value.tree) (nodes_of nodes.items ++ nodes_of value.nodes.items)) }
 {
-    let Found { tree, nodes: others, .. } = value;
+    let Found {
+        tree,
+        nodes: others,
+        ..
+    } = value;
     let nodes = followed(nodes, &others)?;
     let tree = Box::new(alloc, tree)?;
     found_at(alloc, line, ExpressionNode::Scatter(items, tree), &nodes)
@@ -280,32 +392,69 @@ pub fn scatter(alloc: Global, items: Vec<Item>, line: u64, nodes: Vec<Node>, val
 fn catch(alloc: Global, line: u64, found: Found, codes: FoundCodes) -> Result<Found, AllocError>
     ensures { IfOk result (λ e. found_of e ≡ (by.caught_with line (found_of found) (codes_found codes) tree.the_code []).found) }
 {
-    let FoundCodes { tree: codes, nodes: of_codes } = codes;
+    let FoundCodes {
+        tree: codes,
+        nodes: of_codes,
+    } = codes;
     let Before { tree, nodes, .. } = put_before(alloc, found, &of_codes)?;
-    found_at(alloc, line, ExpressionNode::Catch(tree, codes, Fallback::TheCode), &nodes)
+    found_at(
+        alloc,
+        line,
+        ExpressionNode::Catch(tree, codes, Fallback::TheCode),
+        &nodes,
+    )
 }
 
 /// An expression whose errors of these codes are caught: the code itself stands in its place.
-pub fn caught(alloc: Global, line: u64, found: Found, codes: FoundCodes) -> Result<Operand, AllocError>
+pub fn caught(
+    alloc: Global,
+    line: u64,
+    found: Found,
+    codes: FoundCodes,
+) -> Result<Operand, AllocError>
     ensures { IfOk result (λ o. operand_of o ≡ by.caught_with line (found_of found) (codes_found codes) tree.the_code []) }
 {
     let found = catch(alloc, line, found, codes)?;
     Ok(whole(found))
 }
 
-fn catch_instead(alloc: Global, line: u64, found: Found, codes: FoundCodes, value: Found) -> Result<Found, AllocError>
+fn catch_instead(
+    alloc: Global,
+    line: u64,
+    found: Found,
+    codes: FoundCodes,
+    value: Found,
+) -> Result<Found, AllocError>
     ensures { IfOk result (λ e. found_of e ≡ (by.caught_with line (found_of found) (codes_found codes) (tree.instead value.tree) (nodes_of value.nodes.items)).found) }
 {
-    let FoundCodes { tree: codes, nodes: of_codes } = codes;
-    let Found { tree: other, nodes: of_value, .. } = value;
+    let FoundCodes {
+        tree: codes,
+        nodes: of_codes,
+    } = codes;
+    let Found {
+        tree: other,
+        nodes: of_value,
+        ..
+    } = value;
     let others = followed(of_codes, &of_value)?;
     let other = Box::new(alloc, other)?;
     let Before { tree, nodes, .. } = put_before(alloc, found, &others)?;
-    found_at(alloc, line, ExpressionNode::Catch(tree, codes, Fallback::Instead(other)), &nodes)
+    found_at(
+        alloc,
+        line,
+        ExpressionNode::Catch(tree, codes, Fallback::Instead(other)),
+        &nodes,
+    )
 }
 
 /// An expression whose errors of these codes are caught, and the value that stands in its place.
-pub fn caught_instead(alloc: Global, line: u64, found: Found, codes: FoundCodes, value: Found) -> Result<Operand, AllocError>
+pub fn caught_instead(
+    alloc: Global,
+    line: u64,
+    found: Found,
+    codes: FoundCodes,
+    value: Found,
+) -> Result<Operand, AllocError>
     ensures { IfOk result (λ o. operand_of o ≡ by.caught_with line (found_of found) (codes_found codes) (tree.instead value.tree) (nodes_of value.nodes.items)) }
 {
     let found = catch_instead(alloc, line, found, codes, value)?;

@@ -6,7 +6,7 @@ pub mod build;
 pub mod found;
 pub mod frame;
 pub mod node;
+mod operand;
 pub mod reader;
 pub mod remaining;
-mod operand;
 mod signs;

@@ -2,6 +2,7 @@
 
 ghost use Rattle.std.specs.Prelude.{◌≡◌, ◌++◌, IfOk};
 ghost use Rattle.spec_program.specs.Reading.{under, deeper};
+ghost use Rattle.spec_program.specs.KeptNodes as spec;
 ghost use Rattle.moo_reader.specs.Nodes.{node_of, nodes_of};
 
 use std::alloc::{AllocError, Global};
@@ -49,4 +50,27 @@ pub fn followed(mut nodes: Vec<Node>, others: &[Node]) -> Result<Vec<Node>, Allo
 {
     nodes.extend_from_slice(others)?;
     Ok(nodes)
+}
+
+// Whether a node matters behind others, of which the deepest is at this depth.
+fn matters(deepest: u64, node: Node) -> bool
+    ensures { result ≡ spec.matters deepest (node_of node) }
+{
+    deepest < node.depth && !(100 < deepest)
+}
+
+/// The nodes that tell where a tree is too deep, whatever is around it.
+#[tactic(auto, using(crate::proofs::Lists::one_kept, crate::proofs::Lists::one_left_out, crate::proofs::Lists::none_kept))]
+pub fn kept(alloc: Global, nodes: &[Node]) -> Result<Vec<Node>, AllocError>
+    ensures { IfOk result (λ v. nodes_of v.items ≡ spec.kept (nodes_of nodes.now)) }
+{
+    let mut few = Vec::new(alloc);
+    let mut deepest = 0;
+    for node in nodes {
+        if matters(deepest, *node) {
+            few.push(*node)?;
+            deepest = node.depth;
+        }
+    }
+    Ok(few)
 }

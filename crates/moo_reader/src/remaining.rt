@@ -7,8 +7,7 @@ ghost use Rattle.moo_token.specs.Views.{places};
 
 use crate::signs::is_sign;
 use moo_token::fault::TokenFault;
-use moo_token::token::{Keyword, Placed, Sign, Token};
-use std::alloc::{AllocError, Global};
+use moo_token::token::{Placed, Sign};
 use std::collections::VecDeque;
 
 /// The tokens of a text from a place on, and the fault behind the last one, if there is one.

@@ -15,3 +15,6 @@ pub mod ExpressionsFit
 pub mod StatementsFit
 pub mod TokensFit
 pub mod ParsedFits
+pub mod SimilarParts
+pub mod SimilarReaders
+pub mod Interchanged

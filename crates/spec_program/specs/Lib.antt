@@ -18,6 +18,7 @@ pub mod StatementMoves
 pub mod OtherMoves
 pub mod TextMoves
 pub mod KeptNodes
+pub mod Similar
 pub mod Trees
 pub mod TreeRows
 pub mod TreeLaws

@@ -145,3 +145,11 @@ pub fn kept_nodes()
     ensures behind { KeptBehind }
     ensures few { KeptFew }
 {}
+
+ghost use Rattle.spec_program.specs.Similar.{Interchange};
+
+/// What was read may be put in the place of something similar, under any frames: a tree that is too deep need not be kept, nor more of its
+/// nodes than tell where it is.
+pub fn interchange()
+    ensures { Interchange }
+{}

@@ -1,0 +1,4 @@
+pub mod TracedCode
+pub mod Meant
+pub mod Shown
+pub mod Turns

@@ -1,0 +1,13 @@
+//! The machine that runs the code of programs: what each instruction does to the verb that runs, to those that wait for it, and to the world.
+#![tactic(auto)]
+
+pub mod call;
+pub mod held;
+pub mod leaving;
+pub mod operands;
+pub mod lists;
+pub mod loops;
+pub mod statements;
+pub mod values;
+pub mod variables;
+pub mod verb;

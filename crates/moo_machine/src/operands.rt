@@ -1,0 +1,92 @@
+//! The operands of a verb under way.
+ghost use Rattle.std.specs.Prelude.{◌≡◌, ◌<◌, ◌≤◌, ◌+◌, ◌^◌, [], ◌∷◌, length, drop, take, reverse, OnOk, OnErr, MatchOption};
+ghost use Rattle.moo_code.specs.Machine.{lowest};
+
+use moo_value::value::Value;
+use std::alloc::{AllocError, Global};
+use std::marker::Model;
+
+/// Operands, the newest on top.
+#[derive(Drop)]
+pub struct Operands {
+    values: Vec<Value>,
+}
+
+impl Model for Operands {
+    ghost use Rattle.std.specs.Prelude.{List, reverse};
+    ghost use Rattle.std.specs.Coded.{coded_list};
+    ghost use Rattle.spec_value.specs.Datum.{Datum};
+    ghost use Rattle.spec_value.specs.DatumCode.{datum_code};
+
+    ghost Value = { List Datum };
+
+    ghost coded = { coded_list datum_code };
+
+    ghost view = { λ a. reverse a.values.items };
+}
+
+impl Operands {
+    /// No operand.
+    pub fn new(alloc: Global) -> Operands
+        ensures { result ≡ [] }
+    {
+        Operands {
+            values: Vec::new(alloc),
+        }
+    }
+
+    /// Puts a value on top.
+    pub fn push(&mut self, value: Value) -> Result<(), AllocError>
+        ensures ok { OnOk result (self.new ≡ value ∷ self.old) }
+        ensures err { OnErr result (self.new ≡ self.old) }
+    {
+        self.values.push(value)?;
+        Ok(())
+    }
+
+    /// Takes the value on top.
+    pub fn pop(&mut self) -> Option<Value>
+        ensures { MatchOption result ((self.old ≡ []) × (self.new ≡ [])) (λ x. self.old ≡ x ∷ self.new) }
+    {
+        self.values.pop()
+    }
+
+    /// How many there are.
+    pub fn len(&self) -> usize
+        ensures { result ≡ length self.now }
+    {
+        self.values.len()
+    }
+
+    /// Lets go of so many on top, or of all.
+    #[tactic(auto, using(crate::proofs::Taken::dropped))]
+    pub fn forget(&mut self, count: usize)
+        ensures { self.new ≡ drop count self.old }
+    {
+        let stay = self.values.len().saturating_sub(count);
+        self.values.truncate(stay);
+    }
+
+    /// Lets go of all but so many at the bottom.
+    pub fn keep_lowest(&mut self, count: usize)
+        ensures { self.new ≡ lowest count self.old }
+    {
+        let more = self.len().saturating_sub(count);
+        self.forget(more);
+    }
+
+    /// The values that a construct holds above so many operands, the deepest first, whatever stands above them.
+    #[tactic(auto, using(crate::proofs::Taken::held_stored))]
+    pub fn held(&self, height: usize, count: usize) -> Option<&[Value]>
+        requires { height + count < 2 ^ 64 }
+        ensures { MatchOption result (length (lowest (height + count) self.now) < count)
+            (λ held. (count ≤ length (lowest (height + count) self.now)) × (held.now ≡ reverse (take count (lowest (height + count) self.now)))) }
+    {
+        let more = self.values.len().saturating_sub(height + count);
+        let whole = self.values.len() - more;
+        if whole < count {
+            return None;
+        }
+        Some(&self.values[whole - count..whole])
+    }
+}

@@ -5,3 +5,6 @@ pub mod Operations
 pub mod Traces
 pub mod Receiving
 pub mod Turning
+pub mod Offering
+pub mod Counted
+pub mod Messages

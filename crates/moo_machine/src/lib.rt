@@ -2,11 +2,14 @@
 #![tactic(auto)]
 
 pub mod call;
+pub mod handlers;
 pub mod held;
 pub mod leaving;
-pub mod operands;
+pub mod lengths;
 pub mod lists;
 pub mod loops;
+pub mod operands;
+pub mod raising;
 pub mod statements;
 pub mod values;
 pub mod variables;

@@ -1,7 +1,6 @@
 //! Instructions of loops.
-ghost use Rattle.std.specs.Prelude.{◌≡◌, ◌<◌, ◌+◌, ◌^◌, ◌≤ℤ◌, ◌∷◌, [], ℕ, pos, length, IfOk};
+ghost use Rattle.std.specs.Prelude.{◌≡◌, ◌<◌, ◌+◌, ◌^◌, ◌≤ℤ◌, ◌∷◌, [], ℕ, pos, length, slice_get, IfOk};
 ghost use Rattle.spec_value.specs.Datum.{Text as TextOf, of_list, list as list_of};
-ghost use Rattle.spec_value.specs.Places.{item_at};
 ghost use Rattle.spec_world.specs.World.{Call as CallOf};
 ghost use Rattle.spec_moo.specs.Effects.Loops.{item_turn, list_turn, first_turn, later_turn, are_bounds};
 ghost use Rattle.moo_value.specs.Errors.{code_of};
@@ -25,9 +24,8 @@ pub struct Turn {
 }
 
 // An item of a list.
-#[tactic(auto, using(crate::proofs::Turning::item_got))]
 fn item(items: &[Value], place: usize) -> Result<Option<Value>, AllocError>
-    ensures { IfOk result (λ o. o ≡ item_at (of_list items.now) place) }
+    ensures { IfOk result (λ o. o ≡ slice_get items.now place) }
 {
     match items.get(place) {
         Some(value) => Ok(Some(value.clone()?)),
@@ -36,6 +34,7 @@ fn item(items: &[Value], place: usize) -> Result<Option<Value>, AllocError>
 }
 
 // The turn after so many over a list. No list has more items than there are integers to count them: that would be want of memory.
+#[tactic(auto, using(crate::proofs::Turning::item_got))]
 fn turn_over(items: &[Value], list: &Value, begun: i32) -> Result<Option<Turn>, AllocError>
     requires list { list.now ≡ list_of (of_list items.now) }
     requires begun { pos 0 ≤ℤ begun }
@@ -57,11 +56,7 @@ fn turn_over(items: &[Value], list: &Value, begun: i32) -> Result<Option<Turn>, 
 
 // The turn over a list after those that were begun, where they are a count.
 #[tactic(auto, using(crate::proofs::Turning::counted_turn, crate::proofs::Turning::no_turn))]
-fn next_turn(
-    items: &[Value],
-    list: &Value,
-    begun: &Value,
-) -> Result<Option<Turn>, AllocError>
+fn next_turn(items: &[Value], list: &Value, begun: &Value) -> Result<Option<Turn>, AllocError>
     requires { list.now ≡ list_of (of_list items.now) }
     ensures { IfOk result (λ t. turn_meant t ≡ list_turn (list_of (of_list items.now) ∷ begun.now ∷ [])) }
 {
@@ -150,7 +145,14 @@ impl State {
         ensures { IfOk result (λ d. (a : Around) (c : CallOf) (x : TextOf) (n : ℕ) (to : ℕ → ℕ) → Names a slot x → to n ≡ body → to 0 ≡ end
             → turn_of a c x n to (turn_meant turn) self.old ≡ shown a c d self.new) }
     {
-        let Some(Turn { value, first, second }) = turn else {
+        let Some(
+            Turn {
+                value,
+                first,
+                second,
+            },
+        ) = turn
+        else {
             self.place = end;
             return Ok(Did::Went);
         };

@@ -1,7 +1,13 @@
 //! The operands of a verb under way.
 ghost use Rattle.std.specs.Prelude.{◌≡◌, ◌<◌, ◌≤◌, ◌+◌, ◌^◌, [], ◌∷◌, length, drop, take, reverse, OnOk, OnErr, MatchOption};
+ghost use Rattle.moo_value.specs.Answers.{answer_of};
+ghost use Rattle.spec_moo.specs.Effects.Lists.{first_held, length_in};
+ghost use Rattle.moo_code.specs.Performing.{from_height};
 ghost use Rattle.moo_code.specs.Machine.{lowest};
 
+use crate::lengths::length;
+use moo_value::answer::Answer;
+use moo_value::error::MooError;
 use moo_value::value::Value;
 use std::alloc::{AllocError, Global};
 use std::marker::Model;
@@ -88,5 +94,16 @@ impl Operands {
             return None;
         }
         Some(&self.values[whole - count..whole])
+    }
+
+    /// The length of the operand with so many below it, for `$`.
+    #[tactic(auto, using(crate::proofs::Counted::operand_there, crate::proofs::Counted::no_operand_there))]
+    pub fn length_at(&self, height: usize) -> Answer
+        ensures { answer_of result ≡ length_in (first_held (from_height height self.now)) }
+    {
+        match self.values.get(height) {
+            Some(value) => length(value),
+            None => Err(MooError::TypeMismatch),
+        }
     }
 }

@@ -143,12 +143,14 @@ impl State {
         if self.operands.len() < operands {
             return Did::LacksOperand;
         }
-        if ticks > 0 {
-            if self.ticks == 0 {
-                return Did::RanOut;
-            }
-            self.ticks -= 1;
+        if ticks == 0 {
+            self.place = place;
+            return Did::Went;
         }
+        if self.ticks == 0 {
+            return Did::RanOut;
+        }
+        self.ticks -= 1;
         self.place = place;
         Did::Went
     }

@@ -85,7 +85,12 @@ impl State {
     }
 
     /// An operator between two operands.
-    pub fn binary(&mut self, alloc: Global, call: &Call, operator: BinaryOperator) -> Result<Did, AllocError>
+    pub fn binary(
+        &mut self,
+        alloc: Global,
+        call: &Call,
+        operator: BinaryOperator,
+    ) -> Result<Did, AllocError>
         requires { self.old.place + 1 < 2 ^ 64 }
         ensures { IfOk result (λ d. (a : Around) → performs_of a call.now (two_of (binary_of operator)) [] self.old ≡ shown a call.now d self.new) }
     {

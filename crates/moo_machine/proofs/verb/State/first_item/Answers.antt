@@ -4,7 +4,6 @@ use Rattle.spec_moo.specs.Effects.Loops.{list_turn, are_bounds}
 use Rattle.moo_code.specs.Machine.{place_for}
 use Rattle.moo_machine.specs.Turns.{turn_of}
 use Rattle.moo_machine.proofs.Next.{next_place}
-
 use Rattle.moo_machine.proofs.Turning.{first_turns}
 use Rattle.moo_machine.proofs.verb.State.first_item.Goals as goal
 

@@ -8,5 +8,5 @@ use Rattle.moo_machine.proofs.held.trace_value.Goals as goal
 pub returns : goal.returns
 returns c =
     let all : take c.loop-verb.verb-index c.args.verbs.now ≡ c.args.verbs.now = take_all c.loop-verb.verb-index c.args.verbs.now (omega arith) in
-    c.in_ok-value.ensures ∙ ap (λ vs. list (of_list vs)) c.loop-verb.invariant ∙ ap list (values_of_trace (take c.loop-verb.verb-index c.args.verbs.now))
+    c.in_ok-value-2.ensures ∙ ap (λ vs. list (of_list vs)) c.loop-verb.invariant ∙ ap list (values_of_trace (take c.loop-verb.verb-index c.args.verbs.now))
     ∙ ap (λ ts. list (trace_values ts)) all

@@ -1,0 +1,4 @@
+pub mod ReadRules
+pub mod WriteRules
+pub mod CallRules
+pub mod StaysSound

@@ -1,0 +1,4 @@
+pub mod BuiltIn
+pub mod Reading
+pub mod Writing
+pub mod Calling

@@ -1,5 +1,5 @@
 -- Each change keeps a board honest.
-use Rattle.std.proofs.Common.{◌≡◌, ℕ, zero, suc, ◌+◌, List, [], ◌∷◌, ◌++◌, length, take, Some, slice_get, slice_set, inl, inr, refl, sym, ap, subst, ◌∙◌, arith, length-append, length-drop}
+use Rattle.std.proofs.Common.{◌≡◌, ℕ, zero, suc, ◌+◌, List, [], ◌∷◌, ◌++◌, length, take, Option, Some, None, IfSome, slice_get, slice_set, inl, inr, refl, sym, ap, subst, ◌∙◌, arith, length-append, length-drop}
 use Rattle.std.proofs.lemmas.List.{take_all}
 use Rattle.std.proofs.lemmas.Option.{slice_get_within}
 use Rattle.spec_world.specs.World.{World}
@@ -14,7 +14,7 @@ use Rattle.speculate.specs.declared.held.Mark.TheVariants.{Kept, Rerun, Lost}
 use Rattle.speculate.specs.Right.{Guessed, IsRight, after_guess}
 use Rattle.speculate.specs.BoardState.{BoardState, FitsStep, runs, IsHonest, opened_on, with_held}
 use Rattle.speculate.specs.Progress.{Committed, Commits, with_commit, Advances, ready, rest, IsUndone, StaysPut, AdvancesInPart, AllHeld}
-use Rattle.speculate.proofs.Places.{fits_at, fits_set, fits_any, fits_empty, fits_length, ready_more, ready_all}
+use Rattle.speculate.proofs.Places.{fits_at, fits_set, fits_any, fits_empty, fits_length, ready_more, ready_all, get_set, set_back}
 use Rattle.speculate.proofs.Plays.{play_more, range_at}
 use Rattle.world.proofs.SoundKeeps.{sound_step}
 
@@ -205,3 +205,31 @@ commit_at b at s h w o m os ms hs n here s_at h_at done os_is ms_is hs_is n_is =
   committed = done;
   after = rw (os_is, ms_is, hs_is, n_is, here) refl;
 }
+
+-- ---- the next position takes a guess that was made on the world as it is, and is committed
+
+pub fresh_at : (b : BoardState) (at : ℕ) (g : Guessed) (w : Counted) (o : Outcome) (os : List Outcome) (ms : List Mark)
+    → at ≡ length b.outcomes → slice_get b.steps at ≡ Some g.step → slice_get b.held at ≡ Some Empty → g.home ≡ b.world.plain → Agrees g.home g.reads
+    → w ≡ record { plain = after_guess g b.world.plain; opened = b.world.opened } → o ≡ g.outcome
+    → os ≡ b.outcomes ++ o ∷ [] → ms ≡ b.marks ++ Kept ∷ []
+    → Commits (with_held b at (Holds g)) record { base = b.base; steps = b.steps; world = w; outcomes = os; marks = ms; held = b.held; undone = b.undone }
+fresh_at b at g w o os ms here s_at free home agrees w_is o_is os_is ms_is =
+    let now : Agrees b.world.plain g.reads = subst (λ (x : World). Agrees x g.reads) home agrees in
+    commit_at (with_held b at (Holds g)) at g.step (Holds g) w o Kept os ms b.held b.undone
+    here s_at (get_set b.held at (Holds g) Empty free) (inl (now, w_is, o_is, refl)) os_is ms_is (sym (set_back b.held at Empty (Holds g) free)) refl
+
+-- the world of an honest board is the play so far
+pub stands_at : (b : BoardState) (k : ℕ) (w : World) → IsHonest b → k ≡ length b.outcomes → w ≡ (play b.base.plain (take k b.steps)).0 → w ≡ b.world.plain
+stands_at b k w honest here is =
+    let P : ℕ → Type 0 = λ n. w ≡ (play b.base.plain (take n b.steps)).0 in
+    subst P here is ∙ ap (λ (p : World × List Outcome). p.0) honest.played
+
+pub played_at : (b : BoardState) (k : ℕ) (w : World) → IsHonest b → k ≡ length b.outcomes → w ≡ b.world.plain → w ≡ (play b.base.plain (take k b.steps)).0
+played_at b k w honest here is =
+    let P : ℕ → Type 0 = λ n. w ≡ (play b.base.plain (take n b.steps)).0 in
+    subst P (sym here) (is ∙ sym (ap (λ (p : World × List Outcome). p.0) honest.played))
+
+pub some_stands_at : (b : BoardState) (k : ℕ) (o : Option Guessed) → IsHonest b → k ≡ length b.outcomes
+    → IfSome o (λ g. g.home ≡ (play b.base.plain (take k b.steps)).0) → IfSome o (λ g. g.home ≡ b.world.plain)
+some_stands_at b k None honest here h = tt
+some_stands_at b k (Some g) honest here h = stands_at b k g.home honest here h

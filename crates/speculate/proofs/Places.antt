@@ -85,6 +85,11 @@ held_all (h ∷ hs) (suc k) full = held_all hs k (λ i a b e. full (suc i) (omeg
 
 -- ---- one place
 
+pub get_set : (hs : List Held) (k : ℕ) (h e : Held) → slice_get hs k ≡ Some e → slice_get (slice_set hs k h) k ≡ Some h
+get_set [] k h e is = cc
+get_set (y ∷ hs) zero h e is = refl
+get_set (y ∷ hs) (suc k) h e is = get_set hs k h e is
+
 pub set_not_empty : (hs : List Held) (k : ℕ) → slice_get (slice_set hs k Loss) k ≡ Some Empty → ⊥
 set_not_empty [] k is = cc
 set_not_empty (h ∷ hs) zero is = cc

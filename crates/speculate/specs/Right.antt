@@ -2,15 +2,17 @@
 use Rattle.std.specs.Prelude.{◌≡◌, List, refl}
 use Rattle.std.specs.Coded.{Coded, code_by, coded×, coded_list}
 use Rattle.spec_world.specs.World.{World}
+use Rattle.spec_world.specs.WorldCode.{world_code}
 use Rattle.spec_world.specs.Questions.{Read, Change, Agrees, apply_all}
 use Rattle.spec_task.specs.Step.{Step, Outcome, play1}
 use Rattle.spec_task.specs.StepCode.{step_code, outcome_code}
 use Rattle.footprint.specs.QuestionCode.{read_code, change_code}
 use Rattle.world.specs.Sound.{IsSound}
 
--- a step, what it read, what it is to change, and its outcome
+-- a step, the world that it was guessed on, what it read, what it is to change, and its outcome
 pub record Guessed : Type 0 where
   pub step : Step
+  pub home : World
   pub reads : List Read
   pub changes : List Change
   pub outcome : Outcome
@@ -25,5 +27,7 @@ IsRight g = (w : World) → IsSound w → Agrees w g.reads → play1 w g.step �
 
 abbrev pub guessed_code : Coded Guessed
 guessed_code =
-    code_by (Step × (List Read × (List Change × Outcome))) (coded× step_code (coded× (coded_list read_code) (coded× (coded_list change_code) outcome_code)))
-    (λ g. (g.step, (g.reads, (g.changes, g.outcome)))) (λ p. record { step = p.0; reads = p.1.0; changes = p.1.1.0; outcome = p.1.1.1 }) (λ _. refl)
+    code_by (Step × (World × (List Read × (List Change × Outcome))))
+    (coded× step_code (coded× world_code (coded× (coded_list read_code) (coded× (coded_list change_code) outcome_code))))
+    (λ g. (g.step, (g.home, (g.reads, (g.changes, g.outcome)))))
+    (λ p. record { step = p.0; home = p.1.0; reads = p.1.1.0; changes = p.1.1.1.0; outcome = p.1.1.1.1 }) (λ _. refl)

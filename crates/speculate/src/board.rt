@@ -1,6 +1,6 @@
 //! The board of a list: one world, and what each position that is not committed yet holds.
-ghost use Rattle.std.specs.Prelude.{◌≡◌, ◌≤◌, ◌<◌, ◌↔◌, ◌⊎◌, ◌≢◌, [], true, false, IsTrue, IsErrOf, IfOk, IfErr, OnOk, OnErr, length, replicate, Some, slice_get};
-ghost use Rattle.spec_task.specs.Step.{RunsOn, AllInRange};
+ghost use Rattle.std.specs.Prelude.{◌≡◌, ◌≤◌, ◌<◌, ◌↔◌, ◌⊎◌, ◌≢◌, [], true, false, IsTrue, IsErrOf, IfOk, IfErr, IfSome, IfNone, OnOk, OnErr, length, replicate, take, Some, slice_get};
+ghost use Rattle.spec_task.specs.Step.{RunsOn, AllInRange, play};
 ghost use Rattle.speculate.specs.BoardState.{IsHonest, IsFree, opened_on, with_held};
 ghost use Rattle.speculate.specs.Progress.{Commits, Advances, AdvancesInPart, IsNextHeld, StaysPut, SameRun, ready, rest, AllHeld};
 
@@ -103,6 +103,14 @@ impl Board {
         ensures { IfOk result (λ s. s ≡ self.now.world.plain) }
     {
         self.world.snapshot()
+    }
+
+    /// How many steps are committed, and the world after them.
+    pub(crate) fn counted_snapshot(&self) -> Result<(usize, Snapshot), AllocError>
+        ensures { IfOk result (λ r. r.1 ≡ (play self.now.base.plain (take r.0 self.now.steps)).0) }
+    {
+        let count = self.count();
+        Ok((count, self.snapshot()?))
     }
 
     /// How many steps are committed.
@@ -261,6 +269,69 @@ impl Board {
         if !posted {
             let _ = self.lose(position);
         }
+    }
+
+    // Commits the next position by a guess that was made on the world as it is, or hands the guess back.
+    fn commit_fresh(&mut self, guess: Guess) -> Option<Guess>
+        requires { guess.home ≡ self.old.world.plain }
+        ensures same { (self.new.base ≡ self.old.base) × (self.new.steps ≡ self.old.steps) }
+        ensures none { IfNone result (Commits (with_held self.old (length self.old.outcomes) (Held.Holds guess)) self.new) }
+        ensures some { IfSome result (λ _. self.new ≡ self.old) }
+    {
+        let at = self.outcomes.len();
+        if !self.is_free(at) {
+            return Some(guess);
+        }
+        if !self.is_for(at, &guess) {
+            return Some(guess);
+        }
+        if self.outcomes.reserve(1).is_err() {
+            return Some(guess);
+        }
+        if self.marks.reserve(1).is_err() {
+            return Some(guess);
+        }
+        guess.know();
+        let outcome = guess.replace(&mut self.world);
+        self.outcomes.push_reserved(outcome);
+        self.marks.push_reserved(Mark::Kept);
+        None
+    }
+
+    /// Hands in a guess that was made on the world after the first `from` steps.
+    pub(crate) fn hand_in_from(
+        &mut self,
+        alloc: Global,
+        position: usize,
+        guess: Option<Guess>,
+        from: usize,
+    )
+        requires { IfSome guess (λ g. g.home ≡ (play self.old.base.plain (take from self.old.steps)).0) }
+        ensures { (self.new.base ≡ self.old.base) × (self.new.steps ≡ self.old.steps) }
+    {
+        if from == self.count() {
+            self.hand_in_fresh(alloc, position, guess);
+        } else {
+            self.hand_in(alloc, position, guess);
+        }
+    }
+
+    /// Hands in a guess that was made on the world as it is. Where its turn has come nothing is compared, and it is committed without memory.
+    pub(crate) fn hand_in_fresh(&mut self, alloc: Global, position: usize, guess: Option<Guess>)
+        requires { IfSome guess (λ g. g.home ≡ self.old.world.plain) }
+        ensures { (self.new.base ≡ self.old.base) × (self.new.steps ≡ self.old.steps) }
+    {
+        let left = match guess {
+            Some(guess) => {
+                if position == self.outcomes.len() {
+                    self.commit_fresh(guess)
+                } else {
+                    Some(guess)
+                }
+            }
+            None => None,
+        };
+        self.hand_in(alloc, position, left);
     }
 
     /// Posts a guess, or loses the position where there is none or it is refused. Then it commits as far as each position holds something; want of

@@ -110,10 +110,12 @@ fn work<J: Run, G: Gate, R: Wait>(
 {
     'claim: while let Some(ticket) = claims.claim(&mut seat) {
         let at = ticket.position();
-        let guess = match shared.snapshot(rt) {
-            Ok(snapshot) => guess_at(alloc, gate, &snapshot, steps, at),
-            Err(_) => None,
-        };
-        shared.hand_in(rt, alloc, at, guess);
+        match shared.snapshot(rt) {
+            Ok((from, snapshot)) => {
+                let guess = guess_at(alloc, gate, &snapshot, steps, at);
+                shared.hand_in(rt, alloc, at, guess, from);
+            }
+            Err(_) => shared.hand_in(rt, alloc, at, None, 0),
+        }
     }
 }

@@ -7,6 +7,7 @@ use footprint::reads::{Changes, Reads};
 use std::marker::Model;
 use task_step::outcome::Outcome;
 use task_step::step::Step;
+use world::prepared::Prepared;
 use world::worlds::World;
 
 /// What a step reads, changes and answers, found on a snapshot. It is so on each world that gives the answers that were read.
@@ -15,25 +16,31 @@ pub struct Guess {
     pub(crate) step: Step,
     pub(crate) reads: Reads,
     pub(crate) changes: Changes,
+    // the world that it was made on, as it becomes
+    pub(crate) ready: Prepared,
     pub(crate) outcome: Outcome,
 }
 
 impl Model for Guess {
+    ghost use Rattle.std.specs.Prelude.{◌≡◌};
+    ghost use Rattle.spec_world.specs.Questions.{Agrees, apply_all};
     ghost use Rattle.speculate.specs.Right.{Guessed, guessed_code, IsRight};
 
     ghost Value = { Guessed };
 
     ghost coded = { guessed_code };
 
-    ghost view = { λ g. record { step = g.step; reads = g.reads; changes = g.changes; outcome = g.outcome } };
+    ghost view = { λ g. record { step = g.step; home = g.ready.before; reads = g.reads; changes = g.changes; outcome = g.outcome } };
 
-    ghost invariant = { λ g. IsRight record { step = g.step; reads = g.reads; changes = g.changes; outcome = g.outcome } };
+    ghost invariant = { λ g. IsRight record { step = g.step; home = g.ready.before; reads = g.reads; changes = g.changes; outcome = g.outcome }
+        × Agrees g.ready.before g.reads × (g.ready.after ≡ apply_all g.changes g.ready.before) };
 }
 
 impl Guess {
-    /// A guess is right.
+    /// A guess is right, and the world that it was made on gives the answers that were read.
     pub fn know(&self)
-        ensures { IsRight self.now }
+        ensures right { IsRight self.now }
+        ensures made { Agrees self.now.home self.now.reads }
     {
         let _step = &self.step;
     }
@@ -65,9 +72,27 @@ impl Guess {
             step: _,
             reads: _,
             changes: _,
+            ready: _,
             outcome,
         } = self;
         world.commit(prepared);
         Ok(outcome)
+    }
+
+    /// The same on the world that it was made on. It takes no memory.
+    pub(crate) fn replace(self, world: &mut World) -> Outcome
+        requires { self.home ≡ world.old.plain }
+        ensures world { world.new ≡ record { plain = after_guess self world.old.plain; opened = world.old.opened } }
+        ensures outcome { result ≡ self.outcome }
+    {
+        let Guess {
+            step: _,
+            reads: _,
+            changes: _,
+            ready,
+            outcome,
+        } = self;
+        world.commit(ready);
+        outcome
     }
 }

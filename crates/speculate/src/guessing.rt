@@ -15,16 +15,18 @@ use world::worlds::Snapshot;
 pub fn guess(alloc: Global, snapshot: &Snapshot, step: &Step) -> Result<Guess, AllocError>
     requires { IsTrue (in_range step.now) }
     ensures step { IfOk result (λ g. g.step ≡ step.now) }
+    ensures home { IfOk result (λ g. g.home ≡ snapshot.now) }
     ensures right { IfOk result (λ g. IsRight g) }
     ensures agrees { IfOk result (λ g. Agrees snapshot.now g.reads) }
 {
     let mut view = Tracked::over(alloc, snapshot);
     let outcome = run_step(alloc, &mut view, step)?;
-    let (reads, changes) = view.finish();
+    let (reads, changes, ready) = view.finish_ready()?;
     Ok(Guess {
         step: step.clone()?,
         reads,
         changes,
+        ready,
         outcome,
     })
 }

@@ -1,6 +1,7 @@
 //! The board of one list, under a lock.
-ghost use Rattle.std.specs.Prelude.{◌≡◌};
+ghost use Rattle.std.specs.Prelude.{◌≡◌, IfOk, IfSome, take};
 ghost use Rattle.std.specs.Coded.{Coded-set, coded_list};
+ghost use Rattle.spec_task.specs.Step.{play};
 ghost use Rattle.spec_task.specs.StepCode.{step_code};
 ghost use Rattle.world.specs.Counted.{counted_code};
 
@@ -59,14 +60,29 @@ impl<J: Run> SharedBoard<J> {
         }
     }
 
-    /// The world after the steps that are committed.
-    pub fn snapshot<R: Wait>(&self, rt: &R) -> Result<Snapshot, AllocError> {
-        self.board.lock(rt).board.snapshot()
+    /// How many steps are committed, and the world after them.
+    pub fn snapshot<R: Wait>(&self, rt: &R) -> Result<(usize, Snapshot), AllocError>
+        ensures { IfOk result (λ r. r.1 ≡ (play J.base.plain (take r.0 J.steps)).0) }
+    {
+        self.board.lock(rt).board.counted_snapshot()
     }
 
-    /// Posts a guess, or loses the position where there is none or it is refused. Then it commits as far as each position holds something.
-    pub fn hand_in<R: Wait>(&self, rt: &R, alloc: Global, position: usize, guess: Option<Guess>) {
-        self.board.lock(rt).board.hand_in(alloc, position, guess);
+    /// Posts a guess that was made on the world after the first `from` steps, or loses the position where there is none or it is refused. Then it
+    /// commits as far as each position holds something.
+    pub fn hand_in<R: Wait>(
+        &self,
+        rt: &R,
+        alloc: Global,
+        position: usize,
+        guess: Option<Guess>,
+        from: usize,
+    )
+        requires { IfSome guess (λ g. g.home ≡ (play J.base.plain (take from J.steps)).0) }
+    {
+        self.board
+            .lock(rt)
+            .board
+            .hand_in_from(alloc, position, guess, from);
     }
 
     /// The board, when no worker has it any more.

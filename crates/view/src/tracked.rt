@@ -14,6 +14,7 @@ use footprint::reads::{Changes, Reads};
 use std::alloc::{AllocError, Global};
 use std::marker::Model;
 use world::draft::Draft;
+use world::prepared::Prepared;
 use world::worlds::Snapshot;
 
 /// A view of a snapshot. It keeps the questions with the snapshot's answers, and the changes; the snapshot stays as it is.
@@ -69,6 +70,27 @@ impl<'s> Tracked<'s> {
             changes,
         } = self;
         (reads, changes)
+    }
+
+    /// The same, with the snapshot's world as it is to become.
+    pub fn finish_ready(self) -> Result<(Reads, Changes, Prepared), AllocError>
+        requires { IsSound (apply_all self.changes self.home) }
+        ensures reads { IfOk result (λ r. r.0 ≡ self.entry.reads) }
+        ensures changes { IfOk result (λ r. r.1 ≡ self.entry.changes) }
+        ensures ready { IfOk result (λ r. r.2 ≡ record { before = self.entry.home; after = apply_all self.entry.changes self.entry.home }) }
+        ensures agrees { Agrees self.entry.home self.entry.reads }
+    {
+        let Tracked {
+            snapshot,
+            fork,
+            reads,
+            changes,
+        } = self;
+        let draft = match fork {
+            Some(draft) => draft,
+            None => snapshot.share()?,
+        };
+        Ok((reads, changes, snapshot.made_ready(draft)))
     }
 
     // The answer now.

@@ -14,6 +14,7 @@ use Rattle.world.specs.declared.count.Count.TheInside.{Inside}
 use Rattle.world.specs.contracts.count.Count.TheKnot as knot
 use Rattle.world.specs.contracts.count.Count as count
 use Rattle.world.specs.contracts.draft.Draft as draft
+use Rattle.world.specs.contracts.prepared.Prepared as prepared
 use Rattle.world.specs.contracts.worlds.Snapshot as snapshot
 use Rattle.world.specs.contracts.worlds.World as world
 
@@ -28,6 +29,9 @@ draft_sync =
     let objects = table_sync object.the_row object_send object_sync in
     let links = table_sync link.the_row link_send link_sync in
     search (sendable, crosses, objects, links) depth 60
+
+pub prepared_send : IsSend prepared.the_row
+prepared_send = search (sendable, crosses, draft_send) depth 60
 
 pub snapshot_send : IsSend snapshot.the_row
 snapshot_send = search (sendable, crosses, draft_send) depth 60

@@ -3,7 +3,7 @@ use crate::draft::Draft;
 use std::marker::Model;
 use std::snapshot::Snapshot as Remembered;
 
-/// What a world is to become. `World::prepare` alone makes one, for the world that it was called on, as that world then was.
+/// What a world is to become. It is for the world, as it then was, on which `World::prepare` was called, or of which a snapshot made it ready.
 #[derive(Drop)]
 pub struct Prepared {
     pub(crate) before: Remembered<Draft>,

@@ -209,6 +209,17 @@ impl Snapshot {
         self.draft.share()
     }
 
+    /// Other records for the world that the snapshot is of, made ready.
+    pub fn made_ready(&self, draft: Draft) -> Prepared
+        requires { IsSound draft }
+        ensures { result ≡ record { before = self.now; after = draft } }
+    {
+        Prepared {
+            before: Remembered::of(&self.draft),
+            draft,
+        }
+    }
+
     /// The snapshot as a world of its own.
     pub fn into_world(self) -> World
         ensures plain { result.plain ≡ self }

@@ -278,11 +278,11 @@ impl Board {
         ensures none { IfNone result (Commits (with_held self.old (length self.old.outcomes) (Held.Holds guess)) self.new) }
         ensures some { IfSome result (λ _. self.new ≡ self.old) }
     {
-        let at = self.outcomes.len();
-        if !self.is_free(at) {
+        let next = self.outcomes.len();
+        if !self.is_free(next) {
             return Some(guess);
         }
-        if !self.is_for(at, &guess) {
+        if !self.is_for(next, &guess) {
             return Some(guess);
         }
         if self.outcomes.reserve(1).is_err() {

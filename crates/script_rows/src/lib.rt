@@ -10,6 +10,8 @@ mod meetings;
 #[cfg(test)]
 mod played;
 #[cfg(test)]
+mod random;
+#[cfg(test)]
 mod row;
 #[cfg(test)]
 mod words;

@@ -1,0 +1,9 @@
+pub mod Arms
+pub mod Emitted
+pub mod GatherSteps
+pub mod Gathered
+pub mod Lists
+pub mod Opens
+pub mod Slots
+pub mod Walked
+pub mod Whole

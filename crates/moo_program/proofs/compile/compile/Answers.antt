@@ -1,0 +1,22 @@
+use Rattle.std.proofs.Common.{map, ap, ◌∙◌}
+use Rattle.moo_bytecode.specs.Drafting.{item_of}
+use Rattle.moo_program.specs.Names.{known}
+use Rattle.moo_program.specs.Tables.{bodies_of}
+use Rattle.moo_program.proofs.Whole.{draft_lent, draft_named, draft_forks, code_meant, handlers_meant}
+use Rattle.moo_program.proofs.compile.compile.Goals as goal
+
+pub returns : goal.returns
+returns c =
+    let p = c.args.tree.now in
+    let items = c.as_slice-items.result.now in
+    let n = c.in_ok-draft.draft.size in
+    let d = draft_lent p c.in_ok-draft.draft.items.items items n c.in_ok-draft.ensures c.as_slice-items.ensures.value in
+    let t = c.in_ok-tables.tables in
+    let named = c.in_ok-tables.ensures.names ∙ draft_named p (map item_of items) n d in
+    let forked = c.in_ok-tables.ensures.bodies ∙ draft_forks p (map item_of items) n d in
+    let a = c.in_ok-assembled.assembled in
+    record {
+      names = ap known c.into_list-names.ensures ∙ named;
+      code = code_meant p (map item_of items) n (known t.names) (bodies_of t.bodies.items) a.code.items d named forked c.in_ok-assembled.ensures.code;
+      handlers = handlers_meant p (map item_of items) n (known t.names) a.handlers.items d named c.in_ok-assembled.ensures.handlers;
+    }

@@ -1,0 +1,119 @@
+//! The names of a program's variables, and their slots.
+ghost use Rattle.std.specs.Prelude.{◌≡◌, ℕ, List, [], ◌∷◌, length, map, IfSome, OnOk};
+ghost use Rattle.std.specs.Borrow.{Bor};
+ghost use Rattle.moo_code.specs.Names.{with_names, starting_names};
+ghost use Rattle.moo_code.specs.Slots.{slot_of};
+ghost use Rattle.moo_program.specs.Names.{known};
+ghost use Rattle.moo_program.specs.Meaning.{name_at};
+
+use moo_value::text::Text;
+use std::alloc::{AllocError, Global};
+use std::collections::BTreeMap;
+use std::marker::Model;
+
+/// The names that every verb begins with (Programmer's Manual, "Built-in variables"). They have the first slots, in this order.
+pub const STARTING_NAMES: [&str; 17] = [
+    "args", "argstr", "caller", "dobj", "dobjstr", "err", "int", "iobj", "iobjstr", "list", "num",
+    "obj", "player", "prepstr", "str", "this", "verb",
+];
+
+/// A program's own names, once each, in the order of their first mention. Where a name stands is looked up, and not searched for.
+#[derive(Drop)]
+pub struct Names<'a> {
+    list: Vec<Text>,
+    places: BTreeMap<&'a str, usize>,
+}
+
+impl<'a> Model for Names<'a> {
+    ghost use Rattle.std.specs.Prelude.{ℕ, List};
+
+    ghost Value = { List (List ℕ) };
+
+    ghost view = { λ a. a.list.items };
+
+    ghost use Rattle.moo_program.specs.Names.{HasPlaces};
+
+    ghost invariant = { λ a. HasPlaces a.list.items a.places };
+}
+
+impl<'a> Names<'a> {
+    /// No names but the first ones.
+    pub fn new(alloc: Global) -> Names<'a>
+        ensures { result ≡ [] }
+    {
+        Names {
+            list: Vec::new(alloc),
+            places: BTreeMap::new(alloc),
+        }
+    }
+
+    // Where a name stands among all, or how many there are.
+    fn place(&self, name: &str) -> usize
+        ensures { result ≡ slot_of (known self.now) name.now }
+    {
+        let place = starting_place(name);
+        if place < STARTING_NAMES.len() {
+            return place;
+        }
+        match self.places.get(name) {
+            Some(own) => place + *own,
+            None => place + self.list.len(),
+        }
+    }
+
+    /// The slot of a variable, if it has one.
+    pub fn slot(&self, name: &Text) -> Option<usize>
+        ensures { IfSome result (λ i. name_at (known self.now) i ≡ name.now) }
+    {
+        let place = self.place(name.as_str());
+        if place < STARTING_NAMES.len() + self.list.len() {
+            Some(place)
+        } else {
+            None
+        }
+    }
+
+    /// Adds a name, unless it has a slot.
+    pub fn mention(&mut self, name: &'a Text) -> Result<(), AllocError>
+        ensures { OnOk result (known self.new ≡ with_names (known self.old) (name.now ∷ [])) }
+    {
+        let text = name.as_str();
+        if self.place(text) < STARTING_NAMES.len() + self.list.len() {
+            return Ok(());
+        }
+        let place = self.list.len();
+        self.list.push(name.clone()?)?;
+        match self.places.insert(text, place) {
+            Ok(_) => Ok(()),
+            Err(error) => {
+                self.list.pop();
+                Err(AllocError::from(error))
+            }
+        }
+    }
+
+    /// The names behind the first ones.
+    pub fn into_list(self) -> Vec<Text>
+        ensures { result.items ≡ self.entry }
+    {
+        self.list
+    }
+}
+
+// The place among the first names.
+fn starting_place(name: &str) -> usize
+    ensures { result ≡ slot_of starting_names name.now }
+{
+    place_among(&STARTING_NAMES, name)
+}
+
+fn place_among(names: &[&str], name: &str) -> usize
+    ensures { result ≡ slot_of (map (λ (s : Bor (List ℕ)). s.now) names.now) name.now }
+{
+    for (place, known) in names.iter().enumerate() {
+        if name == *known {
+            return place;
+        }
+    }
+    names.len()
+}

@@ -58,11 +58,10 @@ gap_adds w ds = gap_in w ds
 
 -- of a part as many items as there are
 pub part_adds : (w : Walk) (o : Bool) (n m k : ℕ) (after : List Item) (v : Walk) → k ≡ min n (length after)
-    → v ≡ with_part o m (map item_of (take (k - 0) after)) w → Adds w (part_of o n m) (map item_of after) v
+    → v ≡ with_part o m (map item_of (take k after)) w → Adds w (part_of o n m) (map item_of after) v
 part_adds w o n m k after v count e =
-    let all : k - 0 ≡ k = omega arith in
-    let is : map item_of (take (k - 0) after) ≡ take n (map item_of after) =
-    ap (map item_of) (ap (λ k. take k after) (all ∙ count) ∙ take_min n after) ∙ sym (take-map item_of n after) in
+    let is : map item_of (take k after) ≡ take n (map item_of after) =
+    ap (map item_of) (ap (λ k. take k after) count ∙ take_min n after) ∙ sym (take-map item_of n after) in
     as_is w v (with_part o m (take n (map item_of after)) w) (part_of o n m) (map item_of after) (e ∙ ap (λ ds. with_part o m ds w) is) (part_in o n m w (map item_of after))
 
 pub at_item : (w : Walk) (x y : Item) (ds : List Draught) (v : Walk) → x ≡ y → Adds w (item_of y) ds v → Adds w (item_of x) ds v

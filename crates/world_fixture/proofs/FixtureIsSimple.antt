@@ -1,6 +1,5 @@
 -- The fixture is a sound world.
 use Rattle.std.proofs.Common.{refl}
-use Rattle.spec_rows.specs.Opened.{opened}
 use Rattle.spec_rows.specs.Fixture.{fixture}
 use Rattle.spec_value.proofs.Entries.{each_entry}
 use Rattle.spec_rows.proofs.FixtureFits.{fixture_fits}

@@ -45,12 +45,7 @@ pub fn fixture_with_endless_verb(alloc: Global) -> Result<World, AllocError>
     Ok(World::of_draft(draft))
 }
 
-fn put_room(
-    alloc: Global,
-    draft: &mut Draft,
-    place: u32,
-    verbs: Verbs,
-) -> Result<(), AllocError>
+fn put_room(alloc: Global, draft: &mut Draft, place: u32, verbs: Verbs) -> Result<(), AllocError>
     requires { place < 64 }
     ensures { OnOk result (draft.new ≡ meant.with_room verbs place draft.old) }
 {

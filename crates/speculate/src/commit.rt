@@ -18,7 +18,6 @@ use world::worlds::World;
 
 /// Commits a step on the world, as its position says. After want of memory the world is as it was, what was held is given back, and a run that was
 /// undone is counted.
-#[tactic(auto, using(crate::proofs::Honest::kept_is_sound))]
 pub(crate) fn commit(
     alloc: Global,
     world: &mut World,

@@ -24,7 +24,7 @@ use Rattle.spec_program.proofs.OtherMovesHold.{alone}
 use Rattle.spec_program.proofs.Laid.{Cut, cut, split, Enough, later, tail, plain, Free, no_parenthesis, no_word, of, Post, Begun, Got, ended}
 use Rattle.spec_program.proofs.OperatorsBack.{is_false, one_higher, of_two, right, Sides, sides, same, more, no_less, stops_later, Back, whole_back, leveled, no_operand_back, operand_back}
 
--- ---- `c ? a | b`
+-- ---- conditional expressions
 
 question_stops : {l r : ℕ} → Sides l r → 2 ≤ l → nat_le r 1 ≡ false
 question_stops (same e (inl v)) h = absurd (omega (arith, v, h))

@@ -2,3 +2,4 @@ pub mod ReadRules
 pub mod WriteRules
 pub mod CallRules
 pub mod StaysSound
+pub mod WritesKeep

@@ -1,10 +1,11 @@
 -- What is written to an object that may not be there, and what an answer says of it.
 use Rattle.std.specs.Prelude.{◌≡◌, ℤ, Bool, true, false, ◌&&◌, not, Result, Ok, Err, Option, Some, None}
 use Rattle.std.specs.Ordering.{int_eq}
-use Rattle.spec_value.specs.Datum.{Datum, Text, invalid_indirection}
+use Rattle.spec_value.specs.Datum.{Datum, Text, ErrorCode, invalid_indirection, permission_denied}
 use Rattle.spec_world.specs.World.{World, Object, Header}
 use Rattle.spec_world.specs.Inherit.{slot_at}
-use Rattle.spec_moo.specs.Properties.{BuiltInProperty, own_name, r_bit, w_bit, f_bit, Written, wrote, refused, write_slot}
+use Rattle.spec_world.specs.Permissions.{may}
+use Rattle.spec_moo.specs.Properties.{BuiltInProperty, own_name, r_bit, w_bit, f_bit, Written, wrote, refused, writing, with_built_in, write_slot, write_built_in}
 use Rattle.moo_value.specs.Errors.{code_of}
 use Rattle.moo_value.specs.declared.error.MooError.{MooError}
 
@@ -17,6 +18,16 @@ IsWritten before after written (Err e) = (written ≡ refused (code_of e)) × (a
 abbrev pub write_named : World → ℤ → ℤ → Text → Datum → Option Object → Written
 write_named w who o p v None = refused invalid_indirection
 write_named w who o p v (Some x) = write_slot w who o p v (slot_at w o p)
+
+-- a built-in one
+abbrev pub built_in_written : World → ℤ → ℤ → Datum → BuiltInProperty → Option Object → Written
+built_in_written w who o v b None = refused invalid_indirection
+built_in_written w who o v b (Some x) = write_built_in w o (may w who (writing o b)) (with_built_in x b v)
+
+-- why none of those that nobody writes is written
+abbrev pub place_error : Option Object → ErrorCode
+place_error None = invalid_indirection
+place_error (Some x) = permission_denied
 
 -- one of the bits r, w, f
 abbrev pub is_bit : BuiltInProperty → Bool

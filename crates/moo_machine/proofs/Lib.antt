@@ -2,6 +2,9 @@ pub mod Next
 pub mod InSlots
 pub mod Taken
 pub mod Operations
+pub mod Traces
+pub mod Received
+pub mod Reading
 pub mod Turning
 pub mod Counted
 pub mod Messages

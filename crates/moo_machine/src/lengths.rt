@@ -2,7 +2,7 @@
 ghost use Rattle.std.specs.Prelude.{◌≡◌, ◌<◌, ◌+◌, ◌^◌, [], IfOk};
 ghost use Rattle.spec_value.specs.PureBuiltins.{length_of as length_meant};
 ghost use Rattle.moo_value.specs.Answers.{answer_of};
-ghost use Rattle.moo_code.specs.Instruction.{length_of, nothing};
+ghost use Rattle.moo_code.specs.Instruction.{length_of, nothing, operand_at};
 ghost use Rattle.moo_machine.specs.Shown.{Around, shown, performs_of};
 
 use crate::call::Call;
@@ -36,6 +36,20 @@ impl State {
         }
         self.ticks -= 1;
         let did = self.answers(call, Err(MooError::TypeMismatch))?;
+        Ok(did)
+    }
+
+    /// `$` of the operand with so many below it.
+    pub fn length_of_operand(&mut self, call: &Call, height: usize) -> Result<Did, AllocError>
+        requires { self.old.place + 1 < 2 ^ 64 }
+        ensures { IfOk result (λ d. (a : Around) → performs_of a call.now (length_of (operand_at height)) [] self.old ≡ shown a call.now d self.new) }
+    {
+        if self.ticks == 0 {
+            return Ok(Did::RanOut);
+        }
+        self.ticks -= 1;
+        let answer = self.operands.length_at(height);
+        let did = self.answers(call, answer)?;
         Ok(did)
     }
 }

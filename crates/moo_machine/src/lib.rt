@@ -4,11 +4,13 @@
 pub mod call;
 pub mod held;
 pub mod leaving;
+pub mod left;
 pub mod lengths;
 pub mod lists;
 pub mod loops;
 pub mod operands;
 pub mod raising;
+pub mod receiving;
 pub mod statements;
 pub mod values;
 pub mod variables;

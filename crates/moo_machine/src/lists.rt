@@ -14,8 +14,8 @@ use std::alloc::{AllocError, Global};
 
 #[tactic(auto, using(crate::proofs::Next::next_place))]
 impl State {
-    // An error, with the end of its construct: it is raised by the d bit, or where it always is; else its code is the value.
-    pub(crate) fn fails(
+    /// An error, with the end of its construct: it is raised by the d bit, or where it always is; else its code is the value.
+    pub fn fails(
         &mut self,
         call: &Call,
         always: bool,

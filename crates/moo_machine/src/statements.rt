@@ -1,12 +1,15 @@
 //! Instructions of statements on the operands alone.
-ghost use Rattle.std.specs.Prelude.{◌≡◌, ◌<◌, ◌+◌, ◌^◌, ◌∷◌, [], ℕ, ◌==◌, false, IfOk};
+ghost use Rattle.std.specs.Prelude.{◌≡◌, ◌<◌, ◌+◌, ◌^◌, ◌∷◌, [], ℕ, ◌==◌, false, map, IfOk};
 ghost use Rattle.spec_world.specs.World.{Call as CallOf};
-ghost use Rattle.moo_code.specs.Instruction.{pop as pop_of, return_top as return_top_of, return_zero as return_zero_of, test as test_of, test_last as test_last_of, test_loop as test_loop_of, leave_loops as leave_loops_of, continue_loops as continue_loops_of, finish as finish_of, finish_body as finish_body_of, begin_part};
+ghost use Rattle.moo_code.specs.Instruction.{pop as pop_of, return_top as return_top_of, return_zero as return_zero_of, test as test_of, test_last as test_last_of, test_loop as test_loop_of, leave_loops as leave_loops_of, continue_loops as continue_loops_of, finish as finish_of, finish_body as finish_body_of, begin_part, end_finally as end_finally_of};
+ghost use Rattle.moo_bytecode.specs.Drafting.{known_of};
 ghost use Rattle.moo_machine.specs.Shown.{Around, shown, performs_of};
 
 use crate::held::ended_value;
 use crate::leaving::Leaving;
+use crate::left::left_in;
 use crate::verb::{Did, State};
+use moo_bytecode::operation::KnownCodes;
 use moo_value::value::Value;
 use std::alloc::{AllocError, Global};
 
@@ -155,6 +158,36 @@ impl State {
         Did::Went
     }
 
+    /// The same above the codes of handlers that are known before any part is begun.
+    #[tactic(auto, using(crate::proofs::Operations::lacks, crate::proofs::Operations::begins_above_free, crate::proofs::Operations::begins_above_paid, crate::proofs::Operations::begins_above_unpaid))]
+    pub fn begin_above(
+        &mut self,
+        alloc: Global,
+        ticks: u8,
+        operands: usize,
+        codes: &[KnownCodes],
+        place: usize,
+    ) -> Result<Did, AllocError>
+        ensures { IfOk result (λ d. (a : Around) (c : CallOf) (m : ℕ)
+            → performs_of a c (begin_part ticks operands m (map known_of codes.now)) ((m, place) ∷ []) self.old ≡ shown a c d self.new) }
+    {
+        if self.operands.len() < operands {
+            return Ok(Did::LacksOperand);
+        }
+        if ticks == 0 {
+            self.operands.push_codes(alloc, codes)?;
+            self.place = place;
+            return Ok(Did::Went);
+        }
+        if self.ticks == 0 {
+            return Ok(Did::RanOut);
+        }
+        self.ticks -= 1;
+        self.operands.push_codes(alloc, codes)?;
+        self.place = place;
+        Ok(Did::Went)
+    }
+
     /// To the end, without so many held values.
     pub fn finish(&mut self, held: usize, place: usize) -> Did
         ensures { (a : Around) (c : CallOf) → performs_of a c (finish_of held) ((0, place) ∷ []) self.old ≡ shown a c result self.new }
@@ -176,5 +209,22 @@ impl State {
         self.operands.push(left)?;
         self.place += 1;
         Ok(Did::Went)
+    }
+
+    /// After the second part of `try finally`: what left the body leaves it now, if anything did.
+    #[tactic(auto, using(crate::proofs::Next::next_place, crate::proofs::Operations::lacks, crate::proofs::Operations::goes_on_leaving, crate::proofs::Operations::goes_on_behind))]
+    pub fn end_finally(&mut self, alloc: Global) -> Result<Did, AllocError>
+        requires { self.old.place + 1 < 2 ^ 64 }
+        ensures { IfOk result (λ d. (a : Around) (c : CallOf) → performs_of a c end_finally_of [] self.old ≡ shown a c d self.new) }
+    {
+        let Some(value) = self.operands.pop() else {
+            return Ok(Did::LacksOperand);
+        };
+        let left = left_in(alloc, &value)?;
+        let Some(leaving) = left else {
+            self.place += 1;
+            return Ok(Did::Went);
+        };
+        Ok(Did::Left(leaving))
     }
 }

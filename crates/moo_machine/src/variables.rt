@@ -17,8 +17,8 @@ use std::alloc::AllocError;
 
 #[tactic(auto, using(crate::proofs::Next::next_place, crate::proofs::InSlots::slot_is_given), unfolding(moo_code::specs::Machine::does, moo_code::specs::Performing::performed))]
 impl State {
-    // What a slot holds.
-    pub(crate) fn variable(&self, slot: usize) -> Result<Answer, AllocError>
+    /// What a slot holds.
+    pub fn variable(&self, slot: usize) -> Result<Answer, AllocError>
         ensures { IfOk result (λ r. answer_of r ≡ valued (in_slot (slice_get self.now.slots.items slot))) }
     {
         match self.slots.get(slot) {

@@ -1,9 +1,12 @@
 pub mod Arms
+pub mod Catching
+pub mod Coding
 pub mod Emitted
 pub mod GatherSteps
 pub mod Gathered
 pub mod Lists
 pub mod Opens
+pub mod Scattered
 pub mod Slots
 pub mod Walked
 pub mod Whole

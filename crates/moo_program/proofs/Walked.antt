@@ -8,7 +8,7 @@ use Rattle.moo_bytecode.specs.Drafting.{Draught, own_of, part_of, close_of, gap_
 use Rattle.moo_bytecode.specs.Assembling as assembling
 use Rattle.moo_bytecode.specs.Assembling.{place_of, opened, innermost, outer, opening_code, code_in, handlers_in}
 use Rattle.moo_bytecode.specs.declared.draft.Item.{Item}
-use Rattle.moo_program.proofs.Lists.{item_next}
+use Rattle.moo_program.proofs.Lists.{item_next, map_last}
 use Rattle.moo_program.specs.Opens.{open_of}
 use Rattle.moo_program.specs.Tables.{meant_in, handler_in}
 use Rattle.moo_program.specs.Walking.{Walk, walk_of, with_own, with_part, with_close, start_of, all_code, all_handlers, Adds}
@@ -126,3 +126,26 @@ closed t old is hs around to o r c pop caught received place =
     (received ∙ ap (λ os. map (meant_in t) old.assembled.code.items ++ receiving (innermost os).end r) (sym os))
     (caught ∙ ap (λ os. map (handler_in t) old.assembled.handlers.items ++ handler (place_of (innermost os)) old.here.first old.place c) (sym os))
     (sym os) place
+
+-- ---- an operation
+
+-- the construct under way shows the same
+pub same_opened : (t : Tables) (a b : Assembly) → b.assembled ≡ a.assembled → b.around ≡ a.around → b.place ≡ a.place → open_of b.here ≡ open_of a.here → walk_of t b ≡ walk_of t a
+same_opened t a b e f g h =
+    walks_same (map (meant_in t) b.assembled.code.items) (map (meant_in t) a.assembled.code.items) (map (handler_in t) b.assembled.handlers.items)
+    (map (handler_in t) a.assembled.handlers.items) (open_of b.here ∷ map open_of (reverse b.around.items)) (open_of a.here ∷ map open_of (reverse a.around.items)) b.place a.place
+    (ap (λ x. map (meant_in t) x.code.items) e) (ap (λ x. map (handler_in t) x.handlers.items) e)
+    (ap (λ o. o ∷ map open_of (reverse b.around.items)) h ∙ ap (λ x. open_of a.here ∷ map open_of (reverse x.items)) f) g
+
+-- an instruction is put
+pub own_put : (t : Tables) (old mid new : Assembly) (op : Operation) (ns : List ℕ) (i : Made) → walk_of t mid ≡ walk_of t old
+    → meant_in t i ≡ perform op (placed (place_of (innermost (walk_of t old).opens)) ns) → new.assembled.code.items ≡ mid.assembled.code.items ++ i ∷ []
+    → new.assembled.handlers ≡ mid.assembled.handlers → new.here ≡ mid.here → new.around ≡ mid.around → new.place ≡ suc mid.place → walk_of t new ≡ with_own op ns (walk_of t old)
+own_put t old mid new op ns i same meant put handlers here around place =
+    let made : Instruction = perform op (placed (place_of (innermost (walk_of t old).opens)) ns) in
+    walks_same (map (meant_in t) new.assembled.code.items) (map (meant_in t) mid.assembled.code.items ++ made ∷ []) (map (handler_in t) new.assembled.handlers.items)
+    (map (handler_in t) mid.assembled.handlers.items) (open_of new.here ∷ map open_of (reverse new.around.items)) (open_of mid.here ∷ map open_of (reverse mid.around.items))
+    new.place (suc mid.place)
+    (map_last (meant_in t) mid.assembled.code.items new.assembled.code.items i put ∙ ap (λ m. map (meant_in t) mid.assembled.code.items ++ m ∷ []) meant)
+    (ap (λ x. map (handler_in t) x.items) handlers) (ap (λ h. open_of h ∷ map open_of (reverse new.around.items)) here ∙ ap (λ a. open_of mid.here ∷ map open_of (reverse a.items)) around) place
+    ∙ ap (λ (w : Walk). walk (w.code ++ made ∷ []) w.handlers w.opens (suc w.place)) same

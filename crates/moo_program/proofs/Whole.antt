@@ -1,11 +1,12 @@
 -- The names, the forks, the code and the handlers of a program's draft are those of the program.
-use Rattle.std.proofs.Common.{◌≡◌, ℕ, ◌+◌, List, [], ◌∷◌, map, refl, ap, sym, ◌∙◌, arith}
+use Rattle.std.proofs.Common.{◌≡◌, ℕ, ◌+◌, ◌<◌, List, [], ◌∷◌, ◌++◌, get_or, length, map, refl, ap, sym, ◌∙◌, arith, Bor}
 use Rattle.spec_value.specs.Datum.{Text}
-use Rattle.spec_program.specs.Tree.{Program}
+use Rattle.spec_program.specs.Tree.{Program, Statement}
 use Rattle.moo_code.specs.Instruction as code
 use Rattle.moo_code.specs.Layout.{size, whole_layout, code_of, handlers_of}
 use Rattle.moo_code.specs.Names.{all_names, all_handled, starting_names, names_of}
-use Rattle.std.specs.Prelude.{reverse}
+use Rattle.std.specs.Prelude.{reverse, take}
+use Rattle.moo_tree.specs.StatementView.{program_of}
 use Rattle.moo_bytecode.specs.Drafting.{Draught, item_of, state, over}
 use Rattle.moo_bytecode.specs.declared.draft.Draft.{Draft}
 use Rattle.moo_bytecode.specs.declared.draft.Item.{Item}
@@ -15,6 +16,8 @@ use Rattle.moo_bytecode.proofs.Assembled.{assembles_code, assembles_handlers}
 use Rattle.moo_bytecode.proofs.Drafted.{size_over}
 use Rattle.moo_program.specs.Gathering.{draft_names, draft_handled, draft_bodies, forks_in}
 use Rattle.moo_program.specs.Meaning.{meant, handler_meant}
+use Rattle.moo_program.specs.Tables.{bodies_of}
+use Rattle.moo_program.proofs.Lists.{item_last, map_last}
 use Rattle.moo_program.specs.declared.instruction.Instruction.{Instruction}
 use Rattle.moo_program.specs.declared.instruction.Handler.{Handler}
 use Rattle.moo_program.proofs.Gathered.{code_names, handlers_names, code_forks}
@@ -59,3 +62,10 @@ code_meant p ds n names bodies is d named forked e =
 pub handlers_meant : (p : Program) (ds : List Draught) (n : ℕ) (names : List Text) (hs : List Handler) → IsDraft p ds n → names ≡ names_of p
     → map (handler_meant names) hs ≡ handlers_in (opened 0 ds n ∷ []) 0 ds → map (handler_meant (names_of p)) hs ≡ handlers_of p
 handlers_meant p ds n names hs d named e = ap (λ ns. map (handler_meant ns) hs) (sym named) ∙ e ∙ draft_handlers p ds n d
+
+-- one body more is copied
+pub copies_next : (bs : List (Bor (List Statement))) (i : ℕ) (b : Bor (List Statement)) (old new : List Program) (p : Program) → i < length bs → b ≡ get_or bs i b
+    → p ≡ program_of b.now → new ≡ old ++ p ∷ [] → old ≡ bodies_of (take i bs) → new ≡ bodies_of (take (i + 1) bs)
+copies_next bs i b old new p h is e put before =
+    put ∙ ap (λ ps. ps ++ p ∷ []) before ∙ ap (λ p. bodies_of (take i bs) ++ p ∷ []) e
+    ∙ sym (map_last (λ (b : Bor (List Statement)). program_of b.now) (take i bs) (take (i + 1) bs) b (item_last bs i b h is))

@@ -4,5 +4,7 @@ pub mod Gathering
 pub mod Meaning
 pub mod Names
 pub mod Opens
+pub mod Outline
 pub mod Tables
 pub mod Walking
+pub mod Within

@@ -1,8 +1,8 @@
 //! Code and handlers, assembled from a draft's first item to the last.
 ghost use Rattle.std.specs.Prelude.{◌≡◌, ◌+◌, ◌∷◌, ◌++◌, [], map, min, IfOk, OnOk};
 ghost use Rattle.moo_bytecode.specs.Drafting.{item_of, operation_of, parts_of, reception_of, caught_of, row_of};
-ghost use Rattle.moo_bytecode.specs.Assembling.{place_of, code_in, handlers_in, opened};
-ghost use Rattle.moo_code.specs.Instruction.{placed, handler_parts};
+ghost use Rattle.moo_bytecode.specs.Assembling.{place_of, code_in, handlers_in, innermost, opened};
+ghost use Rattle.moo_code.specs.Instruction.{perform, placed, handler_parts};
 ghost use Rattle.moo_code.specs.Layout.{handler as handler_of, receiving, reception_size};
 ghost use Rattle.moo_program.specs.Meaning.{arm_meant, arm_place, handler_meant};
 ghost use Rattle.moo_program.specs.Names.{known};
@@ -12,10 +12,10 @@ ghost use Rattle.moo_program.specs.declared.tables.Tables.{Tables as TablesRecor
 ghost use Rattle.moo_program.specs.Walking.{walk_of, with_own, with_part, with_close, start_of, caught_in, Adds};
 
 use crate::emit::{instruction, narrow, place, some_slot};
-use crate::error::CompileError;
 use crate::instruction::{Catch, CatchArm, Handler, Instruction, Part};
 use crate::names::Names;
 use crate::open::Open;
+use crate::scatter::shared;
 use crate::tables::Tables;
 use moo_bytecode::around::next;
 use moo_bytecode::draft::Item;
@@ -46,7 +46,7 @@ pub fn assemble(
     tables: &Tables<'_>,
     items: &[Item],
     size: usize,
-) -> Result<Assembled, CompileError>
+) -> Result<Assembled, AllocError>
     ensures code { IfOk result (λ a. map (meant_in tables.now) a.code.items ≡ code_in (opened 0 (map item_of items.now) size ∷ []) 0 (map item_of items.now)) }
     ensures handlers { IfOk result (λ a. map (handler_in tables.now) a.handlers.items ≡ handlers_in (opened 0 (map item_of items.now) size ∷ []) 0 (map item_of items.now)) }
 {
@@ -81,7 +81,7 @@ impl Assembly {
         tables: &Tables<'_>,
         item: &Item<'_>,
         after: &[Item<'_>],
-    ) -> Result<(), CompileError>
+    ) -> Result<(), AllocError>
         ensures { OnOk result (Adds (walk_of tables.now self.old) (item_of item.now) (map item_of after.now) (walk_of tables.now self.new)) }
     {
         match item {
@@ -99,15 +99,16 @@ impl Assembly {
     }
 
     // An operation.
+    #[tactic(auto, using(crate::proofs::Walked::own_put))]
     fn own(
         &mut self,
         alloc: Global,
         tables: &Tables<'_>,
         operation: &Operation<'_>,
-    ) -> Result<(), CompileError>
+    ) -> Result<(), AllocError>
         ensures { OnOk result (walk_of tables.now self.new ≡ with_own (operation_of operation.now) (parts_of operation.now) (walk_of tables.now self.old)) }
     {
-        let instruction = instruction(alloc, tables, &self.here, self.forks, operation)?;
+        let instruction = self.instruction(alloc, tables, operation)?;
         if let Instruction::StartFork(_, _) = &instruction {
             self.forks = next(self.forks)?;
         }
@@ -115,6 +116,34 @@ impl Assembly {
         put(&mut self.assembled.code, instruction)?;
         self.place = place;
         Ok(())
+    }
+
+    // The instruction of an operation.
+    #[tactic(auto, using(crate::proofs::Walked::same_opened))]
+    fn instruction(
+        &mut self,
+        alloc: Global,
+        tables: &Tables<'_>,
+        operation: &Operation<'_>,
+    ) -> Result<Instruction, AllocError>
+        ensures meant { IfOk result (λ i. meant_in tables.now i ≡ perform (operation_of operation.now) (placed (place_of (innermost (walk_of tables.now self.old).opens)) (parts_of operation.now))) }
+        ensures walk { OnOk result (walk_of tables.now self.new ≡ walk_of tables.now self.old) }
+    {
+        match operation {
+            Operation::Scatter(items) => {
+                let scatter = shared(alloc, &tables.names, &mut self.here, items)?;
+                Ok(Instruction::Scatter(scatter))
+            }
+            Operation::ScatterOn(items, number) => {
+                let scatter = shared(alloc, &tables.names, &mut self.here, items)?;
+                Ok(Instruction::ScatterOn {
+                    scatter,
+                    number: narrow(*number)?,
+                    end: place(&self.here, 0)?,
+                })
+            }
+            _ => instruction(alloc, tables, &self.here, self.forks, operation),
+        }
     }
 
     // A part of these items begins.
@@ -146,11 +175,11 @@ impl Assembly {
         tables: &Tables<'_>,
         reception: Reception,
         caught: Option<&Caught<'_>>,
-    ) -> Result<(), CompileError>
+    ) -> Result<(), AllocError>
         ensures { OnOk result (walk_of tables.now self.new ≡ with_close (reception_of reception) (caught_in caught.entry) (walk_of tables.now self.old)) }
     {
         let Some(around) = self.around.pop() else {
-            return Err(CompileError::Unsupported);
+            return Err(AllocError);
         };
         let first = self.here.first;
         let past = self.place;

@@ -1,47 +1,96 @@
 //! From a tree to its code.
-ghost use Rattle.std.specs.Prelude.{◌≡◌, map, reverse, IfOk};
-ghost use Rattle.moo_code.specs.Layout.{code_of, handlers_of};
-ghost use Rattle.moo_code.specs.Names.{names_of};
+ghost use Rattle.std.specs.Prelude.{◌≡◌, length, map, reverse, true, IfOk, OnOk};
+ghost use Rattle.std.specs.List.{list_all};
+ghost use Rattle.moo_code.specs.Layout.{code_of};
 ghost use Rattle.moo_bytecode.specs.Drafting.{item_of};
+ghost use Rattle.moo_program.specs.Compiled.{IsCode};
 ghost use Rattle.moo_program.specs.Drafted.{IsDraft};
 ghost use Rattle.moo_program.specs.Gathering.{forks_in};
-ghost use Rattle.moo_program.specs.Meaning.{meant, handler_meant};
 ghost use Rattle.moo_program.specs.Names.{known};
+ghost use Rattle.moo_program.specs.Tables.{bodies_of};
+ghost use Rattle.moo_program.specs.Within.{slots_in, handler_slots_in};
 
 use crate::assembly::{Assembled, assemble};
-use crate::error::CompileError;
 use crate::gather::gather;
-use crate::tables::Tables;
+use crate::names::count_slots;
+use crate::outline::{Step, outline};
+use crate::within::{handlers_within, instructions_within};
 use moo_bytecode::around::{Around, Bracketed};
 use moo_bytecode::draft::{Draft, Item};
-use moo_tree::statement::Tree;
+use moo_copy::statement::copy_program;
+use moo_tree::statement::{Statement, Tree};
 use moo_value::text::Text;
-use std::alloc::Global;
+use std::alloc::{AllocError, Global};
 
 /// The code of a program, with the names of its variables behind those of every verb's start.
 #[derive(Drop)]
 pub struct Code {
     pub names: Vec<Text>,
     pub assembled: Assembled,
+    pub outline: Vec<Step>,
 }
 
-/// The code of a tree.
-pub fn compile(alloc: Global, tree: &Tree) -> Result<Code, CompileError>
-    ensures names { IfOk result (λ c. known c.names.items ≡ names_of tree.now) }
-    ensures code { IfOk result (λ c. map (meant (names_of tree.now) (forks_in (code_of tree.now))) c.assembled.code.items ≡ code_of tree.now) }
-    ensures handlers { IfOk result (λ c. map (handler_meant (names_of tree.now)) c.assembled.handlers.items ≡ handlers_of tree.now) }
+/// The code of a program, and the bodies of its forks, which have code of their own.
+#[derive(Drop)]
+pub struct Parts {
+    pub code: Code,
+    pub bodies: Vec<Tree>,
+}
+
+/// The code of a tree, and copies of the bodies of its forks.
+pub fn compile(alloc: Global, tree: &Tree) -> Result<Parts, AllocError>
+    ensures code { IfOk result (λ r. IsCode tree.now r.code) }
+    ensures bodies { IfOk result (λ r. r.bodies.items ≡ forks_in (code_of tree.now)) }
 {
     let draft = drafted(alloc, tree)?;
     let items = draft.items.as_slice();
     let tables = gather(alloc, items)?;
     let assembled = assemble(alloc, &tables, items, draft.size)?;
-    without_forks(&tables)?;
+    let outline = outline(alloc, items)?;
+    let forked = tables.bodies.as_slice();
+    let bodies = copies(alloc, forked)?;
     let names = tables.names.into_list();
-    Ok(Code { names, assembled })
+    let own = names.as_slice();
+    check_slots(&assembled, own)?;
+    Ok(Parts {
+        code: Code {
+            names,
+            assembled,
+            outline,
+        },
+        bodies,
+    })
+}
+
+// That all slots are those of names, of which these come behind the first ones.
+fn check_slots(assembled: &Assembled, own: &[Text]) -> Result<(), AllocError>
+    ensures code { OnOk result (list_all (slots_in (length (known own.now))) assembled.now.code.items ≡ true) }
+    ensures handlers { OnOk result (list_all (handler_slots_in (length (known own.now))) assembled.now.handlers.items ≡ true) }
+{
+    let count = count_slots(own);
+    if instructions_within(assembled.code.as_slice(), count)
+        && handlers_within(assembled.handlers.as_slice(), count)
+    {
+        Ok(())
+    } else {
+        Err(AllocError)
+    }
+}
+
+#[tactic(auto, using(crate::proofs::Whole::copies_next))]
+fn copies(alloc: Global, bodies: &[&[Statement]]) -> Result<Vec<Tree>, AllocError>
+    ensures { IfOk result (λ v. v.items ≡ bodies_of bodies.now) }
+{
+    let mut copies = Vec::with_capacity(alloc, bodies.len())?;
+    for i in 0..bodies.len() {
+        let copy = copy_program(alloc, bodies[i])?;
+        copies.push(copy)?;
+    }
+    Ok(copies)
 }
 
 // The draft of a tree, from its first item to the last.
-fn drafted(alloc: Global, tree: &Tree) -> Result<Draft<'_>, CompileError>
+fn drafted(alloc: Global, tree: &Tree) -> Result<Draft<'_>, AllocError>
     ensures { IfOk result (λ d. IsDraft tree.now (map item_of d.items.items) d.size) }
 {
     let mut draft = Draft::new(alloc);
@@ -59,13 +108,4 @@ fn turn(items: &mut Vec<Item<'_>>)
     ensures { items.new.items ≡ reverse items.old.items }
 {
     items.reverse();
-}
-
-// The bodies of forks have no code yet.
-fn without_forks(tables: &Tables<'_>) -> Result<(), CompileError> {
-    if tables.bodies.is_empty() {
-        Ok(())
-    } else {
-        Err(CompileError::Unsupported)
-    }
 }

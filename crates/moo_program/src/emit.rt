@@ -11,7 +11,6 @@ ghost use Rattle.moo_program.specs.Names.{known};
 ghost use Rattle.moo_program.specs.Opens.{open_of};
 ghost use Rattle.moo_program.specs.Tables.{bodies_of, meant_in};
 
-use crate::error::CompileError;
 use crate::instruction::{Beginning, Bracket, Instruction, Part, Shape};
 use crate::names::Names;
 use crate::open::Open;
@@ -164,14 +163,14 @@ fn store(alloc: Global, tables: &Tables<'_>, target: &Target) -> Result<Instruct
     }
 }
 
-/// The instruction of an operation in a construct, with so many forks before it.
+/// The instruction of an operation in a construct, with so many forks before it. Scattering assignments have theirs elsewhere.
 pub fn instruction(
     alloc: Global,
     tables: &Tables<'_>,
     here: &Open,
     forks: usize,
     operation: &Operation<'_>,
-) -> Result<Instruction, CompileError>
+) -> Result<Instruction, AllocError>
     ensures { IfOk result (λ i. meant_in tables.now i ≡ perform (operation_of operation.now) (placed (place_of (open_of here.now)) (parts_of operation.now))) }
 {
     Ok(match operation {
@@ -202,7 +201,7 @@ pub fn instruction(
         Operation::BeginFirst => Instruction::BeginFirst,
         Operation::StartFork(variable, body) => {
             if !is_body(tables.bodies.as_slice(), forks, body) {
-                return Err(CompileError::Unsupported);
+                return Err(AllocError);
             }
             let variable = some_slot(&tables.names, *variable)?;
             Instruction::StartFork(variable, narrow(forks)?)
@@ -217,7 +216,7 @@ fn jump(
     tables: &Tables<'_>,
     here: &Open,
     operation: &Operation<'_>,
-) -> Result<Instruction, CompileError>
+) -> Result<Instruction, AllocError>
     ensures { IfOk result (λ i. meant_in tables.now i ≡ perform (operation_of operation.now) (placed (place_of (open_of here.now)) (parts_of operation.now))) }
 {
     Ok(match operation {
@@ -268,7 +267,7 @@ fn jump(
             };
             Instruction::BeginAbove(boxed(alloc, beginning)?)
         }
-        _ => return Err(CompileError::Unsupported),
+        _ => return Err(AllocError),
     })
 }
 

@@ -3,6 +3,7 @@ use moo_bytecode::operation::{KnownCodes, Unraised, Way};
 use moo_value::operator::{BinaryOperator, UnaryOperator};
 use moo_value::text::Text;
 use moo_value::value::Value;
+use std::sync::Arc;
 
 /// An instruction. Where an operand is not an instruction's own it is taken from the stack.
 #[derive(Drop)]
@@ -46,10 +47,10 @@ pub enum Instruction {
     StoreProperty,
     /// An item or a range of what stands at a target.
     StorePart(Box<Shape>),
-    Scatter(Box<Scatter>),
+    Scatter(Arc<Scatter>),
     /// After the default of the item with this number.
     ScatterOn {
-        scatter: Box<Scatter>,
+        scatter: Arc<Scatter>,
         number: u32,
         end: u32,
     },
@@ -113,7 +114,7 @@ pub enum Bracket {
     Range,
 }
 
-/// The items of a scattering assignment, and where the defaults stand that can still be done.
+/// The items of a scattering assignment, and where its defaults stand; shared by its instructions.
 #[derive(Drop)]
 pub struct Scatter {
     pub items: Vec<Slot>,

@@ -3,11 +3,15 @@
 
 mod assembly;
 mod compile;
+mod compiled;
 mod emit;
-pub mod error;
 mod gather;
+pub mod handlers;
 pub mod instruction;
 pub mod names;
 mod open;
+pub mod outline;
 pub mod program;
+mod scatter;
 pub mod tables;
+mod within;

@@ -4,17 +4,21 @@ ghost use Rattle.moo_bytecode.specs.Drafting.{Draught, item_of};
 ghost use Rattle.moo_bytecode.specs.Assembling.{place_of, scan, opened as opened_of};
 ghost use Rattle.moo_program.specs.Opens.{open_of};
 
+use crate::instruction::Scatter;
 use moo_bytecode::around::{next, plus};
 use moo_bytecode::draft::Item;
 use moo_bytecode::operation::Reception;
 use std::alloc::{AllocError, Global};
+use std::sync::Arc;
 
-/// A construct under way: where its code begins and ends, and where its parts begin.
+/// A construct under way: where its code begins and ends, where its parts begin, and the items of its scattering assignment, once they
+/// are known.
 #[derive(Drop)]
 pub struct Open {
     pub first: usize,
     pub end: usize,
     pub starts: Vec<usize>,
+    pub scatter: Option<Arc<Scatter>>,
 }
 
 impl Open {
@@ -24,7 +28,12 @@ impl Open {
     {
         let end = plus(first, size)?;
         let starts = starts(alloc, items, first)?;
-        Ok(Open { first, end, starts })
+        Ok(Open {
+            first,
+            end,
+            starts,
+            scatter: None,
+        })
     }
 
     /// Where the part with a number begins; the end for 0.

@@ -1,30 +1,31 @@
 //! Programs.
-ghost use Rattle.std.specs.Prelude.{◌≡◌, map, IfOk};
+ghost use Rattle.std.specs.Prelude.{◌≡◌, length, map, true, IfOk};
+ghost use Rattle.std.specs.List.{list_all};
 ghost use Rattle.moo_code.specs.Layout.{code_of, handlers_of};
 ghost use Rattle.moo_code.specs.Names.{names_of};
 ghost use Rattle.moo_program.specs.Gathering.{forks_in};
-ghost use Rattle.moo_program.specs.Meaning.{meant, handler_meant};
+ghost use Rattle.moo_program.specs.Meaning.{meant, handler_meant, body_at};
 ghost use Rattle.moo_program.specs.Names.{known};
+ghost use Rattle.moo_program.specs.Outline.{outline_of};
+ghost use Rattle.moo_program.specs.Within.{slots_in, handler_slots_in};
 
-use crate::compile::{Code, compile};
-use crate::error::CompileError;
+use crate::compiled::Compiled;
 use crate::instruction::{Handler, Instruction};
+use crate::names::count_slots;
+use crate::outline::Step;
+use moo_bytecode::around::plus;
 use moo_tree::statement::Tree;
 use moo_value::text::Text;
 use std::alloc::{AllocError, Global};
 use std::marker::Model;
 use std::sync::Arc;
 
-/// A program: its source tree with its code, shared by their owners. A clone is a count.
+/// A program: its source tree with its code, shared by their owners, and with them the programs that it forks. A clone is a count.
 #[derive(Drop)]
 pub struct Program {
     compiled: Arc<Compiled>,
-}
-
-#[derive(Drop)]
-struct Compiled {
-    tree: Tree,
-    code: Code,
+    // which of them it is
+    place: usize,
 }
 
 impl Model for Program {
@@ -36,51 +37,87 @@ impl Model for Program {
 
     ghost coded = { program_code };
 
-    ghost use Rattle.moo_program.specs.Compiled.{IsCompiled};
+    ghost use Rattle.moo_program.specs.Compiled.{IsProgram, tree_at};
 
-    ghost view = { λ a. (arc_value a.compiled).tree };
+    ghost view = { λ a. tree_at (arc_value a.compiled) a.place };
 
-    ghost invariant = { λ a. IsCompiled (arc_value a.compiled) };
+    ghost invariant = { λ a. IsProgram (arc_value a.compiled) a.place };
 }
 
 impl Program {
     /// The program of a tree.
-    pub fn compile(alloc: Global, tree: Tree) -> Result<Program, CompileError>
+    pub fn compile(alloc: Global, tree: Tree) -> Result<Program, AllocError>
         ensures { IfOk result (λ program. program ≡ tree) }
     {
-        let code = compile(alloc, &tree)?;
-        match Arc::new(alloc, Compiled { tree, code }) {
-            Ok(compiled) => Ok(Program { compiled }),
-            Err(_) => Err(CompileError::Memory),
-        }
+        let compiled = Compiled::new(alloc, tree)?;
+        let compiled = Arc::new(alloc, compiled)?;
+        Ok(Program { compiled, place: 0 })
     }
 
     /// Its source tree.
     pub fn tree(&self) -> &Tree
         ensures { result.now ≡ self.now }
     {
-        &self.compiled.tree
+        &self.compiled.trees[self.place]
     }
 
     /// The names of its variables behind those of every verb's start, in the order of their slots.
+    #[tactic(auto, using(crate::proofs::Coding::names_at, crate::proofs::Coding::place_coded))]
     pub fn names(&self) -> &[Text]
         ensures { known result.now ≡ names_of self.now }
     {
-        self.compiled.code.names.as_slice()
+        let coded = &self.compiled.codes[self.place];
+        coded.code.names.as_slice()
+    }
+
+    /// How many variables it has, with those of every verb's start, which are the first ones.
+    pub fn slot_count(&self) -> usize
+        ensures { result ≡ length (names_of self.now) }
+    {
+        count_slots(self.names())
     }
 
     /// Its instructions, by their places.
+    #[tactic(auto, using(crate::proofs::Coding::code_at, crate::proofs::Coding::slots_at, crate::proofs::Coding::place_coded))]
     pub fn code(&self) -> &[Instruction]
-        ensures { map (meant (names_of self.now) (forks_in (code_of self.now))) result.now ≡ code_of self.now }
+        ensures code { map (meant (names_of self.now) (forks_in (code_of self.now))) result.now ≡ code_of self.now }
+        ensures slots { list_all (slots_in (length (names_of self.now))) result.now ≡ true }
     {
-        self.compiled.code.assembled.code.as_slice()
+        let coded = &self.compiled.codes[self.place];
+        coded.code.assembled.code.as_slice()
     }
 
     /// What catches leavings in them, the inner ones first.
+    #[tactic(auto, using(crate::proofs::Coding::handlers_at, crate::proofs::Coding::handled_at, crate::proofs::Coding::place_coded))]
     pub fn handlers(&self) -> &[Handler]
-        ensures { map (handler_meant (names_of self.now)) result.now ≡ handlers_of self.now }
+        ensures handlers { map (handler_meant (names_of self.now)) result.now ≡ handlers_of self.now }
+        ensures slots { list_all (handler_slots_in (length (names_of self.now))) result.now ≡ true }
     {
-        self.compiled.code.assembled.handlers.as_slice()
+        let coded = &self.compiled.codes[self.place];
+        coded.code.assembled.handlers.as_slice()
+    }
+
+    /// Which of its instructions belong to which construct.
+    #[tactic(auto, using(crate::proofs::Coding::outline_at, crate::proofs::Coding::place_coded))]
+    pub fn outline(&self) -> &[Step]
+        ensures { result.now ≡ outline_of self.now }
+    {
+        let coded = &self.compiled.codes[self.place];
+        coded.code.outline.as_slice()
+    }
+
+    /// The program that a fork starts, by its number among the forks of this one.
+    #[tactic(auto, using(crate::proofs::Coding::body_view, crate::proofs::Coding::body_whole, crate::proofs::Coding::place_coded))]
+    pub fn body(&self, number: usize) -> Result<Program, AllocError>
+        ensures { IfOk result (λ program. program ≡ body_at (forks_in (code_of self.now)) number) }
+    {
+        let coded = &self.compiled.codes[self.place];
+        if coded.forks <= number {
+            return Err(AllocError);
+        }
+        let place = plus(coded.bodies, number)?;
+        let compiled = self.compiled.clone()?;
+        Ok(Program { compiled, place })
     }
 }
 
@@ -89,6 +126,7 @@ impl Clone for Program {
 
     fn clone(&self) -> Result<Program, AllocError> {
         let compiled = self.compiled.clone()?;
-        Ok(Program { compiled })
+        let place = self.place;
+        Ok(Program { compiled, place })
     }
 }

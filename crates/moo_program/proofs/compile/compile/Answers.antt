@@ -1,7 +1,12 @@
-use Rattle.std.proofs.Common.{map, ap, ◌∙◌}
+use Rattle.std.proofs.Common.{map, length, ap, sym, ◌≡◌, ◌∙◌}
+use Rattle.std.specs.List.{list_all}
+use Rattle.moo_code.specs.Names.{names_of}
 use Rattle.moo_bytecode.specs.Drafting.{item_of}
+use Rattle.moo_bytecode.specs.Assembling.{draft_of}
 use Rattle.moo_program.specs.Names.{known}
+use Rattle.moo_program.specs.Outline.{step_of}
 use Rattle.moo_program.specs.Tables.{bodies_of}
+use Rattle.moo_program.specs.Within.{slots_in, handler_slots_in}
 use Rattle.moo_program.proofs.Whole.{draft_lent, draft_named, draft_forks, code_meant, handlers_meant}
 use Rattle.moo_program.proofs.compile.compile.Goals as goal
 
@@ -15,8 +20,15 @@ returns c =
     let named = c.in_ok-tables.ensures.names ∙ draft_named p (map item_of items) n d in
     let forked = c.in_ok-tables.ensures.bodies ∙ draft_forks p (map item_of items) n d in
     let a = c.in_ok-assembled.assembled in
+    let own : known c.as_slice-own.result.now ≡ names_of p = ap known (c.as_slice-own.ensures.value ∙ c.into_list-names.ensures) ∙ named in
     record {
-      names = ap known c.into_list-names.ensures ∙ named;
-      code = code_meant p (map item_of items) n (known t.names) (bodies_of t.bodies.items) a.code.items d named forked c.in_ok-assembled.ensures.code;
-      handlers = handlers_meant p (map item_of items) n (known t.names) a.handlers.items d named c.in_ok-assembled.ensures.handlers;
+      code = record {
+        names = ap known c.into_list-names.ensures ∙ named;
+        code = code_meant p (map item_of items) n (known t.names) (bodies_of t.bodies.items) a.code.items d named forked c.in_ok-assembled.ensures.code;
+        handlers = handlers_meant p (map item_of items) n (known t.names) a.handlers.items d named c.in_ok-assembled.ensures.handlers;
+        slots = sym (ap (λ ns. list_all (slots_in (length ns)) a.code.items) own) ∙ c.in_ok-check_slots.ensures.code;
+        handled = sym (ap (λ ns. list_all (handler_slots_in (length ns)) a.handlers.items) own) ∙ c.in_ok-check_slots.ensures.handlers;
+        outline = c.in_ok-outline.ensures ∙ ap (map step_of) d.items;
+      };
+      bodies = c.in_ok-bodies.ensures ∙ ap bodies_of c.as_slice-forked.ensures.value ∙ forked;
     }

@@ -1,0 +1,4 @@
+pub mod Requests
+pub mod VerbRules
+pub mod LineRules
+pub mod ProgramRules

@@ -1,0 +1,3 @@
+pub mod Den
+pub mod Meant
+pub mod Opened

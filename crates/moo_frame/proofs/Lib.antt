@@ -1,0 +1,4 @@
+pub mod Beginning
+pub mod Entering
+pub mod Performing
+pub mod Waiting

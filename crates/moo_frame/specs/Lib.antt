@@ -1,0 +1,6 @@
+pub mod Codes
+pub mod Deeds
+pub mod Effects
+pub mod Frames
+pub mod Outcomes
+pub mod Performing

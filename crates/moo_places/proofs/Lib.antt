@@ -1,0 +1,3 @@
+pub mod Outlined
+pub mod Reached
+pub mod Sought

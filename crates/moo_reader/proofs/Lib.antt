@@ -1,0 +1,4 @@
+pub mod Lists
+pub mod Targets
+pub mod Texts
+pub mod Depth

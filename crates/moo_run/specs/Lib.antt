@@ -1,0 +1,4 @@
+pub mod Calls
+pub mod Scenes
+pub mod Steps
+pub mod Stopping

@@ -1,0 +1,3 @@
+pub mod Offering
+pub mod Around
+pub mod Passing

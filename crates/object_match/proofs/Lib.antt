@@ -1,0 +1,4 @@
+pub mod Numbers
+pub mod Fits
+pub mod Tallies
+pub mod NamingRules

@@ -1,0 +1,6 @@
+pub mod Next
+pub mod Ends
+pub mod Behind
+pub mod Begins
+pub mod Step
+pub mod Laws

@@ -4,7 +4,7 @@ use Rattle.spec_value.specs.Datum.{Datum}
 use Rattle.spec_program.specs.Construct.{of_program}
 use Rattle.std.specs.Prelude.{Result, Ok, Err, IfOk}
 use Rattle.std.specs.declared.alloc.AllocError.{AllocError}
-use Rattle.spec_world.specs.World.{Task, frame_entry, Waiting, forked, timed, idle, reading_on}
+use Rattle.spec_world.specs.World.{Task, Waiting, forked, timed, idle, reading_on}
 use Rattle.spec_moo.specs.Pending.{begin, hand, Pending, going_on}
 use Rattle.spec_moo.specs.Steps.Running.{gone_on}
 use Rattle.moo_code.specs.Machine.{Kept, Outer, verb, at_place}

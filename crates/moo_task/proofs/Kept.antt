@@ -1,7 +1,7 @@
 -- A task that is kept is told by its plain task: no other machine stands for its entries.
 use Rattle.std.proofs.Common.{◌≡◌, ◌∙◌, ap, sym, refl, subst, ℕ, ℤ, List, [], ◌∷◌, Some, Bool, IsTrue}
 use Rattle.spec_value.specs.Datum.{Datum}
-use Rattle.spec_world.specs.World.{Entry, frame_entry, native_entry, Call, Native, Waiting, forked, timed, idle, reading_on, Task}
+use Rattle.spec_world.specs.World.{Entry, frame_entry, native_entry, Native, Waiting, forked, timed, idle, reading_on, Task}
 use Rattle.spec_world.specs.WellFormed.{FramesStand}
 use Rattle.spec_moo.specs.Natives.Tasks.{innermost, is_suspended}
 use Rattle.spec_moo.specs.Steps.Running.{waiting_task}

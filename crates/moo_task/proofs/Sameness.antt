@@ -1,8 +1,5 @@
 -- Two verbs that wait are the same where they stand alike and their slots agree.
-use Rattle.std.proofs.Common.{◌≡◌, ◌∙◌, ap, sym, refl, ℕ, List, length, Option, subst, IsTrue}
-use Rattle.spec_value.specs.Datum.{Datum, Text}
-use Rattle.spec_value.specs.Table.{Named}
-use Rattle.spec_program.specs.Tree.{Program}
+use Rattle.std.proofs.Common.{◌≡◌, ◌∙◌, ap, sym, ℕ, length, subst}
 use Rattle.moo_code.specs.Machine.{Kept}
 use Rattle.moo_code.specs.Names.{names_of}
 use Rattle.moo_code.specs.Slots.{variables_of}

@@ -1,9 +1,9 @@
 -- A task that a segment leaves waiting may be kept.
-use Rattle.std.proofs.Common.{◌≡◌, sym, subst, List, [], ◌∷◌, IsTrue}
+use Rattle.std.proofs.Common.{sym, subst, List, [], ◌∷◌, IsTrue}
 use Rattle.spec_world.specs.World.{Entry, frame_entry, native_entry, Waiting, forked, timed, idle, reading_on, World}
 use Rattle.spec_world.specs.WellFormed.{begins_with_frame, FramesStand}
 use Rattle.spec_moo.specs.Pending.{waiting}
-use Rattle.spec_moo.specs.Segment.{Ended, stopped, segment}
+use Rattle.spec_moo.specs.Segment.{Ended, segment}
 use Rattle.spec_moo.specs.Worlds.{MayWait, StopKeeps}
 use Rattle.spec_moo.proofs.SegmentWorlds.{segments_keep}
 use Rattle.moo_code.specs.Machine.{Outer, verb, native}

@@ -1,11 +1,11 @@
 -- Slots of the same names stand for the same table where they agree, and only there.
-use Rattle.std.proofs.Common.{◌≡◌, ◌∙◌, ap, sym, refl, ℕ, zero, suc, ◌<◌, List, [], ◌∷◌, length, get_or, Option, Some, None, IsTrue, arith}
+use Rattle.std.proofs.Common.{◌≡◌, ◌∙◌, ap, sym, refl, suc, List, [], ◌∷◌, length, get_or, Option, Some, None, IsTrue, arith}
 use Rattle.std.specs.Prelude.{slice_get}
 use Rattle.std.proofs.lemmas.Option.{slice_get-get_or}
 use Rattle.spec_value.specs.Datum.{Datum, Text}
-use Rattle.spec_value.specs.Table.{Named, named, with_name}
+use Rattle.spec_value.specs.Table.{named, with_name}
 use Rattle.spec_world.specs.WellFormed.{names_once}
-use Rattle.moo_code.specs.Slots.{variables_of, in_slot}
+use Rattle.moo_code.specs.Slots.{variables_of}
 use Rattle.moo_code.proofs.Slots.{slot_is_variable}
 use Rattle.moo_task.specs.Sameness.{SlotsAgree}
 

@@ -1,4 +1,3 @@
-use Rattle.std.proofs.Common.{◌≡◌}
 use Rattle.moo_task.specs.Sameness.{SlotsAgree}
 use Rattle.moo_task.proofs.same.same_slots.Given as goal
 

@@ -1,4 +1,3 @@
-use Rattle.std.proofs.Common.{◌≡◌}
 use Rattle.moo_task.proofs.Stacks.{outer_at}
 use Rattle.moo_task.proofs.same.same_stacks.Goals as goal
 

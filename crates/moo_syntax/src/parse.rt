@@ -12,7 +12,7 @@ ghost use Rattle.moo_syntax.specs.Reading.{RefusedAt};
 ghost use Rattle.moo_syntax.specs.Syntax.{IsTree, HasFault, line_of, kind_of};
 
 use crate::build::{BuildError, statements_of};
-use crate::fault::{FaultKind, SyntaxFault};
+use syntax_fault::fault::{FaultKind, SyntaxFault};
 use crate::machine::Machine;
 use crate::nesting::first_deep;
 use crate::step_error::StepError;

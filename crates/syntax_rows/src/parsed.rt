@@ -1,4 +1,4 @@
-use moo_syntax::fault::FaultKind;
+use syntax_fault::fault::FaultKind;
 use moo_syntax::parse::parse;
 use moo_tree::expression::{Expression, ExpressionNode, TargetNode};
 use moo_tree::statement::StatementNode;

@@ -3,6 +3,6 @@
 
 pub mod chance;
 pub mod ids;
-pub mod permissions;
+pub mod programmer;
 pub mod server;
 pub mod tasks;

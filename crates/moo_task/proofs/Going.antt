@@ -33,7 +33,10 @@ begins_again player m v k [] h =
     let f : Verb = record { player = player; call = k.call; start_with = k.start; whole = k.program; outer = [] } in
     let same : kept f k.variables 0 [] ≡ k =
     λ i. record { call = k.call; start = k.start; program = k.program; variables = k.variables; place = sym h.0 i; operands = sym h.1 i } in (
-      record { player_is = refl; stands = subst (λ z. Stands f k.variables (begin (of_program k.program)) [] z []) same (verbs_begin f k.variables [] tt) },
+      record {
+        player_is = refl;
+        stands = subst (λ z. Stands f k.variables (begin (of_program k.program)) [] z []) same (verbs_begin f k.variables [] tt);
+      },
       begins (record { entries = []; waiting = tt; standing = tt; place = h.0; operands = h.1 }),
     )
 

@@ -90,7 +90,8 @@ verb_first why n (verb k ∷ ks) js h e = cc
 called_there : (k : Kept) (ks : List Outer) (h : WaitsAtCall k ks) → innermost (those (entries_of (verb k ∷ ks))) ≡ Some k.call
 called_there k ks h = ap innermost (rebuilt_there k ks h) ∙ ap (λ (j : Kept). Some j.call) (sym (h.waiting.0).is)
 
-pub innermost_of : (p : ℤ) (why : Waiting) (k : Kept) (ks : List Outer) → IsKept why (verb k ∷ ks) → innermost (task_of p why (verb k ∷ ks)).entries ≡ Some k.call
+pub innermost_of : (p : ℤ) (why : Waiting) (k : Kept) (ks : List Outer) → IsKept why (verb k ∷ ks)
+    → innermost (task_of p why (verb k ∷ ks)).entries ≡ Some k.call
 innermost_of p (forked m) k [] h = refl
 innermost_of p (forked m) k (x ∷ ks) h = absurd h
 innermost_of p (timed m v) k ks h = called_there k ks h

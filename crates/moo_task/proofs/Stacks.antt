@@ -1,5 +1,6 @@
 -- Stacks that are put down and taken up again, in the order in which they are stored.
-use Rattle.std.proofs.Common.{◌≡◌, ◌∙◌, ap, sym, refl, ℕ, zero, suc, ◌+◌, ◌-◌, ◌<◌, ◌≤◌, List, [], ◌∷◌, ◌++◌, length, map, reverse, take, drop, get_or, Some, arith}
+use Rattle.std.proofs.Common.{◌≡◌, ◌∙◌, ap, sym, refl, ℕ, zero, suc, ◌+◌, ◌-◌, ◌<◌, ◌≤◌}
+use Rattle.std.proofs.Common.{List, [], ◌∷◌, ◌++◌, length, map, reverse, take, drop, get_or, Some, arith}
 use Rattle.std.specs.Prelude.{slice_get}
 use Rattle.std.proofs.lemmas.List.{append-nil, reverse-append, reverse-reverse, take_more, take_all}
 use Rattle.std.proofs.lemmas.Option.{get_or_from_slice_get}
@@ -65,7 +66,8 @@ inside_of : (os : List Outer) (o : Outer) → slice_get os (length os - 1) ≡ S
 inside_of [] o h = cc
 inside_of (x ∷ os) o h = omega arith
 
-pub last_is_first : (os : List Outer) (o : Outer) → slice_get os (length os - 1) ≡ Some o → outers_of os ≡ outer_of o ∷ outers_of (take (length os - 1) os)
+pub last_is_first : (os : List Outer) (o : Outer) → slice_get os (length os - 1) ≡ Some o
+    → outers_of os ≡ outer_of o ∷ outers_of (take (length os - 1) os)
 last_is_first os o h =
     let small : length os - 1 < length os = inside_of os o h in
     let is : o ≡ get_or os (length os - 1) o = sym (get_or_from_slice_get os (length os - 1) o o h) in

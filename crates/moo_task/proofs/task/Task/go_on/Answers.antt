@@ -28,7 +28,8 @@ returns-in_ok-value-in-Timed-clause-pending c =
     goes_pending c.args.self.now c.args.value c.go_on.result
     (other_goes_on c.args.self.now c.self.inside.player _ (waiting_of c.self.inside.waiting) _ c.args.value c.in_ok-value-in-Timed.value
     (kept_of c.in_ok-frame.frame) (arc_value c.self.inside.verbs) c.in_ok-frame.outer c.go_on.result
-    c.self.view_is c.self.invariant (ap waiting_of c.in-Timed.is) tt c.in_ok-value-in-Timed.ensures.cases (sym c.deref.ensures ∙ c.in_ok-frame.ensures) player
+    c.self.view_is c.self.invariant (ap waiting_of c.in-Timed.is) tt c.in_ok-value-in-Timed.ensures.cases
+    (sym c.deref.ensures ∙ c.in_ok-frame.ensures) player
     c.go_on.ensures.kept c.go_on.ensures.player c.go_on.ensures.outer)
 
 pub returns-in_ok-value-in-Timed-clause-under_way : goal.returns-in_ok-value-in-Timed-clause-under_way
@@ -37,7 +38,8 @@ returns-in_ok-value-in-Timed-clause-under_way c =
     goes_under_way c.args.self.now c.args.value c.go_on.result
     (other_goes_on c.args.self.now c.self.inside.player _ (waiting_of c.self.inside.waiting) _ c.args.value c.in_ok-value-in-Timed.value
     (kept_of c.in_ok-frame.frame) (arc_value c.self.inside.verbs) c.in_ok-frame.outer c.go_on.result
-    c.self.view_is c.self.invariant (ap waiting_of c.in-Timed.is) tt c.in_ok-value-in-Timed.ensures.cases (sym c.deref.ensures ∙ c.in_ok-frame.ensures) player
+    c.self.view_is c.self.invariant (ap waiting_of c.in-Timed.is) tt c.in_ok-value-in-Timed.ensures.cases
+    (sym c.deref.ensures ∙ c.in_ok-frame.ensures) player
     c.go_on.ensures.kept c.go_on.ensures.player c.go_on.ensures.outer)
 
 pub returns-in-Idle-clause-pending : goal.returns-in-Idle-clause-pending

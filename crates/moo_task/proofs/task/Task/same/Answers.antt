@@ -16,5 +16,7 @@ returns-then-same_waiting c = elim c.if-self-other.branch [
         λ t. sym c.deref.ensures ∙ c.same_outers.ensures.0 t ∙ c.deref-then-same_waiting.ensures,
         λ t. c.same_outers.ensures.1 (c.deref.ensures ∙ t ∙ sym c.deref-then-same_waiting.ensures),
       )
-  | else-self-other w ↦ absurd (omega (arith, eqb-true (of_z w32 c.self.inside.player) (of_z w32 c.other.inside.player) (sym w.value-is ∙ c.if-same_waiting.true)))
+  | else-self-other w ↦
+      let equal = eqb-true (of_z w32 c.self.inside.player) (of_z w32 c.other.inside.player) (sym w.value-is ∙ c.if-same_waiting.true) in
+      absurd (omega arith)
 ]

@@ -1,3 +1,4 @@
 pub mod Sorts
 pub mod RowsKeep
 pub mod Calls
+pub mod Last

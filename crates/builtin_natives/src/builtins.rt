@@ -81,11 +81,13 @@ fn behind_one(alloc: Global, value: Value) -> Result<Value, AllocError>
 }
 
 // The last argument, 0 where there is none.
+#[tactic(auto, using(crate::proofs::Last::last_there, crate::proofs::Last::none_there))]
 fn last(arguments: &[Value]) -> Result<Value, AllocError>
     ensures { IfOk result (λ v. v ≡ new_object arguments.now) }
 {
-    match arguments {
-        [] => Ok(Value::integer(0)),
-        [.., object] => object.clone(),
+    let count = arguments.len();
+    if count == 0 {
+        return Ok(Value::integer(0));
     }
+    arguments[count - 1].clone()
 }

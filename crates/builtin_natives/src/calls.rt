@@ -88,11 +88,8 @@ fn act<V: View>(
         | WorldFunction::Parent
         | WorldFunction::Children
         | WorldFunction::MaxObject => of_objects(alloc, view, programmer, function, arguments),
-        WorldFunction::Properties
-        | WorldFunction::PropertyInfo
-        | WorldFunction::IsClearProperty => {
-            of_properties(alloc, view, programmer, function, arguments)
-        }
+        WorldFunction::Properties | WorldFunction::PropertyInfo | WorldFunction::IsClearProperty =>
+            { of_properties(alloc, view, programmer, function, arguments) }
         WorldFunction::ClearProperty | WorldFunction::SetPropertyInfo => {
             change_property(alloc, view, programmer, function, arguments)
         }
@@ -102,9 +99,7 @@ fn act<V: View>(
         WorldFunction::SetVerbInfo
         | WorldFunction::SetVerbArgs
         | WorldFunction::AddVerb
-        | WorldFunction::DeleteVerb => {
-            change_verb(alloc, view, programmer, function, arguments)
-        }
+        | WorldFunction::DeleteVerb => { change_verb(alloc, view, programmer, function, arguments) }
         _ => Err(AllocError),
     }
 }

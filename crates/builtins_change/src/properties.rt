@@ -54,7 +54,12 @@ pub fn set_property_info<V: View>(
     if !is_there(view, owner)? {
         return Ok(Err(MooError::InvalidArgument));
     }
-    put_slot(view, object, name, with_bits(slot, owner, bits.as_str().as_bytes()))?;
+    put_slot(
+        view,
+        object,
+        name,
+        with_bits(slot, owner, bits.as_str().as_bytes()),
+    )?;
     Ok(Ok(Value::integer(0)))
 }
 

@@ -99,12 +99,7 @@ fn put_verbs<V: View>(view: &mut V, object: i32, verbs: Verbs) -> Result<(), All
 }
 
 #[tactic(auto, using(crate::proofs::Changes::verb_set))]
-fn replaced(
-    alloc: Global,
-    verbs: &[Verb],
-    place: usize,
-    verb: Verb,
-) -> Result<Verbs, AllocError>
+fn replaced(alloc: Global, verbs: &[Verb], place: usize, verb: Verb) -> Result<Verbs, AllocError>
     requires { place < length verbs.now }
     ensures { IfOk result (λ vs. vs ≡ with_verb verbs.now place (λ u. verb)) }
 {

@@ -45,7 +45,7 @@ static SETS: [&[&str]; 15] = [
 ];
 
 /// The specifier that texts tell, or None where one of them tells nothing.
-pub fn specifier(words: &Words) -> Option<Specifier>
+pub fn read_specifier(words: &Words) -> Option<Specifier>
     ensures { option_map specifier_of result ≡ specifier_meant words.now.direct words.now.preposition words.now.indirect }
 {
     let direct = object_part(words.direct.as_str())?;

@@ -14,7 +14,7 @@ use crate::asked::is_there;
 use crate::bits::are_bits;
 use crate::made::{Info, has_names, new_verb};
 use crate::put::{lose, put_info, put_new, put_specifier};
-use crate::specifier::{Words, specifier};
+use crate::specifier::{Words, read_specifier};
 use builtins_world::own_verb::own_verb;
 use footprint::verb::Verb;
 use moo_value::answer::Answer;
@@ -52,7 +52,11 @@ pub fn set_verb_info<V: View>(
     if !may(view, programmer, &Act::WriteVerb(object, place))? {
         return Ok(Err(MooError::PermissionDenied));
     }
-    if !may(view, programmer, &Act::ChangeOwner(owner_of(verb), info.owner))? {
+    if !may(
+        view,
+        programmer,
+        &Act::ChangeOwner(owner_of(verb), info.owner),
+    )? {
         return Ok(Err(MooError::PermissionDenied));
     }
     if !fits(view, info)? {
@@ -87,10 +91,18 @@ pub fn set_verb_args<V: View>(
     if !may(view, programmer, &Act::WriteVerb(object, place))? {
         return Ok(Err(MooError::PermissionDenied));
     }
-    let Some(specifier) = specifier(words) else {
+    let Some(specifier) = read_specifier(words) else {
         return Ok(Err(MooError::InvalidArgument));
     };
-    put_specifier(alloc, view, object, verbs.as_slice(), place, verb, specifier)?;
+    put_specifier(
+        alloc,
+        view,
+        object,
+        verbs.as_slice(),
+        place,
+        verb,
+        specifier,
+    )?;
     Ok(Ok(Value::integer(0)))
 }
 
@@ -123,7 +135,7 @@ pub fn add_verb<V: View>(
     if !fits(view, info)? {
         return Ok(Err(MooError::InvalidArgument));
     }
-    let Some(specifier) = specifier(words) else {
+    let Some(specifier) = read_specifier(words) else {
         return Ok(Err(MooError::InvalidArgument));
     };
     let verb = new_verb(alloc, info, specifier)?;
@@ -181,6 +193,5 @@ fn fits<V: View>(view: &mut V, info: &Info) -> Result<bool, AllocError>
 fn is_well_told(info: &Info) -> bool
     ensures { result ≡ (are_bits_of (codes "rwxd") info.now.bits && not (is_none_named (names_in info.now.names))) }
 {
-    are_bits(b"rwxd", info.bits.as_str().as_bytes())
-        && has_names(info.names.as_str().as_bytes())
+    are_bits(b"rwxd", info.bits.as_str().as_bytes()) && has_names(info.names.as_str().as_bytes())
 }

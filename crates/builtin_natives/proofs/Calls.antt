@@ -10,11 +10,11 @@ use Rattle.spec_moo.specs.NativeEffect.{Caller, NativeEffect, answers}
 use Rattle.inherit.specs.Lines.{AreWellFormed}
 use Rattle.moo_value.specs.Answers.{answer_of}
 use Rattle.moo_value.specs.declared.error.MooError.{MooError}
-use Rattle.view.specs.Law.{Goes}
+use Rattle.view.specs.Law.{Goes, Tells}
 use Rattle.moo_frame.specs.declared.deeds.Deeds.{Deeds}
 use Rattle.moo_frame.specs.declared.running.Running.{Running}
 use Rattle.moo_run.specs.Scenes.{scene_at, caller_of}
-use Rattle.builtins_world.specs.Said.{Does, with_programmer}
+use Rattle.builtins_world.specs.Said.{Does, Says, with_programmer}
 use Rattle.builtin_natives.specs.Kept.{world_left, LeavesWell}
 
 -- any scene of a world, and any caller
@@ -57,6 +57,17 @@ module _ {V E : Type 0} (holds : V → World → Type 0) (now : V → World → 
       → IfOk r (λ a. Goes holds now old new (λ before after. Does row before after who (answer_of a))) → AreWellFormed holds now old → OnOk r (AreWellFormed holds now new)
   leaves_well (Err e) keeps told known = tt
   leaves_well (Ok a) keeps told known = λ w left. let t = told w left in does_well row (now old w) (now new w) who (answer_of a) keeps t.1 (known w t.0)
+
+  -- what only asks leaves the world as it was
+  pub told_well : (r : Result (Result Datum MooError) E)
+      → IfOk r (λ a. Tells holds now old new (λ w. Says row w who (answer_of a))) → AreWellFormed holds now old → OnOk r (AreWellFormed holds now new)
+  told_well (Err e) told known = tt
+  told_well (Ok a) told known = λ w left. let t = told w left in subst IsWellFormed (sym t.1.0) (known w t.0)
+
+  pub told_does : (r : Result (Result Datum MooError) E)
+      → IfOk r (λ a. Tells holds now old new (λ w. Says row w who (answer_of a))) → IfOk r (λ a. Goes holds now old new (λ before after. Does row before after who (answer_of a)))
+  told_does (Err e) told = tt
+  told_does (Ok a) told = λ w left. let t = told w left in (t.0, subst (λ u. Does row (now old w) u who (answer_of a)) (sym t.1.0) t.1.1)
 
 -- for the verb that runs
 pub for_running : (row : Scene → Caller → NativeEffect) (before after : World) (who : ℤ) (a : Answer) (d : Deeds) (r : Running) → who ≡ r.frame.call.programmer

@@ -22,7 +22,10 @@ use Rattle.spec_moo.specs.NativeEffect.{Caller, NativeEffect}
 use Rattle.spec_moo.specs.Natives.Rows.{if_there, is_valid}
 use Rattle.spec_moo.specs.Natives.Properties.{are_bits, with_slot_bits, set_property_info_row, defines_it, clear_property_row}
 use Rattle.spec_moo.specs.Natives.Verbs.{verb_place, if_verb, with_info, info_fits, set_verb_info_row, specifier, with_specifier, set_verb_args_row, new_verb, add_verb_row, delete_verb_row}
-use Rattle.builtin_natives.specs.Kept.{LeavesWell}
+use Rattle.builtin_table.specs.Functions.{row_of_function}
+use Rattle.builtin_table.specs.declared.world_function.WorldFunction.{WorldFunction}
+use Rattle.builtin_table.specs.declared.world_function.WorldFunction.TheVariants.{ClearProperty, SetPropertyInfo, SetVerbInfo, SetVerbArgs, AddVerb, DeleteVerb}
+use Rattle.builtin_natives.specs.Kept.{LeavesWell, changes}
 
 -- ---- checks: where one fails, nothing has changed
 
@@ -131,3 +134,12 @@ add_verb_keeps s c _ h = h
 pub delete_verb_keeps : (s : Scene) (c : Caller) (args : List Datum) → IsWellFormed s.world → LeavesWell (delete_verb_row s c args)
 delete_verb_keeps s c (object o ∷ d ∷ []) h = verb_there s o d _ h (λ n v. tested (may s.world c.call.programmer (change_members o)) _ _ h (λ k. deleted_verb s.world o n h))
 delete_verb_keeps s c _ h = h
+
+pub changing_keeps : (f : WorldFunction) → changes f ≡ true → (s : Scene) (c : Caller) (args : List Datum) → IsWellFormed s.world → LeavesWell ((row_of_function f).act s c args)
+changing_keeps ClearProperty e = clear_property_keeps
+changing_keeps SetPropertyInfo e = set_property_info_keeps
+changing_keeps SetVerbInfo e = set_verb_info_keeps
+changing_keeps SetVerbArgs e = set_verb_args_keeps
+changing_keeps AddVerb e = add_verb_keeps
+changing_keeps DeleteVerb e = delete_verb_keeps
+changing_keeps f e = absurd (cc e)

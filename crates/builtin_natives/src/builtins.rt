@@ -30,7 +30,7 @@ impl Natives for Builtins {
         &mut self,
         alloc: Global,
         view: &mut V,
-        _deeds: &mut Deeds,
+        deeds: &mut Deeds,
         task: &Running,
         name: &Text,
         arguments: Vec<Value>,
@@ -42,9 +42,9 @@ impl Natives for Builtins {
     fn resume<V: View>(
         &mut self,
         alloc: Global,
-        _view: &mut V,
-        _deeds: &mut Deeds,
-        _task: &Running,
+        view: &mut V,
+        deeds: &mut Deeds,
+        task: &Running,
         native: Native,
         value: Value,
     ) -> Result<NativeEffect, AllocError> {

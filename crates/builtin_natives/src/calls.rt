@@ -9,8 +9,8 @@ ghost use Rattle.builtin_table.specs.Functions.{row_of_function};
 ghost use Rattle.builtin_table.specs.Sorts.{Fit};
 ghost use Rattle.builtins_world.specs.Said.{Does};
 
-use crate::asking::{of_objects, of_properties, of_verbs};
-use crate::changing::{change_property, change_verb};
+use crate::asking::ask;
+use crate::changing::{change, changes};
 use builtin_table::function::Builtin;
 use builtin_table::world_function::WorldFunction;
 use builtins_value::function as values;
@@ -37,9 +37,9 @@ pub fn call<V: View>(
     ensures well_formed { OnOk result (AreWellFormed V.holds V.now view.new) }
 {
     match Builtin::from_name(name.as_str()) {
-        Some(Builtin::OfValues(function)) => values::call(alloc, function, arguments),
+        Some(Builtin::OfValues(function)) => Ok(values::call(alloc, function, arguments)?),
         Some(Builtin::OfWorld(function)) => {
-            call_checked(alloc, view, programmer, function, arguments.as_slice())
+            Ok(call_checked(alloc, view, programmer, function, arguments.as_slice())?)
         }
         None => Ok(Err(MooError::InvalidArgument)),
     }
@@ -61,7 +61,7 @@ fn call_checked<V: View>(
     ensures well_formed { OnOk result (AreWellFormed V.holds V.now view.new) }
 {
     match function.check(arguments) {
-        Ok(()) => act(alloc, view, programmer, function, arguments),
+        Ok(()) => Ok(act(alloc, view, programmer, function, arguments)?),
         Err(error) => Ok(Err(error)),
     }
 }
@@ -82,24 +82,8 @@ fn act<V: View>(
         (λ before after. Does (λ s c. (row_of_function function).act s c arguments.now) before after programmer (answer_of a))) }
     ensures well_formed { OnOk result (AreWellFormed V.holds V.now view.new) }
 {
-    match function {
-        WorldFunction::Valid
-        | WorldFunction::IsPlayer
-        | WorldFunction::Parent
-        | WorldFunction::Children
-        | WorldFunction::MaxObject => of_objects(alloc, view, programmer, function, arguments),
-        WorldFunction::Properties | WorldFunction::PropertyInfo | WorldFunction::IsClearProperty =>
-            { of_properties(alloc, view, programmer, function, arguments) }
-        WorldFunction::ClearProperty | WorldFunction::SetPropertyInfo => {
-            change_property(alloc, view, programmer, function, arguments)
-        }
-        WorldFunction::Verbs | WorldFunction::VerbInfo | WorldFunction::VerbArgs => {
-            of_verbs(alloc, view, programmer, function, arguments)
-        }
-        WorldFunction::SetVerbInfo
-        | WorldFunction::SetVerbArgs
-        | WorldFunction::AddVerb
-        | WorldFunction::DeleteVerb => { change_verb(alloc, view, programmer, function, arguments) }
-        _ => Err(AllocError),
+    if changes(function) {
+        return change(alloc, view, programmer, function, arguments);
     }
+    ask(alloc, view, programmer, function, arguments)
 }

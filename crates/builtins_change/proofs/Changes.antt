@@ -23,7 +23,8 @@ verb_set (u ∷ vs) zero v = refl
 verb_set (u ∷ vs) (suc n) v = ap (λ us. u ∷ us) (verb_set vs n v)
 
 pub verb_removed : (vs : List Verb) (n : ℕ) → remove vs n ≡ without_verb vs n
-verb_removed [] n = refl
+verb_removed [] zero = refl
+verb_removed [] (suc n) = refl
 verb_removed (u ∷ vs) zero = refl
 verb_removed (u ∷ vs) (suc n) = ap (λ us. u ∷ us) (verb_removed vs n)
 

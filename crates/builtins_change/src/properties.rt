@@ -1,10 +1,12 @@
 //! Properties that are changed (Programmer's Manual, "Operations on Properties").
-ghost use Rattle.std.specs.Prelude.{◌≡◌, [], ◌∷◌, IfOk};
+ghost use Rattle.std.specs.Prelude.{◌≡◌, ◌&&◌, [], ◌∷◌, is_some, codes, IfOk};
 ghost use Rattle.spec_value.specs.Datum.{object as object_of, text as text_value};
-ghost use Rattle.spec_moo.specs.Natives.Properties.{set_property_info_row, with_slot_bits};
+ghost use Rattle.spec_world.specs.World.{object_at};
+ghost use Rattle.spec_moo.specs.Natives.Properties.{are_bits as are_bits_of, set_property_info_row, with_slot_bits};
 ghost use Rattle.moo_value.specs.Answers.{answer_of};
-ghost use Rattle.view.specs.Law.{Goes, Lasts};
+ghost use Rattle.view.specs.Law.{Goes, Lasts, Tells};
 ghost use Rattle.builtins_world.specs.Said.{Does};
+ghost use Rattle.builtins_change.specs.Later.{slot_given};
 ghost use Rattle.builtins_change.specs.Listed.{owner_and_bits};
 
 use crate::asked::is_there;
@@ -45,13 +47,29 @@ pub fn set_property_info<V: View>(
     if !may(view, programmer, &Act::WriteSlot(object, name.clone()?))? {
         return Ok(Err(MooError::PermissionDenied));
     }
+    let answer = give_slot(view, programmer, object, name, slot, owner, bits)?;
+    Ok(answer)
+}
+
+// A slot that may be written has another owner and other bits.
+fn give_slot<V: View>(
+    view: &mut V,
+    programmer: i32,
+    object: i32,
+    name: &Text,
+    slot: Slot,
+    owner: i32,
+    bits: &Text,
+) -> Result<Answer, AllocError>
+    requires home { V.holds view.old (V.home view.old) }
+    ensures lasts { Lasts V.holds V.home V.anchor view.old view.new result }
+    ensures left { IfOk result (λ a. Goes V.holds V.now view.old view.new
+        (λ before after. Does (slot_given object name.now slot owner bits.now) before after programmer (answer_of a))) }
+{
     if !may(view, programmer, &Act::ChangeOwner(owner_of(&slot), owner))? {
         return Ok(Err(MooError::PermissionDenied));
     }
-    if !are_bits(b"rwc", bits.as_str().as_bytes()) {
-        return Ok(Err(MooError::InvalidArgument));
-    }
-    if !is_there(view, owner)? {
+    if !fits(view, owner, bits)? {
         return Ok(Err(MooError::InvalidArgument));
     }
     put_slot(
@@ -61,6 +79,18 @@ pub fn set_property_info<V: View>(
         with_bits(slot, owner, bits.as_str().as_bytes()),
     )?;
     Ok(Ok(Value::integer(0)))
+}
+
+// Whether the bits are those of slots, and the owner is there.
+fn fits<V: View>(view: &mut V, owner: i32, bits: &Text) -> Result<bool, AllocError>
+    requires home { V.holds view.old (V.home view.old) }
+    ensures lasts { Lasts V.holds V.home V.anchor view.old view.new result }
+    ensures left { IfOk result (λ b. Tells V.holds V.now view.old view.new (λ w. (are_bits_of (codes "rwc") bits.now && is_some (object_at w owner)) ≡ b)) }
+{
+    if !are_bits(b"rwc", bits.as_str().as_bytes()) {
+        return Ok(false);
+    }
+    is_there(view, owner)
 }
 
 fn owner_of(slot: &Slot) -> i32

@@ -1,20 +1,24 @@
 //! Verbs that are changed (Programmer's Manual, "Operations Involving Verbs").
-ghost use Rattle.std.specs.Prelude.{◌≡◌, ◌&&◌, [], ◌∷◌, not, is_some, codes, IfOk};
+ghost use Rattle.std.specs.Prelude.{◌≡◌, ◌&&◌, [], ◌∷◌, not, is_some, option_map, Some, codes, IfOk};
 ghost use Rattle.spec_value.specs.Datum.{object as object_of};
 ghost use Rattle.spec_world.specs.World.{object_at};
+ghost use Rattle.spec_world.specs.Permissions.{in_place};
+ghost use Rattle.spec_world.specs.Questions.{verbs_at};
 ghost use Rattle.spec_world.specs.VerbNames.{names_in};
 ghost use Rattle.spec_moo.specs.Natives.Properties.{are_bits as are_bits_of};
 ghost use Rattle.spec_moo.specs.Natives.Verbs.{set_verb_info_row, set_verb_args_row, add_verb_row, delete_verb_row, is_none_named};
 ghost use Rattle.moo_value.specs.Answers.{answer_of};
 ghost use Rattle.view.specs.Law.{Goes, Lasts, Tells};
 ghost use Rattle.builtins_world.specs.Said.{Does};
+ghost use Rattle.builtins_change.specs.Later.{verb_given, specified, added, added_owned};
 ghost use Rattle.builtins_change.specs.Listed.{info_given, words_given};
+ghost use Rattle.builtins_change.specs.Specifiers.{specifier_of};
 
 use crate::asked::is_there;
 use crate::bits::are_bits;
 use crate::made::{Info, has_names, new_verb};
 use crate::put::{lose, put_info, put_new, put_specifier};
-use crate::specifier::{Words, read_specifier};
+use crate::specifier::{Specifier, Words, read_specifier};
 use builtins_world::own_verb::own_verb;
 use footprint::verb::Verb;
 use moo_value::answer::Answer;
@@ -82,6 +86,24 @@ pub fn set_verb_args<V: View>(
         (λ before after. Does (λ s c. set_verb_args_row s c (object_of object ∷ which.now ∷ words_given words.now ∷ []))
         before after programmer (answer_of a))) }
 {
+    let specifier = read_specifier(words);
+    specify(alloc, view, programmer, object, which, specifier)
+}
+
+// A verb has another specifier, if there is one.
+fn specify<V: View>(
+    alloc: Global,
+    view: &mut V,
+    programmer: i32,
+    object: i32,
+    which: &Value,
+    specifier: Option<Specifier>,
+) -> Result<Answer, AllocError>
+    requires home { V.holds view.old (V.home view.old) }
+    ensures lasts { Lasts V.holds V.home V.anchor view.old view.new result }
+    ensures left { IfOk result (λ a. Goes V.holds V.now view.old view.new
+        (λ before after. Does (specified (option_map specifier_of specifier) object which.now) before after programmer (answer_of a))) }
+{
     let Some(verbs) = read_verbs(view, object)? else {
         return Ok(Err(MooError::InvalidArgument));
     };
@@ -91,7 +113,7 @@ pub fn set_verb_args<V: View>(
     if !may(view, programmer, &Act::WriteVerb(object, place))? {
         return Ok(Err(MooError::PermissionDenied));
     }
-    let Some(specifier) = read_specifier(words) else {
+    let Some(specifier) = specifier else {
         return Ok(Err(MooError::InvalidArgument));
     };
     put_specifier(
@@ -123,23 +145,68 @@ pub fn add_verb<V: View>(
         (λ before after. Does (λ s c. add_verb_row s c (object_of object ∷ info_given info.now ∷ words_given words.now ∷ []))
         before after programmer (answer_of a))) }
 {
+    let specifier = read_specifier(words);
+    add(alloc, view, programmer, object, info, specifier)
+}
+
+// An object has one more verb, if there is a specifier.
+fn add<V: View>(
+    alloc: Global,
+    view: &mut V,
+    programmer: i32,
+    object: i32,
+    info: &Info,
+    specifier: Option<Specifier>,
+) -> Result<Answer, AllocError>
+    requires home { V.holds view.old (V.home view.old) }
+    ensures lasts { Lasts V.holds V.home V.anchor view.old view.new result }
+    ensures left { IfOk result (λ a. Goes V.holds V.now view.old view.new
+        (λ before after. Does (added (option_map specifier_of specifier) object info.now) before after programmer (answer_of a))) }
+{
     let Some(verbs) = read_verbs(view, object)? else {
         return Ok(Err(MooError::InvalidArgument));
     };
     if !may(view, programmer, &Act::ChangeMembers(object))? {
         return Ok(Err(MooError::PermissionDenied));
     }
+    let answer = add_owned(
+        alloc,
+        view,
+        programmer,
+        object,
+        verbs.as_slice(),
+        info,
+        specifier,
+    )?;
+    Ok(answer)
+}
+
+// An object that may have more verbs has one more.
+fn add_owned<V: View>(
+    alloc: Global,
+    view: &mut V,
+    programmer: i32,
+    object: i32,
+    verbs: &[Verb],
+    info: &Info,
+    specifier: Option<Specifier>,
+) -> Result<Answer, AllocError>
+    requires home { V.holds view.old (V.home view.old) }
+    ensures lasts { Lasts V.holds V.home V.anchor view.old view.new result }
+    ensures left { IfOk result (λ a. Goes V.holds V.now view.old view.new (λ before after. verbs_at before object ≡ Some verbs.now →
+        Does (added_owned (option_map specifier_of specifier) object info.now) before after programmer (answer_of a))) }
+{
     if !may(view, programmer, &Act::ChangeOwner(programmer, info.owner))? {
         return Ok(Err(MooError::PermissionDenied));
     }
     if !fits(view, info)? {
         return Ok(Err(MooError::InvalidArgument));
     }
-    let Some(specifier) = read_specifier(words) else {
+    let Some(specifier) = specifier else {
         return Ok(Err(MooError::InvalidArgument));
     };
     let verb = new_verb(alloc, info, specifier)?;
-    put_new(alloc, view, object, verbs.as_slice(), verb)?;
+    put_new(alloc, view, object, verbs, verb)?;
     Ok(Ok(Value::integer(0)))
 }
 

@@ -1,11 +1,11 @@
 -- How a walk from parents to children goes.
-use Rattle.std.proofs.Common.{◌≡◌, ◌⊎◌, inl, inr, ℕ, zero, suc, ◌+◌, ◌<◌, ◌≤◌, ℤ, pos, Bool, true, false, ◌||◌, List, [], ◌∷◌, ◌++◌, length, get_or, take, Option, Some, None, refl, sym, ap, ◌∙◌, subst, IsTrue, is_some, arith}
+use Rattle.std.proofs.Common.{◌≡◌, ◌⊎◌, inl, inr, ℕ, zero, suc, ◌+◌, ◌<◌, ◌≤◌, ℤ, pos, Bool, true, false, ◌||◌, List, [], ◌∷◌, ◌++◌, length, get_or, take, Option, Some, None, refl, sym, ap, ◌∙◌, subst, IsTrue, is_some, is_none, arith}
 use Rattle.std.specs.Prelude.{option_map}
 use Rattle.std.specs.Ordering.{int_eq}
 use Rattle.std.specs.List.{list_any}
 use Rattle.std.proofs.lemmas.List.{list_any-append}
 use Rattle.spec_value.proofs.Same.{same_integer, integer_itself}
-use Rattle.spec_world.specs.World.{World, Object, object_at}
+use Rattle.spec_world.specs.World.{World, Header, Object, object_at}
 use Rattle.spec_world.specs.WellFormed.{IsWellFormed, lists}
 use Rattle.spec_world.specs.Families.{nowhere, is_below}
 use Rattle.spec_world.specs.Questions.{header_at, children_at}
@@ -56,7 +56,7 @@ module _ (w : World) (sound : IsWellFormed w) (o : ℤ) where
       go None e = let clash : None ≡ Some cs = sym (ap (option_map (λ z. z.children)) e) ∙ is in absurd (cc clash)
       go (Some x) e = (x, e, some_same (sym (ap (option_map (λ z. z.children)) e) ∙ is))
 
-  below_itself : IsTrue (is_some (object_at w o)) → IsTrue (is_below w o o)
+  pub below_itself : IsTrue (is_some (object_at w o)) → IsTrue (is_below w o o)
   below_itself there = go (object_at w o) refl there
     where
       by : (x : Object) → object_at w o ≡ Some x → (ps : List ℤ) → Path (parents w) o ps → IsTrue (lists ps o)
@@ -141,10 +141,19 @@ module _ (w : World) (sound : IsWellFormed w) (o : ℤ) where
           go (inr e) later = let m : IsTrue (lists ps o) = ap (λ b. b || lists ps o) (sym e) ∙ l in further m (later m) (tree.above d way.1.0 way.1.1)
 
   -- of an object that is not there
-  pub no_family : header_at w o ≡ None → IsFamily w o []
-  no_family gone d = same_tests false (is_below w o d) (λ l. absurd (cc l)) (λ under. let way = path_from (parents w) tree d in never (on_path (parents w) o d way.0 way.1 (sym (along d way.0 way.1) ∙ under)))
+  pub no_family : (h : Option Header) → header_at w o ≡ h → is_none h ≡ true → IsFamily w o []
+  no_family (Some h) is none = absurd (cc none)
+  no_family None gone none d = same_tests false (is_below w o d) (λ l. absurd (cc l)) (λ under. let way = path_from (parents w) tree d in never (on_path (parents w) o d way.0 way.1 (sym (along d way.0 way.1) ∙ under)))
     where
       never : (x : Node) × (parents w o ≡ Some x) → IsTrue false
       never n =
           let x = object_there (λ z. z.header.parent) (λ z. z.children) w o n.0 n.1 in
           let clash : None ≡ Some (x.0).header = sym gone ∙ ap (option_map (λ z. z.header)) x.1.0 in absurd (cc clash)
+
+pub shown_there : (w : World) (o : ℤ) (h : Option Header) → header_at w o ≡ h → is_none h ≡ false → IsTrue (is_some (object_at w o))
+shown_there w o h is some = go (object_at w o) h is some
+  where
+    go : (m : Option Object) (h : Option Header) → option_map (λ x. x.header) m ≡ h → is_none h ≡ false → IsTrue (is_some m)
+    go None None e k = absurd (cc k)
+    go None (Some i) e k = absurd (cc e)
+    go (Some x) h e k = refl

@@ -25,8 +25,7 @@ pub fn below<V: View>(alloc: Global, view: &mut V, object: i32) -> Result<Vec<i3
     if header.is_none() {
         return Ok(Vec::new(alloc));
     }
-    let found = walk(alloc, view, object)?;
-    Ok(found)
+    walk(alloc, view, object)
 }
 
 // Of an object that is there.

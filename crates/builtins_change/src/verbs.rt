@@ -56,6 +56,36 @@ pub fn set_verb_info<V: View>(
     if !may(view, programmer, &Act::WriteVerb(object, place))? {
         return Ok(Err(MooError::PermissionDenied));
     }
+    let answer = give_info(
+        alloc,
+        view,
+        programmer,
+        object,
+        verbs.as_slice(),
+        place,
+        verb,
+        info,
+    )?;
+    Ok(answer)
+}
+
+// A verb that may be written has another owner, other bits and names.
+fn give_info<V: View>(
+    alloc: Global,
+    view: &mut V,
+    programmer: i32,
+    object: i32,
+    verbs: &[Verb],
+    place: usize,
+    verb: &Verb,
+    info: &Info,
+) -> Result<Answer, AllocError>
+    requires home { V.holds view.old (V.home view.old) }
+    requires there { in_place verbs.now place ≡ Some verb.now }
+    ensures lasts { Lasts V.holds V.home V.anchor view.old view.new result }
+    ensures left { IfOk result (λ a. Goes V.holds V.now view.old view.new (λ before after. verbs_at before object ≡ Some verbs.now →
+        Does (verb_given object place verb.now info.now) before after programmer (answer_of a))) }
+{
     if !may(
         view,
         programmer,
@@ -66,7 +96,7 @@ pub fn set_verb_info<V: View>(
     if !fits(view, info)? {
         return Ok(Err(MooError::InvalidArgument));
     }
-    put_info(alloc, view, object, verbs.as_slice(), place, verb, info)?;
+    put_info(alloc, view, object, verbs, place, verb, info)?;
     Ok(Ok(Value::integer(0)))
 }
 

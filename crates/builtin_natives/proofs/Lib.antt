@@ -1,4 +1,2 @@
-pub mod Sorts
-pub mod RowsKeep
-pub mod Calls
+pub mod Called
 pub mod Last

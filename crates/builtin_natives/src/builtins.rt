@@ -9,7 +9,7 @@ ghost use Rattle.spec_moo.specs.Natives.Objects.{new_object};
 ghost use Rattle.moo_value.specs.Answers.{answer_of};
 ghost use Rattle.moo_frame.specs.Frames.{native_of};
 
-use crate::calls;
+use builtin_calls::calls;
 use moo_frame::deeds::Deeds;
 use moo_frame::effect::NativeEffect;
 use moo_frame::native::{Native, NativeName};

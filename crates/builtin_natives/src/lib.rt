@@ -1,12 +1,7 @@
 //! The built-in functions, as tasks call them (Programmer's Manual, "Built-in Functions").
 //!
-//! A call of a function that is not there yet answers `Err(AllocError)`, as if memory were refused: `players`, `create`,
-//! `recycle`, `chparent`, `move`, `set_player_flag`, `add_property`, `delete_property`, `verb_code`, `set_verb_code`, `eval`, and
-//! all of "Operations on Tasks" and "Operations on Network Connections".
+//! A function that is not there yet answers `Err(AllocError)`, as if memory were refused; `builtin_calls` names them. So do
+//! `move` and `recycle` when they go on with the value of a verb.
 #![tactic(auto)]
 
-mod arguments;
-mod asking;
 pub mod builtins;
-mod calls;
-mod changing;

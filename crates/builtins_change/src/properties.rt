@@ -2,9 +2,11 @@
 ghost use Rattle.std.specs.Prelude.{◌≡◌, ◌&&◌, [], ◌∷◌, is_some, codes, IfOk};
 ghost use Rattle.spec_value.specs.Datum.{object as object_of, text as text_value};
 ghost use Rattle.spec_world.specs.World.{object_at};
+ghost use Rattle.spec_world.specs.Permissions.{write_slot};
 ghost use Rattle.spec_moo.specs.Natives.Properties.{are_bits as are_bits_of, set_property_info_row, with_slot_bits};
 ghost use Rattle.moo_value.specs.Answers.{answer_of};
 ghost use Rattle.view.specs.Law.{Goes, Lasts, Tells};
+ghost use Rattle.permissions.specs.Acts.{act_of};
 ghost use Rattle.builtins_world.specs.Said.{Does};
 ghost use Rattle.builtins_change.specs.Later.{slot_given};
 ghost use Rattle.builtins_change.specs.Listed.{owner_and_bits};
@@ -44,11 +46,19 @@ pub fn set_property_info<V: View>(
         let error = missing(view, object)?;
         return Ok(Err(error));
     };
-    if !may(view, programmer, &Act::WriteSlot(object, name.clone()?))? {
+    let act = writing(object, name)?;
+    let allowed = may(view, programmer, &act)?;
+    if !allowed {
         return Ok(Err(MooError::PermissionDenied));
     }
     let answer = give_slot(view, programmer, object, name, slot, owner, bits)?;
     Ok(answer)
+}
+
+fn writing(object: i32, name: &Text) -> Result<Act, AllocError>
+    ensures { IfOk result (λ a. act_of a ≡ write_slot object name.now) }
+{
+    Ok(Act::WriteSlot(object, name.clone()?))
 }
 
 // A slot that may be written has another owner and other bits.

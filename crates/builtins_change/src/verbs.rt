@@ -53,7 +53,8 @@ pub fn set_verb_info<V: View>(
     let Some((place, verb)) = own_verb(verbs.as_slice(), which) else {
         return Ok(Err(MooError::VerbNotFound));
     };
-    if !may(view, programmer, &Act::WriteVerb(object, place))? {
+    let allowed = may(view, programmer, &Act::WriteVerb(object, place))?;
+    if !allowed {
         return Ok(Err(MooError::PermissionDenied));
     }
     let answer = give_info(
@@ -196,7 +197,8 @@ fn add<V: View>(
     let Some(verbs) = read_verbs(view, object)? else {
         return Ok(Err(MooError::InvalidArgument));
     };
-    if !may(view, programmer, &Act::ChangeMembers(object))? {
+    let allowed = may(view, programmer, &Act::ChangeMembers(object))?;
+    if !allowed {
         return Ok(Err(MooError::PermissionDenied));
     }
     let answer = add_owned(

@@ -12,10 +12,12 @@ use Rattle.spec_world.specs.World.{World, Object, object_at}
 use Rattle.spec_world.specs.WellFormed.{IsWellFormed, lists}
 use Rattle.spec_world.specs.Families.{change_at, change_object, change_each, changed_each, is_below}
 use Rattle.spec_world.specs.Members.{property_deleted, lose_slot, not_defining}
-use Rattle.spec_world.specs.Questions.{defines_at}
+use Rattle.spec_world.specs.Questions.{Part, defines_at, apply, new_part, new_slot, new_defines}
 use Rattle.spec_world.proofs.Trees.{same_or_not, some_same}
 use Rattle.spec_world.proofs.Households.{at_each, each_numbered, change_numbered}
 use Rattle.spec_world.proofs.ObjectChanges.{at_change}
+use Rattle.inherit.specs.Lines.{AreWellFormed}
+use Rattle.view.specs.Law.{Goes, Tells}
 use Rattle.family.specs.Below.{IsFamily}
 use Rattle.family.proofs.Walking.{below_itself}
 use Rattle.builtins_family.specs.InTurn.{in_turn}
@@ -131,3 +133,27 @@ module _ (w : World) (sound : IsWellFormed w) (o : ℤ) (p : Text) (ds : List �
   pub deleted_so : (us : List Text) → us ≡ filter (λ q. not (same_text (fold_case p) (fold_case q))) ts
       → in_turn (λ x. lose_slot x p) ds (change_object w o (λ x. record x { defines = us })) ≡ property_deleted w o p
   deleted_so us so = ap (in_turn (λ x. lose_slot x p) ds) (others_so us so) ∙ deleted_in_turn
+
+-- ---- over a view
+
+-- one object loses a slot
+pub lost_told : {V A E : Type 0} (holds : V → World → Type 0) (now : V → World → World) (old new : V) (r : Result A E) (o : ℤ) (p : Text) (a : Part) → a ≡ new_slot p None
+    → OnOk r (Goes holds now old new (λ before after. after ≡ apply (new_part o a) before)) → OnOk r (Goes holds now old new (λ before after. after ≡ change_object before o (λ x. lose_slot x p)))
+lost_told holds now old new (Err e) o p a is told = tt
+lost_told holds now old new (Ok x) o p a is told = λ w left. let t = told w left in (t.0, t.1 ∙ ap (λ b. apply (new_part o b) (now old w)) is)
+
+-- the object has other names, and each below it loses the slot
+pub taken_told : {V A E : Type 0} (holds : V → World → Type 0) (now : V → World → World) (a b c d : V) (r : Result A E) (o : ℤ) (p : Text) (ds : List ℤ) (ts us : List Text)
+    → AreWellFormed holds now a → Tells holds now a b (λ w. IsFamily w o ds) → us ≡ filter (λ q. not (same_text (fold_case p) (fold_case q))) ts
+    → Goes holds now b c (λ before after. after ≡ apply (new_part o (new_defines us)) before)
+    → OnOk r (Goes holds now c d (λ before after. after ≡ in_turn (λ x. lose_slot x p) ds before))
+    → OnOk r (Goes holds now a d (λ before after. defines_at before o ≡ Some ts → after ≡ property_deleted before o p))
+taken_told holds now a b c d (Err e) o p ds ts us known family so named lost = tt
+taken_told holds now a b c d (Ok x) o p ds ts us known family so named lost = λ w left.
+    let u = lost w left in
+    let t = named w u.0 in
+    let s = family w t.0 in (
+      s.0,
+      λ is. u.1 ∙ ap (in_turn (λ y. lose_slot y p) ds) (t.1 ∙ ap (apply (new_part o (new_defines us))) s.1.0)
+          ∙ deleted_so (now a w) (known w s.0) o p ds s.1.1 ts is us so,
+    )

@@ -46,7 +46,8 @@ pub fn delete_property<V: View>(
     if !has_name(names.as_slice(), name) {
         return Ok(Err(MooError::PropertyNotFound));
     }
-    if !may(view, programmer, &Act::ChangeMembers(object))? {
+    let allowed = may(view, programmer, &Act::ChangeMembers(object))?;
+    if !allowed {
         return Ok(Err(MooError::PermissionDenied));
     }
     take_out(alloc, view, object, names.as_slice(), name)?;

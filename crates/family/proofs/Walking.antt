@@ -29,7 +29,7 @@ in_second xs ys c h = in_both xs ys c ∙ second_of (lists xs c) (lists ys c) h
 in_either : (xs ys : List ℤ) (c : ℤ) → IsTrue (lists (xs ++ ys) c) → IsTrue (lists xs c) ⊎ IsTrue (lists ys c)
 in_either xs ys c h = either (lists xs c) (lists ys c) (sym (in_both xs ys c) ∙ h)
 
-one_further : (ds es : List ℤ) (n : ℕ) (at : ℤ) → n < length ds → at ≡ get_or ds n at → take (n + 1) (ds ++ es) ≡ take n ds ++ at ∷ []
+one_further : (ds es : List ℤ) (n : ℕ) (at : ℤ) → n < length ds → at ≡ get_or ds n (pos 0) → take (n + 1) (ds ++ es) ≡ take n ds ++ at ∷ []
 one_further [] es n at h is = absurd (omega (arith, h))
 one_further (d ∷ ds) es zero at h is = ap (λ x. x ∷ []) (sym is)
 one_further (d ∷ ds) es (suc n) at h is = ap (λ xs. d ∷ xs) (one_further ds es n at (omega (arith, h)) is)
@@ -83,13 +83,13 @@ module _ (w : World) (sound : IsWellFormed w) (o : ℤ) where
     closed = λ d cs l is c k. absurd (cc l);
   }
 
-  pub walk_goes_on : (n : ℕ) (ds es : List ℤ) (at : ℤ) → n < length ds → at ≡ get_or ds n at → Walked w o n ds → es ≡ ds ++ among (children_at w at) → Walked w o (n + 1) es
+  pub walk_goes_on : (n : ℕ) (ds es : List ℤ) (at : ℤ) → n < length ds → at ≡ get_or ds n (pos 0) → Walked w o n ds → es ≡ ds ++ among (children_at w at) → Walked w o (n + 1) es
   walk_goes_on n ds es at within is walked grown = subst (Walked w o (n + 1)) (sym grown) (record { begins = in_first ds more o walked.begins; below = below; closed = closed })
     where
       more : List ℤ
       more = among (children_at w at)
 
-      at_listed : (ds : List ℤ) (n : ℕ) → n < length ds → at ≡ get_or ds n at → IsTrue (lists ds at)
+      at_listed : (ds : List ℤ) (n : ℕ) → n < length ds → at ≡ get_or ds n (pos 0) → IsTrue (lists ds at)
       at_listed [] n h e = absurd (omega (arith, h))
       at_listed (d ∷ ds) zero h e = first_of (int_eq at d) (lists ds at) (subst (λ z. IsTrue (int_eq at z)) e (integer_itself at))
       at_listed (d ∷ ds) (suc n) h e = second_of (int_eq at d) (lists ds at) (at_listed ds n (omega (arith, h)) e)

@@ -39,7 +39,8 @@ fn walk<V: View>(alloc: Global, view: &mut V, object: i32) -> Result<Vec<i32>, A
     let mut family = Vec::new(alloc);
     family.push(object)?;
     for done in 0..MOST_OBJECTS {
-        if done >= family.len() {
+        let count = family.len();
+        if done >= count {
             return Ok(family);
         }
         let at = family[done];

@@ -1,4 +1,4 @@
-use Rattle.std.proofs.Common.{◌≡◌, ◌+◌, ◌++◌, get_or, pos, refl, sym, ◌∙◌, subst, rules, w32, to_z, of_z}
+use Rattle.std.proofs.Common.{◌≡◌, ◌+◌, ◌++◌, get_or, pos, refl, sym, ◌∙◌, subst, rules, arith, w32, to_z, of_z}
 use Rattle.std.proofs.lemmas.Int.{to_z-of_z}
 use Rattle.spec_world.specs.Questions.{children_at}
 use Rattle.inherit.proofs.Tellings.{known_on, told_as, told_before, told_on}
@@ -19,17 +19,27 @@ loop-done-init g c =
           (λ w is. subst (Walked (g.V.View.now c.args.view.now w) c.args.object 0) (sym (rw object at c.in_ok-push.ensures.items)) (walk_begins (g.V.View.now c.args.view.now w) (c.requires.well_formed w is) c.args.object (c.requires.there w is)));
     }
 
-pub returns-then-done-family-clause-left : goal.returns-then-done-family-clause-left
-returns-then-done-family-clause-left g c =
+pub returns-then-done-count-clause-left : goal.returns-then-done-count-clause-left
+returns-then-done-count-clause-left g c =
     told_as g.V.View.holds g.V.View.now c.args.view.now c.loop-done.view (λ w. Walked w c.args.object c.loop-done.done c.loop-done.family.items) (λ w. IsFamily w c.args.object c.loop-done.family.items)
-    c.requires.well_formed c.loop-done.invariant.left (λ w sound so. walk_ends w sound c.args.object c.loop-done.done c.loop-done.family.items ? so)
+    c.requires.well_formed c.loop-done.invariant.left (λ w sound so. walk_ends w sound c.args.object c.loop-done.done c.loop-done.family.items (omega (arith, c.if-done-count.true)) so)
 
 pub loop-done-preserved : goal.loop-done-preserved
 loop-done-preserved g c =
+    let item : to_z w32 (of_z w32 (get_or c.loop-done.family.items c.loop-done.done (pos 0))) ≡ get_or c.loop-done.family.items c.loop-done.done (pos 0) = search rules in
     record {
       anchor = c.in_ok-add_children.ensures.lasts.anchor_stays ∙ c.loop-done.invariant.anchor;
       home = c.in_ok-add_children.ensures.lasts.home_stays ∙ c.loop-done.invariant.home;
       there = c.in_ok-add_children.ensures.lasts.home_is_left;
-      well_formed = ?;
-      left = ?;
+      well_formed =
+          known_on g.V.View.holds g.V.View.now c.loop-done.view c.add_children.new.view
+          (λ w. c.add_children.new.family.items ≡ c.loop-done.family.items ++ among (children_at w (get_or c.loop-done.family.items c.loop-done.done (pos 0)))) c.loop-done.invariant.well_formed
+          (rw item at c.in_ok-add_children.ensures.left);
+      left =
+          told_on g.V.View.holds g.V.View.now c.args.view.now c.loop-done.view c.add_children.new.view (λ w. Walked w c.args.object c.loop-done.done c.loop-done.family.items)
+          (λ w. c.add_children.new.family.items ≡ c.loop-done.family.items ++ among (children_at w (get_or c.loop-done.family.items c.loop-done.done (pos 0))))
+          (λ w. Walked w c.args.object (c.loop-done.done + 1) c.add_children.new.family.items)
+          c.requires.well_formed c.loop-done.invariant.left (rw item at c.in_ok-add_children.ensures.left)
+          (λ w sound so grown. walk_goes_on w sound c.args.object c.loop-done.done c.loop-done.family.items c.add_children.new.family.items (get_or c.loop-done.family.items c.loop-done.done (pos 0))
+          (omega (arith, c.if-done-count.false)) refl so grown);
     }

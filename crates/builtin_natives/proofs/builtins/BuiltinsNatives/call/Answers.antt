@@ -1,7 +1,7 @@
 use Rattle.std.proofs.Common.{◌≡◌, rules, w32, to_z, of_z}
 use Rattle.spec_moo.specs.Natives.{native}
 use Rattle.moo_value.specs.Answers.{answer_of}
-use Rattle.builtin_natives.proofs.Calls.{for_running}
+use Rattle.builtin_natives.proofs.Called.{for_running}
 use Rattle.builtin_natives.proofs.builtins.BuiltinsNatives.call.Goals as goal
 
 pub returns-clause-does : goal.returns-clause-does

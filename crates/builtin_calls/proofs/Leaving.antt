@@ -11,11 +11,8 @@ use Rattle.inherit.specs.Lines.{AreWellFormed}
 use Rattle.moo_value.specs.Answers.{answer_of}
 use Rattle.moo_value.specs.declared.error.MooError.{MooError}
 use Rattle.view.specs.Law.{Goes, Tells}
-use Rattle.moo_frame.specs.declared.deeds.Deeds.{Deeds}
-use Rattle.moo_frame.specs.declared.running.Running.{Running}
-use Rattle.moo_run.specs.Scenes.{scene_at, caller_of}
 use Rattle.builtins_world.specs.Said.{Does, Says, with_programmer}
-use Rattle.builtin_natives.specs.Kept.{world_left, LeavesWell}
+use Rattle.builtin_calls.specs.Kept.{world_left, LeavesWell}
 
 -- any scene of a world, and any caller
 some_scene : World → Scene
@@ -68,9 +65,3 @@ module _ {V E : Type 0} (holds : V → World → Type 0) (now : V → World → 
       → IfOk r (λ a. Tells holds now old new (λ w. Says row w who (answer_of a))) → IfOk r (λ a. Goes holds now old new (λ before after. Does row before after who (answer_of a)))
   told_does (Err e) told = tt
   told_does (Ok a) told = λ w left. let t = told w left in (t.0, subst (λ u. Does row (now old w) u who (answer_of a)) (sym t.1.0) t.1.1)
-
--- for the verb that runs
-pub for_running : (row : Scene → Caller → NativeEffect) (before after : World) (who : ℤ) (a : Answer) (d : Deeds) (r : Running) → who ≡ r.frame.call.programmer
-    → Does row before after who a → row (scene_at d before r) (caller_of r) ≡ answers (scene_at d after r) a
-for_running row before after who a d r is does =
-    subst (λ q. row (scene_at d before r) (with_programmer (caller_of r) q) ≡ answers (scene_at d after r) a) is (does (scene_at d before r) (caller_of r))

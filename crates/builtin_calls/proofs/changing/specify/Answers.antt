@@ -5,7 +5,7 @@ use Rattle.spec_moo.specs.Natives.Verbs.{set_verb_args_row}
 use Rattle.moo_value.specs.Answers.{answer_of}
 use Rattle.view.specs.Law.{Goes}
 use Rattle.builtins_world.specs.Said.{Does}
-use Rattle.builtin_natives.proofs.changing.specify.Goals as goal
+use Rattle.builtin_calls.proofs.changing.specify.Goals as goal
 
 pub returns-clause-left : goal.returns-clause-left
 returns-clause-left g c =

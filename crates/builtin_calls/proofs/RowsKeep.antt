@@ -25,7 +25,7 @@ use Rattle.spec_moo.specs.Natives.Verbs.{verb_place, if_verb, with_info, info_fi
 use Rattle.builtin_table.specs.Functions.{row_of_function}
 use Rattle.builtin_table.specs.declared.world_function.WorldFunction.{WorldFunction}
 use Rattle.builtin_table.specs.declared.world_function.WorldFunction.TheVariants.{ClearProperty, SetPropertyInfo, SetVerbInfo, SetVerbArgs, AddVerb, DeleteVerb}
-use Rattle.builtin_natives.specs.Kept.{LeavesWell, changes}
+use Rattle.builtin_calls.specs.Kept.{LeavesWell, changes}
 
 -- ---- checks: where one fails, nothing has changed
 

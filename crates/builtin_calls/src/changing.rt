@@ -7,7 +7,7 @@ ghost use Rattle.view.specs.Law.{Goes, Lasts};
 ghost use Rattle.builtin_table.specs.Functions.{row_of_function};
 ghost use Rattle.builtin_table.specs.Sorts.{Fit};
 ghost use Rattle.builtins_world.specs.Said.{Does};
-ghost use Rattle.builtin_natives.specs.Kept.{changes as changes_world};
+ghost use Rattle.builtin_calls.specs.Kept.{changes as changes_world};
 
 use crate::arguments::{
     object_and_text, object_and_verb, object_info_and_words, object_text_and_bits,

@@ -1,9 +1,9 @@
 use Rattle.std.proofs.Common.{w32, to_z, of_z, sym, ◌∙◌}
 use Rattle.std.proofs.lemmas.Int.{to_z-of_z}
 use Rattle.builtin_table.specs.Functions.{row_of_function}
-use Rattle.builtin_natives.proofs.Calls.{leaves_well, told_well, told_does}
-use Rattle.builtin_natives.proofs.RowsKeep.{changing_keeps}
-use Rattle.builtin_natives.proofs.calls.act.Goals as goal
+use Rattle.builtin_calls.proofs.Leaving.{leaves_well, told_well, told_does}
+use Rattle.builtin_calls.proofs.RowsKeep.{changing_keeps}
+use Rattle.builtin_calls.proofs.calls.act.Goals as goal
 
 pub returns-then-changes-clause-well_formed : goal.returns-then-changes-clause-well_formed
 returns-then-changes-clause-well_formed g c =

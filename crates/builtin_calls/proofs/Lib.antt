@@ -1,0 +1,3 @@
+pub mod Sorts
+pub mod RowsKeep
+pub mod Leaving

@@ -33,7 +33,45 @@ pub fn changes(function: WorldFunction) -> bool
         | WorldFunction::SetVerbArgs
         | WorldFunction::AddVerb
         | WorldFunction::DeleteVerb => true,
-        _ => false,
+        WorldFunction::Valid
+        | WorldFunction::IsPlayer
+        | WorldFunction::Parent
+        | WorldFunction::Children
+        | WorldFunction::MaxObject
+        | WorldFunction::Players
+        | WorldFunction::Create
+        | WorldFunction::Recycle
+        | WorldFunction::Chparent
+        | WorldFunction::Move
+        | WorldFunction::SetPlayerFlag
+        | WorldFunction::Properties
+        | WorldFunction::PropertyInfo
+        | WorldFunction::AddProperty
+        | WorldFunction::DeleteProperty
+        | WorldFunction::IsClearProperty
+        | WorldFunction::Verbs
+        | WorldFunction::VerbInfo
+        | WorldFunction::VerbArgs
+        | WorldFunction::VerbCode
+        | WorldFunction::SetVerbCode
+        | WorldFunction::Eval
+        | WorldFunction::Notify
+        | WorldFunction::Read
+        | WorldFunction::Suspend
+        | WorldFunction::Resume
+        | WorldFunction::KillTask
+        | WorldFunction::QueuedTasks
+        | WorldFunction::TaskId
+        | WorldFunction::TicksLeft
+        | WorldFunction::Raise
+        | WorldFunction::SetTaskPerms
+        | WorldFunction::CallerPerms
+        | WorldFunction::Random
+        | WorldFunction::Time
+        | WorldFunction::ConnectedPlayers
+        | WorldFunction::BootPlayer
+        | WorldFunction::DumpDatabase
+        | WorldFunction::Shutdown => false,
     }
 }
 

@@ -15,9 +15,9 @@ pub returns-clause-left : goal.returns-clause-left
 returns-clause-left g c =
     let object = to_z-of_z w32 c.args.object c.ranges.object in
     let programmer = to_z-of_z w32 c.args.programmer c.ranges.programmer in
-    let place : verb_place c.in-Some.verbs c.args.which.now ≡ Some c.in-Some-own_verb.place = cc (c.in-Some-own_verb.ensures.0, c.in-Some-own_verb.place-is, c.as_slice.ensures) in
+    let place : verb_place c.in-Some.verbs c.args.which.now ≡ Some c.in-Some-own_verb.place = cc (c.in-Some-own_verb.ensures.0, c.in-Some-own_verb.place-is, c.as_slice.ensures, c.verbs.view_is) in
     let there : in_place c.in-Some.verbs c.in-Some-own_verb.place ≡ Some c.in-Some-own_verb.verb.now =
-    cc (c.in-Some-own_verb.ensures.1, c.in-Some-own_verb.place-is, c.in-Some-own_verb.verb-is, c.as_slice.ensures)
+    cc (c.in-Some-own_verb.ensures.1, c.in-Some-own_verb.place-is, c.in-Some-own_verb.verb-is, c.as_slice.ensures, c.verbs.view_is)
     in
     then_does g.V.View.holds g.V.View.now c.args.view.now c.read_verbs.new.view c.may.new.view c.give_info.new.view
     (λ w. verbs_at w c.args.object ≡ Some c.in-Some.verbs) (λ w. may w c.args.programmer (write_verb c.args.object c.in-Some-own_verb.place) ≡ true)

@@ -9,7 +9,7 @@ use Rattle.spec_world.specs.Permissions.{in_place, may, write_slot, write_verb, 
 use Rattle.spec_world.specs.Questions.{verbs_at}
 use Rattle.spec_moo.specs.Scene.{Scene, in_world}
 use Rattle.spec_moo.specs.NativeEffect.{Caller, NativeEffect, answers, refuses}
-use Rattle.spec_moo.specs.Natives.Rows.{unless, may_do, if_there}
+use Rattle.spec_moo.specs.Natives.Rows.{if_there}
 use Rattle.spec_moo.specs.Natives.Properties.{set_property_info_row}
 use Rattle.spec_moo.specs.Natives.Verbs.{Specifier, verb_place, set_verb_info_row}
 use Rattle.spec_world.proofs.Trees.{some_same}

@@ -1,5 +1,5 @@
 -- What is left of a call when its first checks have passed, or its words were read.
-use Rattle.std.specs.Prelude.{ℤ, ℕ, Bool, ◌&&◌, [], ◌∷◌, is_some, codes, Option}
+use Rattle.std.specs.Prelude.{ℤ, ℕ, ◌&&◌, [], ◌∷◌, codes, Option}
 use Rattle.spec_value.specs.Datum.{Datum, Text, invalid_argument}
 use Rattle.spec_world.specs.World.{Slot, Verb}
 use Rattle.spec_world.specs.Inherit.{with_slot}

@@ -1,4 +1,4 @@
-use Rattle.std.proofs.Common.{w32, to_z, of_z}
+use Rattle.std.proofs.Common.{w32}
 use Rattle.std.proofs.lemmas.Int.{to_z-of_z}
 use Rattle.spec_moo.specs.Natives.Verbs.{with_specifier}
 use Rattle.builtins_change.specs.Specifiers.{specifier_of}

@@ -1,4 +1,4 @@
-use Rattle.std.proofs.Common.{◌≡◌, true, Some, w32, to_z, of_z}
+use Rattle.std.proofs.Common.{◌≡◌, true, Some, w32}
 use Rattle.std.proofs.lemmas.Int.{to_z-of_z}
 use Rattle.std.specs.Prelude.{option_map}
 use Rattle.spec_world.specs.Permissions.{may, change_members}

@@ -1,4 +1,4 @@
-use Rattle.std.proofs.Common.{◌≡◌, true, [], ◌∷◌, Some, w32, to_z, of_z}
+use Rattle.std.proofs.Common.{◌≡◌, true, [], ◌∷◌, Some, w32}
 use Rattle.std.proofs.lemmas.Int.{to_z-of_z}
 use Rattle.spec_value.specs.Datum.{object as object_of}
 use Rattle.spec_world.specs.Permissions.{in_place, may, write_verb}

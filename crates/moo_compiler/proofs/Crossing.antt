@@ -3,8 +3,8 @@ use denote.Param.Send.{IsSend, IsSync, sendable}
 use denote.Param.SendFields.{as_row_send, as_row_sync, declared_send, declared_sync}
 use Rattle.std.proofs.Crossing.{crosses}
 use Rattle.moo_value.proofs.Crossing.{value_send, value_sync, text_send, text_sync}
-use Rattle.moo_tree.proofs.Crossing.{tree_send, tree_sync}
-use Rattle.moo_tree.specs.contracts.statement.Tree as tree
+use Rattle.moo_program.proofs.Crossing.{program_send as whole_send, program_sync as whole_sync}
+use Rattle.moo_program.specs.contracts.program.Program as whole
 use Rattle.moo_compiler.specs.contracts.code.Code as code
 use Rattle.moo_compiler.specs.contracts.program.Compiled as compiled
 use Rattle.moo_compiler.specs.contracts.program.Program as program
@@ -16,10 +16,10 @@ code_sync : IsSync code.the_row
 code_sync = search (sendable, crosses, value_sync, text_sync) depth 60
 
 compiled_send : IsSend compiled.the_row
-compiled_send = declared_send compiled.the_type (as_row_send tree.the_field tree_send, (code_send, tt))
+compiled_send = declared_send compiled.the_type (as_row_send whole.the_field whole_send, (code_send, tt))
 
 compiled_sync : IsSync compiled.the_row
-compiled_sync = declared_sync compiled.the_type (as_row_sync tree.the_field tree_sync, (code_sync, tt))
+compiled_sync = declared_sync compiled.the_type (as_row_sync whole.the_field whole_sync, (code_sync, tt))
 
 pub program_send : IsSend program.the_row
 program_send = search (sendable, crosses, compiled_send, compiled_sync) depth 60

@@ -5,5 +5,5 @@ use Rattle.moo_compiler.specs.Names.{names_of}
 use Rattle.moo_compiler.specs.declared.program.Compiled.{Compiled}
 
 pub record IsCompiled (a : Compiled) : Type 0 where
-  pub instructions : a.code.instructions.items ≡ code_of a.tree
-  pub names : a.code.names.items ≡ names_of a.tree
+  pub instructions : a.code.instructions.items ≡ code_of a.whole
+  pub names : a.code.names.items ≡ names_of a.whole

@@ -5,12 +5,13 @@ ghost use Rattle.moo_compiler.specs.Names.{names_of};
 
 use crate::code::Code;
 use crate::compile::compile;
+use moo_program::program::Program as Whole;
 use moo_tree::statement::Tree;
 use std::alloc::{AllocError, Global};
 use std::marker::Model;
 use std::sync::Arc;
 
-/// A program: its source tree with the code of it, shared by their owners. A clone is a count.
+/// A program: its source tree with its code for each of the two machines, shared by their owners. A clone is a count.
 #[derive(Drop)]
 pub struct Program {
     compiled: Arc<Compiled>,
@@ -18,7 +19,9 @@ pub struct Program {
 
 #[derive(Drop)]
 struct Compiled {
-    tree: Tree,
+    // the tree, with its code for the machine of the whole language
+    whole: Whole,
+    // for the machine of the small language
     code: Code,
 }
 
@@ -33,7 +36,7 @@ impl Model for Program {
 
     ghost use Rattle.moo_compiler.specs.Compiled.{IsCompiled};
 
-    ghost view = { λ a. (arc_value a.compiled).tree };
+    ghost view = { λ a. (arc_value a.compiled).whole };
 
     ghost invariant = { λ a. IsCompiled (arc_value a.compiled) };
 }
@@ -43,9 +46,10 @@ impl Program {
     pub fn compile(alloc: Global, tree: Tree) -> Result<Program, AllocError>
         ensures { IfOk result (λ program. program ≡ tree) }
     {
-        let code = compile(alloc, &tree)?;
+        let whole = Whole::compile(alloc, tree)?;
+        let code = compile(alloc, whole.tree())?;
         Ok(Program {
-            compiled: Arc::new(alloc, Compiled { tree, code })?,
+            compiled: Arc::new(alloc, Compiled { whole, code })?,
         })
     }
 
@@ -53,10 +57,17 @@ impl Program {
     pub fn tree(&self) -> &Tree
         ensures { result.now ≡ self.now }
     {
-        &self.compiled.tree
+        self.compiled.whole.tree()
     }
 
-    /// Its code.
+    /// The same program with its code for the machine of the whole language.
+    pub fn whole(&self) -> &Whole
+        ensures { result.now ≡ self.now }
+    {
+        &self.compiled.whole
+    }
+
+    /// Its code for the machine of the small language.
     pub fn code(&self) -> &Code
         ensures instructions { result.now.instructions.items ≡ code_of self.now }
         ensures names { result.now.names.items ≡ names_of self.now }

@@ -7,5 +7,5 @@ use Rattle.builtins_world.proofs.properties.put_slot.Goals as goal
 pub returns-clause-left : goal.returns-clause-left
 returns-clause-left g c =
     let object = to_z-of_z w32 c.args.object c.ranges.object in
-    put_told g.V.View.holds g.V.View.now c.args.view.now c.write_part.new.view c.write_part.result c.args.object c.args.name.now c.args.slot (part_of c.in_ok-part.part) (c.in_ok-part.ensures tt)
+    put_told g.V.View.holds g.V.View.now c.args.view.now c.write_part.new.view c.write_part.result c.args.object c.args.name.now c.args.slot (part_of c.in_ok-part.part) c.in_ok-part.ensures
     (rw object at c.write_part.ensures.left)

@@ -1,11 +1,10 @@
 -- Forks: who is refused, and the task that is queued.
-use Rattle.std.proofs.Common.{◌≡◌, ◌∙◌, ap, sym, refl, arith, cond, ℕ, suc, ◌<◌, ℤ, pos, negsuc, ◌≤ℤ◌, ◌<ℤ◌, Bool, true, false, List, [], ◌∷◌, length, Option, Some, None}
+use Rattle.std.proofs.Common.{◌≡◌, ◌∙◌, ap, sym, refl, arith, cond, ℕ, suc, ◌<◌, ℤ, pos, negsuc, ◌≤ℤ◌, ◌<ℤ◌, true, false, List, [], ◌∷◌, length, Option, Some, None}
 use Rattle.std.specs.Prelude.{slice_set, unsigned_abs}
 use Rattle.std.specs.declared.vec.Vec.{Vec}
 use Rattle.std.specs.declared.alloc.Global.{Global}
 use Rattle.std.proofs.lemmas.Int.{ints}
 use Rattle.spec_value.specs.Datum.{Datum, integer, object, text, error, list, Text, ErrorCode, type_mismatch, invalid_argument, limit_exceeded}
-use Rattle.spec_value.specs.Table.{Named}
 use Rattle.spec_program.specs.Tree.{Program}
 use Rattle.spec_world.specs.World.{World, Call, Task, forked}
 use Rattle.spec_moo.specs.Scene.{Scene, has_ids, next_id, moment_after, id_taken, enqueued}
@@ -18,12 +17,12 @@ use Rattle.moo_code.specs.Machine.{Kept, Step, on, seen, place_for, does, out_of
 use Rattle.moo_code.specs.Names.{names_of}
 use Rattle.moo_code.specs.Slots.{variables_of}
 use Rattle.moo_machine.specs.declared.verb.State.{State}
-use Rattle.moo_machine.specs.Shown.{Around, Names, kept, here, performs_of, fails_of}
+use Rattle.moo_machine.specs.Shown.{Around, kept, here, performs_of, fails_of}
 use Rattle.moo_machine.proofs.InSlots.{slot_is_given}
 use Rattle.moo_frame.specs.Deeds.{scene_of}
 use Rattle.moo_frame.specs.declared.deeds.Deeds.{Deeds}
 use Rattle.moo_forks.specs.Queueing.{with_task}
-use Rattle.moo_forks.specs.Forking.{NamesOne, IsNoInteger, in_scene, task_of, fork_shown}
+use Rattle.moo_forks.specs.Forking.{NamesOne, IsNoInteger, in_scene, fork_shown}
 use Rattle.moo_forks.specs.declared.fork.Fork.TheVariants.{Started}
 
 pub one_named : (a : Around) (x : Option Text) (slots : List (Option Datum)) (slot : ℕ) (v : Datum) → NamesOne a (Some slot) x → slot < length slots

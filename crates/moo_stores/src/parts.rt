@@ -23,7 +23,8 @@ pub fn length_of_part(
 ) -> Result<Did, AllocError>
     requires { state.old.place + 1 < 2 ^ 64 }
     ensures { IfOk result (λ d. (a : Around) (x : TextOf) → Names a slot x
-        → performs_of a call.now (length_of (target_at (bracketed brackets.now (in_variable x)) height)) [] state.old ≡ shown a call.now d state.new) }
+        → performs_of a call.now (length_of (target_at (bracketed brackets.now (in_variable x)) height)) [] state.old
+        ≡ shown a call.now d state.new) }
 {
     if state.ticks == 0 {
         return Ok(Did::RanOut);

@@ -67,7 +67,8 @@ fn length_of_target(
 ) -> Result<Option<Did>, AllocError>
     requires { state.old.place + 1 < 2 ^ 64 }
     ensures { IfOk result (λ o. MatchOption o (state.new ≡ state.old) (λ d. (a : Around) → HasNames a names
-        → performs_of a call.now (length_of (target_at (shape_meant (names_of a.program) shape.now) height)) [] state.old ≡ shown a call.now d state.new)) }
+        → performs_of a call.now (length_of (target_at (shape_meant (names_of a.program) shape.now) height)) [] state.old
+        ≡ shown a call.now d state.new)) }
 {
     let Some(variable) = shape.variable else {
         return Ok(None);

@@ -46,7 +46,8 @@ pub fn scatter(
     requires place { state.old.place + 1 < 2 ^ 64 }
     requires slots { AreWithin (length state.old.slots.items) scatter.now.items.items }
     ensures { IfOk result (λ d. (a : Around) → length state.old.slots.items ≡ length (names_of a.program)
-        → performs_of a call.now (scatter_of (map (slot_meant (names_of a.program)) scatter.now.items.items)) (map part_meant scatter.now.defaults.items) state.old
+        → performs_of a call.now (scatter_of (map (slot_meant (names_of a.program)) scatter.now.items.items))
+        (map part_meant scatter.now.defaults.items) state.old
         ≡ shown a call.now d state.new) }
 {
     let Some(list) = state.operands.pop() else {
@@ -87,7 +88,8 @@ pub fn scatter_on(
 ) -> Result<Did, AllocError>
     requires { state.old.place + 1 < 2 ^ 64 }
     ensures { IfOk result (λ d. (a : Around)
-        → performs_of a call.now (scatter_on_of (map (slot_meant (names_of a.program)) scatter.now.items.items) number) ((0, end) ∷ map part_meant scatter.now.defaults.items) state.old
+        → performs_of a call.now (scatter_on_of (map (slot_meant (names_of a.program)) scatter.now.items.items) number)
+        ((0, end) ∷ map part_meant scatter.now.defaults.items) state.old
         ≡ shown a call.now d state.new) }
 {
     let Some(list) = state.operands.pop() else {

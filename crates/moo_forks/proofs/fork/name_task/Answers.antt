@@ -1,4 +1,4 @@
-use Rattle.std.proofs.Common.{◌≡◌, ◌∙◌, ◌<◌, ap, sym, subst, length}
+use Rattle.std.proofs.Common.{◌∙◌, ◌<◌, ap, sym, subst, length}
 use Rattle.spec_moo.specs.Effects.Forks.{with_named}
 use Rattle.moo_code.specs.Names.{names_of}
 use Rattle.moo_code.specs.Slots.{variables_of}

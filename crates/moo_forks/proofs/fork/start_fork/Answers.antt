@@ -1,6 +1,5 @@
-use Rattle.std.proofs.Common.{◌≡◌, ◌∙◌, ◌<◌, ap, sym, subst, arith, rules, suc, ◌-◌, ℤ, w32, to_z, of_z, true}
+use Rattle.std.proofs.Common.{◌≡◌, ◌∙◌, ◌<◌, subst, arith, rules, suc, ◌-◌, w32, to_z, of_z, true}
 use Rattle.std.specs.Prelude.{IfSome}
-use Rattle.spec_moo.specs.Scene.{next_id, has_ids}
 use Rattle.moo_machine.proofs.Next.{next_place}
 use Rattle.moo_frame.specs.Deeds.{scene_of}
 use Rattle.moo_forks.specs.Queueing.{IsNextId}

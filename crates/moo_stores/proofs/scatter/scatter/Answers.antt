@@ -1,5 +1,5 @@
 use Rattle.std.proofs.Common.{◌≡◌, ◌∙◌, ap, sym, subst, suc, ◌-◌, arith, map, length}
-use Rattle.spec_value.specs.Scatter.{gets, scattered}
+use Rattle.spec_value.specs.Scatter.{gets}
 use Rattle.moo_value.specs.Errors.{code_of}
 use Rattle.moo_arith.specs.Targets.{scattering_of}
 use Rattle.moo_code.specs.Instruction.{as_value}

@@ -1,4 +1,4 @@
-use Rattle.std.proofs.Common.{◌≡◌, ◌∙◌, ap, sym, map, ◌∷◌}
+use Rattle.std.proofs.Common.{◌∙◌, ap, sym, map, ◌∷◌}
 use Rattle.spec_value.specs.Scatter.{gets}
 use Rattle.moo_value.specs.Errors.{code_of}
 use Rattle.moo_arith.specs.Targets.{scattering_of}

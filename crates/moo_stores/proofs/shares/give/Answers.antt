@@ -1,4 +1,4 @@
-use Rattle.std.proofs.Common.{◌≡◌, ◌∙◌, ◌<◌, ap, arith, suc, drop, length, sym}
+use Rattle.std.proofs.Common.{◌∙◌, ◌<◌, ap, arith, suc, drop, length, sym}
 use Rattle.moo_machine.proofs.Next.{next_place}
 use Rattle.moo_stores.specs.Giving.{given_slots}
 use Rattle.moo_stores.proofs.Sharing.{gives_next, all_given}

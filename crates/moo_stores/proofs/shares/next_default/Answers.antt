@@ -1,4 +1,4 @@
-use Rattle.std.proofs.Common.{◌≡◌, ◌∙◌, ◌<◌, ap, sym, arith, length}
+use Rattle.std.proofs.Common.{◌∙◌, ◌<◌, ap, sym, arith, length}
 use Rattle.spec_moo.specs.Effects.Scatter.{missing}
 use Rattle.moo_machine.proofs.Next.{next_place}
 use Rattle.moo_stores.specs.Giving.{items_meant, next_part}

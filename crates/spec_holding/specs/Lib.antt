@@ -1,0 +1,4 @@
+pub mod Points
+pub mod Fitting
+pub mod UnderWay
+pub mod Whole

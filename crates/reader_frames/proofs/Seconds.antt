@@ -11,4 +11,4 @@ no_second [] whole h = refl
 no_second [] (faulty k line) h = refl
 no_second (p ∷ []) whole h = refl
 no_second (p ∷ []) (faulty k line) h = refl
-no_second (p ∷ q ∷ ps) e h = omega arith
+no_second (p ∷ q ∷ ps) e h = absurd (omega (arith, h))

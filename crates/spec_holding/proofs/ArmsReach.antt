@@ -1,9 +1,9 @@
 -- The codes of handlers, one part after another: a handler's codes so far stand behind those of the handlers before it.
-use Rattle.std.proofs.Common.{◌≡◌, ℕ, zero, suc, Bool, true, false, List, [], ◌∷◌, ◌++◌, drop, Option, Some, None, IsTrue, refl, sym, ap, subst, ◌∙◌, append_assoc}
+use Rattle.std.proofs.Common.{◌≡◌, ℕ, zero, suc, List, [], ◌∷◌, ◌++◌, drop, Option, Some, IsTrue, refl, sym, ap, subst, ◌∙◌, append_assoc}
 use Rattle.spec_value.specs.Datum.{Datum}
-use Rattle.spec_program.specs.Tree.{Expr, Arguments, no_arguments, argument, splice, Codes, any_code, codes_in, Program, Arms, no_arms, except}
+use Rattle.spec_program.specs.Tree.{Expr, Arguments, no_arguments, argument, splice, any_code, codes_in, Program, Arms, no_arms, except}
 use Rattle.spec_program.specs.Construct.{Construct, of_expr, of_program}
-use Rattle.spec_program.specs.Place.{Kind, any_list, code_list, all_codes, codes_kind, Part, part, nth, argument_parts, arm_kinds, arm_parts}
+use Rattle.spec_program.specs.Place.{Kind, any_list, code_list, all_codes, Part, part, nth, argument_parts, arm_kinds, arm_parts}
 use Rattle.spec_world.specs.WellFormed.{held_fits}
 use Rattle.spec_moo.specs.Held.{Way, beside, listed, spliced, nth_way, argument_ways, arm_ways, held_with}
 use Rattle.spec_moo.specs.Effects.Handlers.{ArmPoint, one_code, last_code, one_program, code_points, arm_points, nth_point}

@@ -1,5 +1,5 @@
 -- Built-in functions keep the programs of a world and what its waiting tasks hold, and begin programs that texts spell.
-use Rattle.std.proofs.Common.{◌≡◌, ℕ, zero, suc, ℤ, pos, negsuc, Bool, true, false, not, ◌&&◌, ◌||◌, List, [], ◌∷◌, ◌++◌, filter, Option, Some, None, refl, sym, ap, subst, IsTrue, is_none, if◌then◌else◌}
+use Rattle.std.proofs.Common.{◌≡◌, ℕ, zero, suc, ℤ, pos, negsuc, Bool, true, false, not, ◌&&◌, ◌||◌, List, [], ◌∷◌, ◌++◌, Option, Some, None, refl, ap, subst, is_none, if◌then◌else◌}
 use Rattle.std.specs.Prelude.{option_map, codes}
 use Rattle.std.specs.Ordering.{int_eq}
 use Rattle.spec_value.specs.Datum.{Datum, integer, object, text, list, Data, no_data, item, Text, ErrorCode, same_text, is_true, invalid_argument, property_not_found, verb_not_found, limit_exceeded}
@@ -7,14 +7,14 @@ use Rattle.spec_value.specs.Table.{at}
 use Rattle.spec_value.specs.PureBuiltins.{PureFunction, call_value}
 use Rattle.spec_program.specs.ReadPrograms.{Parsed, program, faulty, parsed, parsed_lines}
 use Rattle.spec_program.proofs.ParsedFits.{parsed_fits}
-use Rattle.spec_world.specs.World.{World, Object, Native, NativeName, move_native, create_native, recycle_native, eval_native, Slot, Verb, Task, Waiting, timed, idle, reading_on, object_at}
+use Rattle.spec_world.specs.World.{Native, NativeName, move_native, create_native, recycle_native, eval_native, Verb, timed, idle, reading_on, object_at}
 use Rattle.spec_world.specs.Inherit.{slot_at}
 use Rattle.spec_world.specs.Links.{connection_of, reader_of}
 use Rattle.spec_world.specs.Permissions as act
 use Rattle.spec_world.specs.Permissions.{is_wizard, in_place, list_members, change_members, change_owner, read_verb, write_verb, program_verb, evaluate, have_child, change_object, administer, act_as, control_task, may}
 use Rattle.spec_world.specs.VerbsSought.{Sought, find_verb}
 use Rattle.spec_world.specs.Naming.{location_of}
-use Rattle.spec_world.specs.Families.{next_object, parent_of, is_below, created, reparented, clashes, recycled}
+use Rattle.spec_world.specs.Families.{next_object, parent_of, is_below, created, clashes}
 use Rattle.spec_world.specs.Whereabouts.{is_inside, moved}
 use Rattle.spec_moo.specs.Scene.{Scene, in_world, has_ids, next_id, id_taken, named_or_next, with_own_id, moment_after}
 use Rattle.spec_moo.specs.Linking.{connection_closed, link_closed, has_lines, line_told}
@@ -23,11 +23,11 @@ use Rattle.spec_moo.specs.NativeEffect.{Caller, NativeEffect, answers, waits}
 use Rattle.spec_moo.specs.Natives.{or_later, native, stage_of, native_turn}
 use Rattle.spec_moo.specs.Natives.Rows.{Row, by_row, in_group, if_there, is_valid, is_valid_or_none, answers_with, zero_value, counts_fit, all_fit}
 use Rattle.spec_moo.specs.Natives.Values.{value_rows, values}
-use Rattle.spec_moo.specs.Natives.Objects.{valid_row, is_player_row, parent_row, children_row, calls_found, calls_if_there, stage, create_for, create_row, has_numbers, recycle_now, recycle_row, another_parent, chparent_row, is_there, told_to_enter, later_stage, last_stage, gone_over, move_now, accepted, move_row, with_flag, set_player_flag_row, object_rows, objects, staged, object_stage}
+use Rattle.spec_moo.specs.Natives.Objects.{valid_row, is_player_row, parent_row, children_row, calls_found, calls_if_there, stage, create_for, create_row, has_numbers, recycle_now, recycle_row, chparent_row, is_there, told_to_enter, later_stage, last_stage, gone_over, move_now, accepted, move_row, with_flag, set_player_flag_row, object_rows, objects, staged}
 use Rattle.spec_moo.specs.Natives.Properties.{are_bits, with_slot_bits, properties_row, property_info_row, set_property_info_row, is_clear_property_row, defines_it, clear_property_row, is_new_name, slot_with, add_property_row, delete_property_row, property_rows, properties}
 use Rattle.spec_moo.specs.Natives.Verbs.{verb_place, if_verb, verbs_row, with_info, info_fits, verb_info_row, set_verb_info_row, specifier, with_specifier, verb_args_row, set_verb_args_row, new_verb, add_verb_row, delete_verb_row, verb_code_row, texts_of, programmed, set_verb_code_row, evaluated, eval_row, verb_rows, verbs}
 use Rattle.spec_moo.specs.Natives.Tasks.{notify_row, waits_with_id, reads_on, read_row, suspend_row, task_programmer, is_suspended, resumes, resume_row, is_own_id, kills, kill_task_row, task_id_row, raise_row, set_task_perms_row, random_up_to, random_row, boot_player_row, dump_database_row, shutdown_row, task_rows, tasks}
-use Rattle.spec_holding.specs.UnderWay.{EntriesFit, TasksHold, SceneHolds, NativeHolds, NativesHold, StagesHold}
+use Rattle.spec_holding.specs.UnderWay.{SceneHolds, NativeHolds, NativesHold, StagesHold}
 use Rattle.spec_holding.proofs.WorldsHold.{SoughtFits, verb_fits, slot_holds, task_put}
 use Rattle.spec_holding.proofs.ChangesHold.{change_holds, tasks_left, entries_there, created_holds, reparented_holds, recycled_holds, moved_holds, property_added_holds, property_deleted_holds, verb_added_holds, verb_deleted_holds, verb_changed_holds, link_closed_holds}
 

@@ -1,9 +1,9 @@
 -- What a construct does with a leaving in one of its parts takes parts with what they want, too.
-use Rattle.std.proofs.Common.{◌≡◌, ◌∙◌, ◌≤◌, ◌<◌, ℕ, zero, suc, ◌+◌, drop, zero-add, add-zero, suc-add, add-suc, Bool, true, false, ◌&&◌, List, [], ◌∷◌, ◌++◌, Option, Some, None, IsTrue, refl, sym, ap, subst, if◌then◌else◌, arith}
+use Rattle.std.proofs.Common.{◌≡◌, ◌∙◌, ◌≤◌, ◌<◌, ℕ, zero, suc, ◌+◌, drop, zero-add, add-zero, suc-add, add-suc, Bool, true, false, ◌&&◌, List, [], ◌∷◌, ◌++◌, Option, Some, None, IsTrue, refl, sym, subst, if◌then◌else◌, arith}
 use Rattle.spec_value.specs.Datum.{Datum, Text}
 use Rattle.spec_value.proofs.Entries.{first_holds, second_holds}
 use Rattle.spec_program.specs.Tree.{Expr, caught, Arguments, no_arguments, argument, splice, Codes, any_code, codes_in, Fallback, the_code, instead, Statement, for_each, for_range, repeat, guarded, finished, Program, Arms, no_arms, except}
-use Rattle.spec_program.specs.Construct.{Construct, of_expr, of_target, of_default, of_statement, of_program}
+use Rattle.spec_program.specs.Construct.{Construct, of_expr, of_statement, of_program}
 use Rattle.spec_program.specs.Place.{Kind, any_list, codes_kind, Part, part, nth, argument_parts, code_parts, fallback_parts, arm_parts, statement_parts}
 use Rattle.spec_program.specs.Trees.{may_name, codes_fit, has_arm, statement_fits, program_fits, arms_fit}
 use Rattle.spec_moo.specs.Scene.{Scene}

@@ -1,5 +1,5 @@
 -- Changes of objects, properties, verbs and links keep the programs of a world, and what its waiting tasks hold.
-use Rattle.std.proofs.Common.{◌≡◌, ℕ, zero, suc, ℤ, Bool, true, false, not, ◌&&◌, List, [], ◌∷◌, ◌++◌, filter, Option, Some, None, IsTrue, refl, subst, cond, is_eq, if◌then◌else◌}
+use Rattle.std.proofs.Common.{◌≡◌, ℕ, zero, suc, ℤ, Bool, true, false, not, List, [], ◌∷◌, ◌++◌, filter, Option, Some, None, IsTrue, refl, subst, cond, is_eq, if◌then◌else◌}
 use Rattle.std.specs.List.{list_all}
 use Rattle.std.specs.Ordering.{int_cmp, int_eq}
 use Rattle.spec_value.specs.Datum.{Text}

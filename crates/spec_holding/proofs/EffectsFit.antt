@@ -1,39 +1,39 @@
 -- Each step of a construct of a program's tree takes parts with what they want, and sets variables of the tree.
-use Rattle.std.proofs.Common.{◌≡◌, ◌∙◌, ◌<◌, ◌≤◌, ℕ, zero, suc, ◌+◌, ◌==◌, ℤ, pos, negsuc, int_le, nat_le, nat_lt, drop, append_assoc, append-nil, add-zero, zero-add, suc-add, add-suc, Bool, true, false, not, ◌&&◌, List, [], ◌∷◌, ◌++◌, Option, Some, None, option_map, IsTrue, refl, sym, ap, subst, if◌then◌else◌, arith, codes, le-leb, leb-true}
+use Rattle.std.proofs.Common.{◌≡◌, ◌∙◌, ◌<◌, ◌≤◌, ℕ, zero, suc, ◌==◌, ℤ, pos, int_le, nat_le, nat_lt, drop, append_assoc, append-nil, Bool, true, false, ◌&&◌, List, [], ◌∷◌, ◌++◌, Option, Some, None, option_map, IsTrue, refl, sym, ap, subst, if◌then◌else◌, arith, codes, le-leb, leb-true}
 use Rattle.std.specs.List.{list_all}
 use Rattle.std.proofs.lemmas.Bool.{eqb-true}
 use Rattle.spec_value.specs.Datum.{Datum, integer, object, text, error, list, Data, no_data, item, Text, to_list, same_text, is_true}
 use Rattle.spec_value.specs.Answer.{Answer, gives, raises, is_allowed}
 use Rattle.spec_value.specs.Places.{item_at}
-use Rattle.spec_value.specs.Scatter.{TargetKind, Scattering, gets, refuses, scattered, scattered_items}
+use Rattle.spec_value.specs.Scatter.{Scattering, gets, refuses, scattered}
 use Rattle.spec_value.specs.Table.{Named, is_named}
 use Rattle.spec_value.proofs.Keys.{still_sorted}
 use Rattle.spec_world.proofs.SlotChanges.{names_total}
 use Rattle.spec_value.proofs.Entries.{first_holds, second_holds, both_hold}
-use Rattle.spec_program.specs.Tree.{Expr, literal, variable, own_length, unary, binary, both, either, conditional, listing, call, property, verb_call, index, range, caught, assignment, scatter, Arguments, no_arguments, argument, splice, Codes, any_code, codes_in, Fallback, the_code, instead, Target, to_variable, to_property, to_index, to_range, Items, no_items, required, optional, remaining, defaulted, Statement, evaluate, give, give_zero, branch, for_each, for_range, repeat, fork, guarded, finished, leave_loop, next_turn, Program, Branches, no_branches, on, Otherwise, no_else, else_do, Arms, no_arms, except}
+use Rattle.spec_program.specs.Tree.{Expr, literal, variable, own_length, unary, binary, both, either, conditional, listing, call, property, verb_call, index, range, caught, assignment, scatter, no_arguments, argument, splice, Codes, any_code, codes_in, Fallback, Target, to_variable, to_property, to_index, to_range, Items, no_items, required, optional, remaining, defaulted, Statement, evaluate, give, give_zero, branch, for_each, for_range, repeat, fork, guarded, finished, leave_loop, next_turn, Program, Branches, no_branches, on, Otherwise, no_else, else_do, Arms, no_arms, except}
 use Rattle.spec_program.specs.Construct.{Construct, of_expr, of_target, of_default, of_statement, of_program}
-use Rattle.spec_program.specs.Place.{Kind, any_list, code_list, all_codes, codes_kind, Holds, holds, walks_list, walks_range, why_left, Part, part, nth, expr_parts, argument_parts, code_parts, fallback_parts, item_parts, branch_parts, otherwise_parts, arm_kinds, arm_parts, statement_parts, arity}
-use Rattle.spec_program.specs.Trees.{is_name, may_name, has_item, rest_once, goes_on, expr_fits, arguments_fit, target_fits, items_fit, has_arm, statement_fits, program_fits, arms_fit, codes_fit, is_around}
-use Rattle.spec_world.specs.World.{World, Object, object_at}
+use Rattle.spec_program.specs.Place.{Kind, any_list, code_list, all_codes, Holds, holds, walks_list, walks_range, why_left, Part, part, nth, item_parts, branch_parts, otherwise_parts, arm_kinds, arm_parts, statement_parts, arity}
+use Rattle.spec_program.specs.Trees.{is_name, may_name, has_item, rest_once, goes_on, expr_fits, target_fits, items_fit, statement_fits, program_fits, is_around}
+use Rattle.spec_world.specs.World.{Object, object_at}
 use Rattle.spec_world.specs.WellFormed.{is_variable, held_fits, count, nonempty, are_traced}
 use Rattle.spec_world.specs.VerbsSought.{Sought, find_verb}
-use Rattle.spec_moo.specs.Scene.{Scene, in_world, has_ids, next_id, id_taken, moment_after, enqueued}
+use Rattle.spec_moo.specs.Scene.{Scene, has_ids, next_id}
 use Rattle.spec_moo.specs.Properties.{Written, wrote, refused, write}
 use Rattle.spec_moo.specs.Pending.{Pending, caller_of}
-use Rattle.spec_moo.specs.Leaving.{Traced, Leaving, returned, failed, broken, continued, Failure, failure, failure_value, trace_values, BodyLeft, ended, left_by, read_traced, onto_trace, read_trace, read_failure, read_return, read_loops, read_numbered, read_left, takes_code}
-use Rattle.spec_moo.specs.Effect.{Effect, hands, errs, takes, ends, leaves, stays, sets, calls, natively, answered, sets_named, on_one, on_two, on_three}
+use Rattle.spec_moo.specs.Leaving.{Traced, failed, broken, continued, trace_values, left_by, read_traced, onto_trace, read_trace, read_failure, read_return, read_loops, read_numbered, read_left}
+use Rattle.spec_moo.specs.Effect.{Effect, takes, answered, sets_named, on_one, on_two, on_three}
 use Rattle.spec_moo.specs.Effects.Access.{Stored, in_variable, in_property, not_stored, property_stored, whole_stored, target_value, with_index, with_range, stored, stored_effect}
 use Rattle.spec_moo.specs.Effects.Operators.{conditional_effect}
 use Rattle.spec_moo.specs.Effects.Calls.{with_arguments, found_effect, on_object_effect, verb_effect, above_definer, function_effect}
 use Rattle.spec_moo.specs.Effects.Branches.{is_odd, part_or_end}
-use Rattle.spec_moo.specs.Effects.Loops.{Turn, item_turn, list_turn, turn_effect, list_loop_effect, range_turn, first_turn, later_turn, are_bounds, range_turn_at, while_effect, loops_left, loop_catches}
-use Rattle.spec_moo.specs.Effects.Handlers.{code_count, codes_known, codes_held, without_codes, fallback_effect, expression_catches, ArmPoint, one_code, last_code, one_program, guarded_point, codes_from, point_effect, guarded_effect, handler_for, body_catches, go_on_leaving, finally_effect}
-use Rattle.spec_moo.specs.Effects.Scatter.{item_kinds, item_count, given, all_given, missing, default_or_end, assigned, defaults_after, scatter_effect}
+use Rattle.spec_moo.specs.Effects.Loops.{Turn, item_turn, list_turn, turn_effect, list_loop_effect, range_turn, first_turn, later_turn, are_bounds, range_turn_at, while_effect, loops_left}
+use Rattle.spec_moo.specs.Effects.Handlers.{codes_known, codes_held, without_codes, ArmPoint, one_code, last_code, one_program, guarded_point, codes_from, point_effect, guarded_effect, go_on_leaving, finally_effect}
+use Rattle.spec_moo.specs.Effects.Scatter.{item_kinds, item_count, all_given, missing, default_or_end, assigned, defaults_after, scatter_effect}
 use Rattle.spec_moo.specs.Effects.Forks.{with_named, fork_in}
 use Rattle.spec_moo.specs.Tables.{effect, expr_effect, statement_effect}
-use Rattle.spec_holding.specs.Points.{KnowsCodes, before_next, OperateFits, EndFits, PartFits}
+use Rattle.spec_holding.specs.Points.{KnowsCodes, OperateFits, EndFits, PartFits}
 use Rattle.spec_holding.specs.Fitting.{ConstructFits}
-use Rattle.spec_holding.specs.UnderWay.{VariablesFit, WorldHolds, SceneHolds, LeavingFits, NativesHold, EffectFits}
+use Rattle.spec_holding.specs.UnderWay.{VariablesFit, WorldHolds, SceneHolds, NativesHold, EffectFits}
 use Rattle.spec_holding.proofs.HeldValues.{same_some, Fit, fits_beside}
 use Rattle.spec_holding.proofs.WorldsHold.{SoughtFits, verb_fits, still_variables, task_put, WrittenHolds, write_holds}
 

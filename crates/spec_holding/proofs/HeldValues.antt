@@ -3,7 +3,7 @@ use Rattle.std.proofs.Common.{◌≡◌, ℕ, zero, suc, Bool, true, false, List
 use Rattle.spec_value.specs.Datum.{Datum, integer, object, text, error, list, Data, append, joined}
 use Rattle.spec_value.proofs.Entries.{first_holds, second_holds, both_hold}
 use Rattle.spec_program.specs.Construct.{Construct}
-use Rattle.spec_program.specs.Place.{Kind, any_value, any_list, code_list, all_codes, Part, part}
+use Rattle.spec_program.specs.Place.{Kind, any_value, any_list, code_list, Part, part}
 use Rattle.spec_world.specs.WellFormed.{kind_fits, kinds_fit, held_fits}
 use Rattle.spec_moo.specs.Held.{Way, beside, before_list, listed, spliced, in_last, held_with}
 

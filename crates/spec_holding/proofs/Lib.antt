@@ -10,3 +10,4 @@ pub mod CatchesFit
 pub mod TurnsHold
 pub mod SegmentsHold
 pub mod StepsHold
+pub mod WholeWorlds

@@ -2,14 +2,14 @@
 use Rattle.std.proofs.Common.{◌≡◌, ℕ, zero, suc, ◌==◌, ◌&&◌, ◌||◌, Bool, true, false, not, List, [], ◌∷◌, ◌++◌, length, replicate, pred, Option, Some, None, is_none, IsTrue, refl, sym, ap, subst, ◌∙◌, ◌⊎◌, inl, inr, if◌then◌else◌}
 use Rattle.std.proofs.Math.Dec.{eqb_refl}
 use Rattle.spec_value.proofs.Keys.{as_test}
-use Rattle.spec_value.specs.Datum.{Datum, Text, list, no_data}
+use Rattle.spec_value.specs.Datum.{Datum, list, no_data}
 use Rattle.spec_program.specs.Tree.{Expr, literal, variable, own_length, unary, binary, both, either, conditional, listing, call, property, verb_call, index, range, caught, assignment, scatter, Arguments, no_arguments, argument, splice, Codes, any_code, codes_in, Fallback, the_code, instead, Target, to_variable, to_property, to_index, to_range, Statement, evaluate, give, give_zero, branch, for_each, for_range, repeat, fork, guarded, finished, leave_loop, next_turn, Program, the_end, seq, Branches, no_branches, on, Otherwise, no_else, else_do, Arms, no_arms, except}
 use Rattle.spec_program.specs.Construct.{Construct, of_expr, of_target, of_default, of_statement, of_program}
-use Rattle.spec_program.specs.Place.{Kind, any_value, any_list, code_list, holds, why_left, Part, part, nth, parts, expr_parts, target_parts, argument_parts, codes_kind, code_parts, fallback_parts, branch_parts, otherwise_parts, arm_kinds, arm_parts, statement_parts, program_parts, arity}
+use Rattle.spec_program.specs.Place.{Kind, any_value, any_list, code_list, holds, Part, part, nth, parts, expr_parts, target_parts, argument_parts, codes_kind, code_parts, fallback_parts, branch_parts, otherwise_parts, arm_parts, statement_parts, program_parts, arity}
 use Rattle.spec_world.specs.WellFormed.{held_fits}
-use Rattle.spec_moo.specs.Held.{beside, listed, spliced, argument_ways, code_ways, nth_way, way_at, held_at_first, held_with}
-use Rattle.spec_moo.specs.Effects.Branches.{is_odd, is_positive, branch_step}
-use Rattle.spec_moo.specs.Effects.Handlers.{argument_count, codes_known, caught_step, codes_held, ArmPoint, one_code, last_code, one_program, is_step, nth_point, code_points, arm_points, guarded_point}
+use Rattle.spec_moo.specs.Held.{listed, spliced, argument_ways, code_ways, nth_way, way_at, held_at_first, held_with}
+use Rattle.spec_moo.specs.Effects.Branches.{is_odd, branch_step}
+use Rattle.spec_moo.specs.Effects.Handlers.{argument_count, codes_known, caught_step, codes_held, ArmPoint, one_code, last_code, one_program, is_step, nth_point, code_points, arm_points}
 use Rattle.spec_moo.specs.Standing.{has_no_value}
 use Rattle.spec_moo.specs.Tables.{has_step}
 use Rattle.spec_moo.proofs.ListsHold.{lists_hold, calls_hold}

@@ -1,5 +1,5 @@
 -- Steps and lists of steps keep the programs of a world, and what its waiting tasks hold.
-use Rattle.std.proofs.Common.{◌≡◌, ℕ, ℤ, zero, suc, pos, ◌&&◌, Bool, true, false, List, [], ◌∷◌, ◌++◌, Option, Some, None, IsTrue, refl, sym, subst, if◌then◌else◌, codes, option_map}
+use Rattle.std.proofs.Common.{◌≡◌, ℕ, ℤ, ◌&&◌, Bool, true, false, List, [], ◌∷◌, Option, Some, None, IsTrue, refl, sym, subst, if◌then◌else◌, codes, option_map}
 use Rattle.std.specs.Ordering.{int_eq}
 use Rattle.std.specs.List.{list_all}
 use Rattle.spec_value.specs.Datum.{Datum, object, text, Data, no_data, item, of_list, Text, same_text}
@@ -12,7 +12,7 @@ use Rattle.spec_program.specs.Construct.{Construct, of_expr, of_target, of_defau
 use Rattle.spec_program.specs.Place.{Linked, is_call}
 use Rattle.spec_program.specs.Trees.{program_fits}
 use Rattle.spec_world.specs.World.{World, Object, Link, Programming, Call, Start, Frame, Entry, frame_entry, native_entry, Task, Waiting, forked, timed, idle, reading_on, object_at}
-use Rattle.spec_world.specs.WellFormed.{OfEachTask, is_moment, waiting_fits, fork_fits, at_beginning, FramesStand, TaskStands, is_variable, pieces_fit, frame_fits, IsWellFormed}
+use Rattle.spec_world.specs.WellFormed.{OfEachTask, is_moment, waiting_fits, fork_fits, at_beginning, FramesStand, TaskStands, is_variable, pieces_fit, frame_fits}
 use Rattle.spec_world.specs.Agreeing.{Agrees, frame_holds, frames_hold}
 use Rattle.spec_world.specs.Links.{connection_object, connection_of, reader_of, open_link, close_link}
 use Rattle.spec_world.specs.Naming.{location_of, name_object}
@@ -22,23 +22,22 @@ use Rattle.spec_world.specs.CommandLines.{Parts, Meant, Command, nothing_said, p
 use Rattle.spec_world.proofs.WorldsKept.{agrees_is_well_formed, well_formed_agrees}
 use Rattle.spec_moo.specs.Scene.{Scene, in_world, has_ids, next_id, id_taken, enqueued}
 use Rattle.spec_moo.specs.Linking.{link_closed}
-use Rattle.spec_moo.specs.Telling.{stop_lines}
-use Rattle.spec_moo.specs.Pending.{Focus, begin, hand, Pending, Stop, done, raised, out_of_ticks, waiting, killed, going_on}
+use Rattle.spec_moo.specs.Pending.{hand, Pending, Stop, done, raised, out_of_ticks, waiting, killed, going_on}
 use Rattle.spec_moo.specs.Segment.{segment}
 use Rattle.spec_moo.specs.Standing.{LooksAt, Stands}
 use Rattle.spec_moo.specs.Natives.Properties.{as_texts}
 use Rattle.spec_moo.specs.Steps.Outcomes as outcome
 use Rattle.spec_moo.specs.Steps.Outcomes.{Event, line_of, ready_task, Step, opening_scene, idle_with, ended}
 use Rattle.spec_moo.specs.Steps.Running.{Ran, waiting_task, put_by, after_stop, run, told_on, system_call, unnamed, system_task, system, on_system, begun, beginning_of, begun_again, gone_on}
-use Rattle.spec_moo.specs.Steps.Programming.{with_link, programmable, begins, opens, requested, with_line, written, ends_with, ends_at, ends, goes_on, collected}
+use Rattle.spec_moo.specs.Steps.Programming.{with_link, programmable, begins, opens, requested, written, ends_with, ends_at, ends, goes_on, collected}
 use Rattle.spec_moo.specs.Steps.Events as events
 use Rattle.spec_moo.specs.Steps.Events.{foreground_ticks, queued_ticks, words_value, user_task, greeted, logged_in, may_log_in, login_value, login_with, login, opened_link, nothing_runs, command_call, command_start, command_run, player_line, resumed, with_own_task, line_for, line_read, line_taken, line_on, told_gone, gone, closed_link, is_due, ready_run, ready_at, event_of, event}
 use Rattle.spec_moo.specs.Steps.{numbered, play1, play}
 use Rattle.spec_moo.specs.Worlds.{in_range}
 use Rattle.spec_moo.proofs.OrderKept.{starts_in_order, starts_named}
 use Rattle.spec_moo.proofs.StepWorlds.{lists_keep, steps_keep}
-use Rattle.spec_holding.specs.UnderWay.{FrameHolds, EntriesFit, TasksHold, WorldHolds, SceneHolds, Holds, StopHolds}
-use Rattle.spec_holding.specs.Whole.{StepsHold, ListsHold, StaysWhole}
+use Rattle.spec_holding.specs.UnderWay.{FrameHolds, EntriesFit, WorldHolds, SceneHolds, Holds, StopHolds}
+use Rattle.spec_holding.specs.Whole.{StepsHold, ListsHold}
 use Rattle.spec_holding.proofs.WorldsHold.{SoughtFits, first_fits, verb_fits, task_put}
 use Rattle.spec_holding.proofs.ChangesHold.{tasks_left, entries_there, verb_changed_holds, link_closed_holds}
 use Rattle.spec_holding.proofs.BuiltinsHold.{closed_scene}
@@ -357,11 +356,5 @@ all_frames [] h = refl
 all_frames (frame_entry f ∷ es) h = both_hold (frame_fits f) _ (frame_is_whole f h.0) (all_frames es h.1)
 all_frames (native_entry n ∷ es) h = all_frames es h.1
 
-frames_are_whole : (w : World) → WorldHolds w → OfEachTask w frames_hold
+pub frames_are_whole : (w : World) → WorldHolds w → OfEachTask w frames_hold
 frames_are_whole w h i t e = all_frames t.entries (entries_there w.tasks i t h.1 e)
-
-pub stays_whole : StaysWhole
-stays_whole w ss is h r =
-    let a = (well_formed_agrees w is).0 in
-    let after = lists_hold w ss a h r in
-    (agrees_is_well_formed (play w ss).0 (lists_keep w ss a r) (frames_are_whole (play w ss).0 after), after)

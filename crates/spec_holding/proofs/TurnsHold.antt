@@ -1,5 +1,5 @@
 -- Each turn keeps what tasks hold: in the verb that is under way, and in those that wait for it.
-use Rattle.std.proofs.Common.{◌≡◌, ◌∙◌, ◌≤◌, ◌<◌, ℕ, zero, suc, ◌+◌, ℤ, pos, ◌||◌, ◌&&◌, Bool, true, false, List, [], ◌∷◌, ◌++◌, length, Option, Some, None, IsTrue, refl, sym, ap, subst, if◌then◌else◌, le_of_eq}
+use Rattle.std.proofs.Common.{◌≡◌, ◌<◌, ℕ, zero, suc, ◌+◌, ℤ, pos, ◌||◌, Bool, true, false, List, [], ◌∷◌, ◌++◌, Option, Some, None, IsTrue, refl, sym, ap, subst, if◌then◌else◌}
 use Rattle.std.specs.List.{list_all}
 use Rattle.spec_value.specs.Datum.{Datum, integer, Data, Text, type_mismatch, too_many_calls}
 use Rattle.spec_value.specs.Table.{is_named}
@@ -8,11 +8,11 @@ use Rattle.spec_value.proofs.Entries.{first_holds, second_holds, both_hold}
 use Rattle.spec_value.proofs.Keys.{still_sorted}
 use Rattle.spec_program.specs.Tree.{literal, Target, to_variable, to_property, to_index, to_range, Program}
 use Rattle.spec_program.specs.Construct.{Construct, of_expr, of_target, of_default, of_statement, of_program, Piece}
-use Rattle.spec_program.specs.Place.{Part, parts, nth, part_at, tree_of, Linked, arity}
+use Rattle.spec_program.specs.Place.{Part, parts, nth, part_at, tree_of, Linked}
 use Rattle.spec_program.specs.Trees.{program_fits, is_around}
 use Rattle.spec_moo.specs.Effects.Loops.{loops_left}
-use Rattle.spec_world.specs.World.{Call, Native, Entry, frame_entry, native_entry}
-use Rattle.spec_world.specs.WellFormed.{is_variable, held_fits, part_fits, pieces_fit, loops, nonempty, are_traced}
+use Rattle.spec_world.specs.World.{Call, Entry, frame_entry, native_entry}
+use Rattle.spec_world.specs.WellFormed.{is_variable, held_fits, part_fits, pieces_fit, loops, nonempty}
 use Rattle.spec_world.proofs.SlotChanges.{names_total}
 use Rattle.spec_moo.specs.Scene.{Scene}
 use Rattle.spec_moo.specs.Leaving.{Traced, traced, trace_values, Leaving, returned, failed, broken, continued, Failure, failure, come_by}
@@ -22,13 +22,12 @@ use Rattle.spec_moo.specs.Natives.{native_turn}
 use Rattle.spec_moo.specs.Pending.{Focus, begin, hand, aim, operate, next, leave, Pending, caller_of, goes_on, to}
 use Rattle.spec_moo.specs.Effect.{Effect, hands, errs, takes, ends, leaves, stays, sets, calls, natively}
 use Rattle.spec_moo.specs.Tables.{has_step, effect, catches, passed_by}
-use Rattle.spec_moo.specs.Standing.{LooksAt, has_no_value}
-use Rattle.spec_moo.specs.Turn.{piece, completed, on_tree, on_part, at_point, reach, failing, always_raises, has_room, waiting_frame, called_frame, entering, native_answered, native_effected, with_programmer, with_variable, effected, caught_by, passing, in_frame, back_in_native, back_with, raised_into, out_of_verb, receiving, turn_on, turn}
+use Rattle.spec_moo.specs.Standing.{LooksAt}
+use Rattle.spec_moo.specs.Turn.{piece, completed, on_tree, on_part, at_point, reach, failing, always_raises, has_room, waiting_frame, called_frame, entering, native_answered, native_effected, with_programmer, with_variable, effected, caught_by, passing, in_frame, back_with, raised_into, out_of_verb, receiving, turn_on, turn}
 use Rattle.spec_moo.proofs.OrderKept.{starts_in_order, starts_named}
 use Rattle.spec_holding.specs.Points.{EndFits, PartFits, PointFits, ReachFits}
-use Rattle.spec_holding.specs.Fitting.{ConstructFits, loop_names, in_body, body_loops, is_code}
-use Rattle.spec_holding.specs.UnderWay.{FrameHolds, EntriesFit, SceneHolds, LeavingFits, FocusFits, TurnedHolds, NativeHolds, EffectFits, NativesHold, StagesHold, TurnsHold}
-use Rattle.spec_holding.proofs.HeldValues.{same_some}
+use Rattle.spec_holding.specs.Fitting.{loop_names, in_body, body_loops, is_code}
+use Rattle.spec_holding.specs.UnderWay.{EntriesFit, SceneHolds, LeavingFits, FocusFits, TurnedHolds, NativeHolds, EffectFits, NativesHold, StagesHold, TurnsHold}
 use Rattle.spec_holding.proofs.PointsReach.{beginnings_reach, values_reach, targets_reach, ends_reach}
 use Rattle.spec_holding.proofs.TreesFit.{linked_fits, all_in_bodies, loops_are_left, most_bodies}
 use Rattle.spec_holding.proofs.WorldsHold.{still_variables}
@@ -141,9 +140,16 @@ entering_holds s p c ps between d body args w b h fits more refused = go (has_ro
   where
     go : (o : Bool)
         → TurnedHolds (if o then goes_on s (record p { focus = begin (of_program body); frame = called_frame p d body args; outer = between ++ waiting_frame p ps ∷ p.outer }) else failing s p c ps (failure too_many_calls))
-    go true =
-        (w, (tt, (((starts_in_order p.player d d.verb p.frame.start args, starts_named p.player d d.verb p.frame.start args), (refl, fits)),
-        more (waiting_frame p ps ∷ p.outer) ((b.0, (h, (b.1).0)), (b.1).1))))
+    go true = (
+      w,
+      (
+        tt,
+        (
+          ((starts_in_order p.player d d.verb p.frame.start args, starts_named p.player d d.verb p.frame.start args), (refl, fits)),
+          more (waiting_frame p ps ∷ p.outer) ((b.0, (h, (b.1).0)), (b.1).1),
+        ),
+      ),
+    )
     go false = refused
 
 native_holds : (p : Pending) (c : Construct) (ps : List Piece) (e : NativeEffect) → NativeHolds e → Base p → IsTrue (pieces_fit ps)

@@ -1,12 +1,12 @@
 -- Changes of a world that leave its programs and its waiting tasks as they were, or bring others that fit.
-use Rattle.std.proofs.Common.{◌≡◌, ℤ, Bool, true, false, not, ◌&&◌, cond, List, [], ◌∷◌, ◌++◌, filter, Option, Some, None, IsTrue, refl, sym, ap, subst, if◌then◌else◌, Ordering, Less, Equal, Greater, is_eq}
+use Rattle.std.proofs.Common.{◌≡◌, ℤ, Bool, true, false, cond, List, [], ◌∷◌, Option, Some, None, IsTrue, refl, subst, if◌then◌else◌, Ordering, Less, Equal, Greater, is_eq}
 use Rattle.std.specs.List.{list_all}
-use Rattle.std.specs.Ordering.{int_cmp, int_eq, nat_cmp}
+use Rattle.std.specs.Ordering.{int_cmp, nat_cmp}
 use Rattle.std.specs.Cmp.Lexicographic.{slice_cmp}
-use Rattle.std.specs.FinMap.{find, put}
+use Rattle.std.specs.FinMap.{put}
 use Rattle.std.specs.FinMap.Entries.{by_order}
 use Rattle.spec_value.specs.Datum.{Datum, object, text, Text, ErrorCode}
-use Rattle.spec_value.specs.Table.{Named, at, with, without, with_name}
+use Rattle.spec_value.specs.Table.{Named, at, with, with_name}
 use Rattle.spec_value.proofs.Entries.{first_holds, second_holds, both_hold}
 use Rattle.spec_program.specs.Trees.{program_fits}
 use Rattle.spec_world.specs.World.{World, Object, Slot, Verb, Task, object_at, with_object}

@@ -1,5 +1,5 @@
 -- The constructs under way of a program's tree: their names, literals and loops are as programs have them.
-use Rattle.std.specs.Prelude.{◌≡◌, ℕ, zero, suc, ◌+◌, List, [], ◌∷◌, ◌++◌, Bool, true, false, Option, Some, None, IsTrue, ◌<◌}
+use Rattle.std.specs.Prelude.{◌≡◌, ℕ, zero, suc, ◌+◌, List, [], ◌∷◌, ◌++◌, Bool, true, false, Option, IsTrue, ◌<◌}
 use Rattle.spec_value.specs.Datum.{Text}
 use Rattle.spec_program.specs.Tree.{for_each, for_range, repeat, Program}
 use Rattle.spec_program.specs.Construct.{Construct, of_expr, of_target, of_default, of_statement, of_program, Piece}

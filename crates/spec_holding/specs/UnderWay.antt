@@ -1,5 +1,5 @@
 -- What a task holds that is under way or waits: values that fit the parts of its programs, variables of its programs, and programs that texts spell.
-use Rattle.std.specs.Prelude.{◌≡◌, ℕ, zero, suc, ℤ, ◌+◌, List, [], ◌∷◌, length, Bool, true, false, Option, Some, None, IsTrue}
+use Rattle.std.specs.Prelude.{◌≡◌, ℕ, zero, suc, ℤ, List, [], ◌∷◌, length, Bool, Some, IsTrue}
 use Rattle.std.specs.List.{list_all}
 use Rattle.spec_value.specs.Datum.{Datum, Text}
 use Rattle.spec_value.specs.Table.{is_named}
@@ -13,7 +13,7 @@ use Rattle.spec_moo.specs.Scene.{Scene}
 use Rattle.spec_moo.specs.Leaving.{Leaving, leaving_held}
 use Rattle.spec_moo.specs.NativeEffect.{Caller, NativeEffect, answers, complains, begins, waits, dies, becomes}
 use Rattle.spec_moo.specs.Natives.{native, native_turn}
-use Rattle.spec_moo.specs.Pending.{Focus, begin, hand, aim, operate, next, leave, Pending, Stop, waiting, Turned, goes_on, halts}
+use Rattle.spec_moo.specs.Pending.{Focus, aim, operate, leave, Pending, Stop, waiting, Turned, goes_on, halts}
 use Rattle.spec_moo.specs.Effect.{Effect, hands, errs, takes, ends, leaves, stays, sets, calls, natively}
 use Rattle.spec_moo.specs.Standing.{Stands}
 use Rattle.spec_moo.specs.Turn.{turn}

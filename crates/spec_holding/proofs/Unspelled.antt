@@ -1,5 +1,5 @@
 -- That world is well formed, and the one after its step is not.
-use Rattle.std.proofs.Common.{◌≡◌, ℤ, pos, Bool, true, false, [], ◌∷◌, Option, Some, None, IsTrue, refl, sym, subst, cond, codes}
+use Rattle.std.proofs.Common.{◌≡◌, ℤ, pos, Bool, true, false, [], ◌∷◌, Some, None, IsTrue, refl, sym, subst, cond, codes}
 use Rattle.std.specs.Ordering.{int_eq}
 use Rattle.spec_value.specs.Datum.{integer}
 use Rattle.spec_value.specs.Table.{at}

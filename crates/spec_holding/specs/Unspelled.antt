@@ -1,5 +1,5 @@
 -- A well-formed world with a program that no text spells: a `fork` that names a variable in capital letters.
-use Rattle.std.specs.Prelude.{ℕ, ℤ, pos, neg_ℤ, replicate, List, [], ◌∷◌, true, false, Some, IsTrue, codes}
+use Rattle.std.specs.Prelude.{pos, neg_ℤ, replicate, List, [], ◌∷◌, true, false, Some, IsTrue, codes}
 use Rattle.std.specs.List.{list_all}
 use Rattle.spec_value.specs.Datum.{integer}
 use Rattle.spec_program.specs.Tree.{literal, fork, Program, the_end, seq}

@@ -11,3 +11,4 @@ pub mod TurnsHold
 pub mod SegmentsHold
 pub mod StepsHold
 pub mod WholeWorlds
+pub mod Unspelled

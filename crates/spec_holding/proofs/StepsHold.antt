@@ -19,7 +19,6 @@ use Rattle.spec_world.specs.Naming.{location_of, name_object}
 use Rattle.spec_world.specs.VerbsSought.{Sought, Named, find_verb, find_command_verb}
 use Rattle.spec_world.specs.CommandLines as line
 use Rattle.spec_world.specs.CommandLines.{Parts, Meant, Command, nothing_said, programming, calls_verb, calls_huh, not_understood, meant_on, or_then, verb_meant, huh_or_not, verb_or_huh, asks_to_program, command_or_program, line_parts, named_by, command_said}
-use Rattle.spec_world.proofs.WorldsKept.{agrees_is_well_formed, well_formed_agrees}
 use Rattle.spec_moo.specs.Scene.{Scene, in_world, has_ids, next_id, id_taken, enqueued}
 use Rattle.spec_moo.specs.Linking.{link_closed}
 use Rattle.spec_moo.specs.Pending.{hand, Pending, Stop, done, raised, out_of_ticks, waiting, killed, going_on}
@@ -35,7 +34,7 @@ use Rattle.spec_moo.specs.Steps.Events.{foreground_ticks, queued_ticks, words_va
 use Rattle.spec_moo.specs.Steps.{numbered, play1, play}
 use Rattle.spec_moo.specs.Worlds.{in_range}
 use Rattle.spec_moo.proofs.OrderKept.{starts_in_order, starts_named}
-use Rattle.spec_moo.proofs.StepWorlds.{lists_keep, steps_keep}
+use Rattle.spec_moo.proofs.StepWorlds.{steps_keep}
 use Rattle.spec_holding.specs.UnderWay.{FrameHolds, EntriesFit, WorldHolds, SceneHolds, Holds, StopHolds}
 use Rattle.spec_holding.specs.Whole.{StepsHold, ListsHold}
 use Rattle.spec_holding.proofs.WorldsHold.{SoughtFits, first_fits, verb_fits, task_put}

@@ -1,5 +1,5 @@
 -- A well-formed world whose programs texts spell stays one.
-use Rattle.std.proofs.Common.{◌≡◌, ◌∙◌, ◌⊎◌, inl, inr, ℤ, ◌&&◌, Bool, false, List, [], ◌∷◌, Some, None, IsTrue, refl, sym, ap, cond}
+use Rattle.std.proofs.Common.{◌≡◌, ◌∙◌, ◌⊎◌, inl, inr, ℤ, ◌&&◌, false, List, [], ◌∷◌, Some, None, IsTrue, refl, sym, ap, cond}
 use Rattle.std.specs.Ordering.{int_eq}
 use Rattle.std.specs.List.{list_all}
 use Rattle.spec_value.specs.Table.{at, is_named, is_numbered}
@@ -48,10 +48,13 @@ entries_hold : (es : List Entry) → IsTrue (list_all frame_holds es) → IsTrue
 entries_hold [] h k = tt
 entries_hold (frame_entry f ∷ es) h k =
     let fits : IsTrue (frame_fits f) = first_holds (frame_fits f) _ h in
-    let variables : IsTrue (is_named f.variables && list_all (λ e. is_variable e.0) f.variables) = first_holds (is_named f.variables && list_all (λ e. is_variable e.0) f.variables) (pieces_fit f.pieces) fits in
-    (((first_holds (is_named f.variables) _ variables, second_holds (is_named f.variables) _ variables),
-    (second_holds (is_named f.variables && list_all (λ e. is_variable e.0) f.variables) (pieces_fit f.pieces) fits, first_holds (program_fits [] f.program) _ k)),
-    entries_hold es (second_holds (frame_fits f) _ h) (second_holds (program_fits [] f.program) _ k))
+    let variables : IsTrue (is_named f.variables && list_all (λ e. is_variable e.0) f.variables) = first_holds (is_named f.variables && list_all (λ e. is_variable e.0) f.variables) (pieces_fit f.pieces) fits in (
+      (
+        (first_holds (is_named f.variables) _ variables, second_holds (is_named f.variables) _ variables),
+        (second_holds (is_named f.variables && list_all (λ e. is_variable e.0) f.variables) (pieces_fit f.pieces) fits, first_holds (program_fits [] f.program) _ k),
+      ),
+      entries_hold es (second_holds (frame_fits f) _ h) (second_holds (program_fits [] f.program) _ k),
+    )
 entries_hold (native_entry n ∷ es) h k = (tt, entries_hold es h k)
 
 entries_spelled : (es : List Entry) → EntriesFit es → IsTrue (list_all entry_spelled es)
@@ -62,9 +65,10 @@ entries_spelled (native_entry n ∷ es) h = entries_spelled es h.1
 -- ---- worlds
 
 holds_whole : (w : World) → IsWellFormed w → TextsSpell w → WorldHolds w
-holds_whole w h k =
-    (each_object w.objects h.objects_in_order k.0,
-    each_task w.tasks h.tasks_in_order (λ i t e. entries_hold t.entries ((well_formed_agrees w h).1 i t e) (k.1 i t e)))
+holds_whole w h k = (
+  each_object w.objects h.objects_in_order k.0,
+  each_task w.tasks h.tasks_in_order (λ i t e. entries_hold t.entries ((well_formed_agrees w h).1 i t e) (k.1 i t e)),
+)
 
 spelled : (w : World) → WorldHolds w → TextsSpell w
 spelled w h = ((λ o x e. object_programmed w o x h e), (λ i t e. entries_spelled t.entries (entries_there w.tasks i t h.1 e)))

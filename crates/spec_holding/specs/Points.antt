@@ -26,7 +26,8 @@ before_next zero = 1
 before_next (suc n) = suc (suc n)
 
 abbrev pub OperateFits : ℕ → Construct → ℕ → List Datum → Type 0
-OperateFits around (of_expr (caught e codes d)) n vs = n ≡ codes_known codes → IsTrue (held_fits around (holds (codes_kind codes ∷ [])) (codes_held codes vs))
+OperateFits around (of_expr (caught e codes d)) n vs =
+    n ≡ codes_known codes → IsTrue (held_fits around (holds (codes_kind codes ∷ [])) (codes_held codes vs))
 OperateFits around (of_statement (guarded p arms)) n vs =
     (later : Arms) → guarded_point arms n ≡ last_code later → KnowsCodes arms (statement_parts (guarded p arms)) (before_next n) vs later
 OperateFits around (of_statement (finished p q)) (suc (suc n)) vs = IsTrue (held_fits around why_left vs)
@@ -65,7 +66,8 @@ ValuesReach =
 abbrev pub TargetsReach : Type 0
 TargetsReach =
     (around : ℕ) (c : Construct) (n : ℕ) (x : Part) (t : Target) (hs vs : List Datum)
-    → nth (parts c) n ≡ Some x → x.tree ≡ Some (of_target t) → IsTrue (held_fits around x.held hs) → length vs ≡ arity t → ReachFits around c (suc n) (hs ++ vs)
+    → nth (parts c) n ≡ Some x → x.tree ≡ Some (of_target t) → IsTrue (held_fits around x.held hs) → length vs ≡ arity t
+    → ReachFits around c (suc n) (hs ++ vs)
 
 abbrev pub EndsReach : Type 0
 EndsReach =

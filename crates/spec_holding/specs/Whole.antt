@@ -43,8 +43,10 @@ TextsSpell w = OfEachObject w programs_spelled × OfEachTask w frames_spelled
 
 -- a step, and a list of them, keeps that, and a world well formed: nothing is asked of the frames of the tasks that then wait
 abbrev pub StaysWholeOnce : Type 0
-StaysWholeOnce = (w : World) (s : Step) → IsWellFormed w → TextsSpell w → IsTrue (in_range s) → IsWellFormed (play1 w s).0 × TextsSpell (play1 w s).0
+StaysWholeOnce =
+    (w : World) (s : Step) → IsWellFormed w → TextsSpell w → IsTrue (in_range s) → IsWellFormed (play1 w s).0 × TextsSpell (play1 w s).0
 
 abbrev pub StaysWhole : Type 0
 StaysWhole =
-    (w : World) (ss : List Step) → IsWellFormed w → TextsSpell w → IsTrue (list_all in_range ss) → IsWellFormed (play w ss).0 × TextsSpell (play w ss).0
+    (w : World) (ss : List Step) → IsWellFormed w → TextsSpell w → IsTrue (list_all in_range ss)
+    → IsWellFormed (play w ss).0 × TextsSpell (play w ss).0

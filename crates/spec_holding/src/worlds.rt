@@ -9,3 +9,10 @@ pub fn steps()
     ensures once { StaysWholeOnce }
     ensures whole { StaysWhole }
 {}
+
+ghost use Rattle.spec_holding.specs.Unspelled.{NeedsSpelling};
+
+/// Where no text spells a program, a well-formed world need not stay one: a program could name a variable as none is named.
+pub fn spelling()
+    ensures { NeedsSpelling }
+{}

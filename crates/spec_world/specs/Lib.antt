@@ -18,4 +18,5 @@ pub mod Families
 pub mod Whereabouts
 pub mod Members
 pub mod Links
+pub mod Listings
 pub mod Checkpoint

@@ -9,6 +9,7 @@ use Rattle.spec_world.specs.VerbsSought.{Sought, find_verb}
 use Rattle.spec_world.specs.Naming.{location_of}
 use Rattle.spec_world.specs.Families as families
 use Rattle.spec_world.specs.Families.{nowhere, next_object, parent_of, is_below, created, reparented, clashes, recycled}
+use Rattle.spec_world.specs.Listings.{players}
 use Rattle.spec_world.specs.Whereabouts.{is_inside, moved}
 use Rattle.spec_moo.specs.Scene.{Scene, in_world}
 use Rattle.spec_moo.specs.Linking.{link_closed}
@@ -47,12 +48,8 @@ children_row s c _ = of_other_kinds s
 abbrev pub max_object_row : Scene → Caller → List Datum → NativeEffect
 max_object_row s c args = answers_with s (object s.world.greatest)
 
-abbrev pub players_among : List (ℤ × Object) → List ℤ
-players_among [] = []
-players_among (e ∷ es) = if (e.1).header.is_player then e.0 ∷ players_among es else players_among es
-
 abbrev pub players_row : Scene → Caller → List Datum → NativeEffect
-players_row s c args = answers_with s (list_value (as_objects (players_among s.world.objects)))
+players_row s c args = answers_with s (list_value (as_objects (players s.world)))
 
 -- ---- a verb that is called where it is defined
 

@@ -1,5 +1,5 @@
 -- Built-in functions over tasks, links and the server (Programmer's Manual, "Operations on Tasks" and "Operations on Network Connections"): `notify` to `shutdown`.
-use Rattle.std.specs.Prelude.{ℕ, zero, suc, ◌+◌, ◌%◌, ℤ, pos, negsuc, neg_ℤ, Bool, true, false, ◌||◌, List, [], ◌∷◌, is_some, is_none, if◌then◌else◌, Option, Some, None, codes}
+use Rattle.std.specs.Prelude.{ℕ, zero, suc, ◌+◌, ◌%◌, ℤ, pos, negsuc, neg_ℤ, Bool, true, false, ◌||◌, List, [], ◌∷◌, map, is_none, if◌then◌else◌, Option, Some, None, codes}
 use Rattle.std.specs.Ordering.{int_eq}
 use Rattle.rand_chacha.specs.ChaCha.{word_at, key_of}
 use Rattle.spec_value.specs.Datum.{Datum, integer, object, text, Text, invalid_argument, limit_exceeded}
@@ -8,6 +8,7 @@ use Rattle.spec_value.specs.Table.{at, with, without}
 use Rattle.spec_world.specs.World.{World, Object, Call, Entry, frame_entry, native_entry, Task, Waiting, forked, timed, idle, reading_on}
 use Rattle.spec_world.specs.Permissions.{is_wizard, act_as, control_task, administer}
 use Rattle.spec_world.specs.Links.{connection_of, reader_of}
+use Rattle.spec_world.specs.Listings.{connected}
 use Rattle.spec_moo.specs.Scene.{Scene, in_world, with_own_id, moment_after}
 use Rattle.spec_moo.specs.Linking.{link_closed, has_lines, line_told}
 use Rattle.spec_moo.specs.NativeEffect.{Caller, NativeEffect, complains, waits, dies, becomes}
@@ -166,12 +167,8 @@ random_row s c _ = of_other_kinds s
 
 -- ---- links
 
-abbrev pub connected_among : World → List (ℤ × Object) → List Datum
-connected_among w [] = []
-connected_among w (e ∷ es) = if is_some (connection_of w e.0) then object e.0 ∷ connected_among w es else connected_among w es
-
 abbrev pub connected_players_row : Scene → Caller → List Datum → NativeEffect
-connected_players_row s c args = answers_with s (list_value (connected_among s.world s.world.objects))
+connected_players_row s c args = answers_with s (list_value (map (λ e. object e.0) (connected s.world)))
 
 abbrev pub boot_player_row : Scene → Caller → List Datum → NativeEffect
 boot_player_row s c (object o ∷ []) =

@@ -1,6 +1,7 @@
 pub mod Arms
 pub mod Catching
 pub mod Coding
+pub mod Crossing
 pub mod Emitted
 pub mod GatherSteps
 pub mod Gathered

@@ -7,7 +7,7 @@ use moo_tree::expression::{Expression, ExpressionNode};
 use moo_value::operator::BinaryOperator;
 
 /// An operator's own level.
-pub fn operator_level(operator: BinaryOperator) -> u8
+fn operator_level(operator: BinaryOperator) -> u8
     ensures { result ≡ spec.operator_level (binary_of operator) }
 {
     match operator {

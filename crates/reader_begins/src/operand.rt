@@ -9,7 +9,6 @@ ghost use Rattle.spec_reader.specs.Begins.{literal_begins, word_begins, system_b
 ghost use Rattle.spec_reader.specs.Next.{goes, stops, reads_steps, reads_expression};
 ghost use Rattle.moo_token.specs.Views.{place_of, token_of};
 ghost use Rattle.moo_token.specs.Meaning.{place_meant, token_meant, sign_meant};
-ghost use Rattle.moo_value.specs.Operators.{unary_of};
 ghost use Rattle.moo_reader.specs.Views.{operand_of};
 ghost use Rattle.reader_frames.specs.LeftView.{left_of};
 ghost use Rattle.reader_frames.specs.FrameViews.{all_begun, within_operand};

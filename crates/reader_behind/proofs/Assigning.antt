@@ -1,13 +1,14 @@
 -- What is read behind an operand where it is assigned to, and where it is not.
-use Rattle.std.proofs.Common.{◌≡◌, ℕ, zero, suc, Bool, true, false, ◌&&◌, List, [], ◌∷◌, Option, Some, None, refl, ap}
+use Rattle.std.proofs.Common.{◌≡◌, ℕ, zero, suc, Bool, true, false, ◌&&◌, List, [], ◌∷◌, Option, Some, None, refl, arith}
 use Rattle.std.specs.Prelude.{◌==◌}
+use Rattle.std.proofs.lemmas.Bool.Decides.{nat_tests}
 use Rattle.spec_program.specs.Tokens.{Placed, assign}
 use Rattle.spec_program.specs.Tree.{Expr, Target}
 use Rattle.spec_program.specs.Reading.{is_sign}
 use Rattle.spec_program.specs.ReadExpressions.{Found}
 use Rattle.spec_program.specs.Frames as f
 use Rattle.spec_program.specs.Frames.{an_expression, Frames, push}
-use Rattle.spec_reader.specs.Next.{Next, reads_expression, reads_operators, goes, stops, on, taken, if_there}
+use Rattle.spec_reader.specs.Next.{Next, reads_expression, reads_operators, goes, stops, on, if_there}
 use Rattle.spec_reader.specs.Ends.{past_sign}
 use Rattle.spec_reader.specs.Behind.{assigned_or, is_any_level, target_read, target_part}
 use Rattle.moo_reader.specs.Views.{target_if, as_target}
@@ -15,7 +16,7 @@ use Rattle.reader_behind.specs.Assigning.{is_assigned}
 
 pub any_level : (k : ℕ) → (k == 0) ≡ is_any_level k
 any_level zero = refl
-any_level (suc k) = refl
+any_level (suc k) = grind (arith, nat_tests)
 
 not_there : (x y : Next) (p : Placed) (ts : List Placed) (c : Bool) → c ≡ false → on (goes x) (goes y) (if_there c p ts) ≡ goes y (p ∷ ts)
 not_there x y p ts true h = cc

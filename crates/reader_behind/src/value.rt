@@ -5,7 +5,7 @@ ghost use Rattle.spec_program.specs.Tokens as t;
 ghost use Rattle.spec_program.specs.Tree.{own_length};
 ghost use Rattle.spec_program.specs.ReadExpressions as by;
 ghost use Rattle.spec_program.specs.Frames as f;
-ghost use Rattle.spec_program.specs.Frames.{an_expression, an_operand, push};
+ghost use Rattle.spec_program.specs.Frames.{an_expression, push};
 ghost use Rattle.spec_reader.specs.Next.{goes, reads_operators, reads_expression};
 ghost use Rattle.spec_reader.specs.Ends as ends;
 ghost use Rattle.spec_reader.specs.Behind.{target_read, is_any_level, braces_read, found_by, scattered_or_stuck};

@@ -1,2 +1,2 @@
-pub mod Operators
+pub mod TakenJoints
 pub mod Ends

@@ -68,7 +68,7 @@ fn keyword_joint(keyword: Keyword) -> Joint
     }
 }
 
-fn joint(token: &Token) -> Joint
+fn token_joint(token: &Token) -> Joint
     ensures { joint_of result ≡ by.joint (token_meant (token_of token.now)) }
 {
     match token {
@@ -90,7 +90,7 @@ fn is_tight(level: u8, joint: Joint) -> bool
 }
 
 // Takes what stands between two expressions, if it binds as tightly as is wanted.
-#[tactic(auto, using(crate::proofs::Operators::no_joint_left, crate::proofs::Operators::nothing_taken))]
+#[tactic(auto, using(crate::proofs::TakenJoints::no_joint_left, crate::proofs::TakenJoints::nothing_taken))]
 fn take_joint(level: u8, left: &mut Left) -> Result<Joint, AllocError>
     ensures joint { IfOk result (λ j. joint_of j ≡ tight_joint level (joint_at (left_of left.old))) }
     ensures left { OnOk result (left_of left.new ≡ left_behind level (left_of left.old)) }
@@ -98,7 +98,7 @@ fn take_joint(level: u8, left: &mut Left) -> Result<Joint, AllocError>
     let Some(placed) = left.take() else {
         return Ok(Joint::Nothing);
     };
-    let joint = joint(&placed.token);
+    let joint = token_joint(&placed.token);
     if is_tight(level, joint) {
         return Ok(joint);
     }
@@ -184,7 +184,7 @@ fn behind_joint(
 }
 
 /// The operators behind an expression that bind at least as tightly as this level.
-#[tactic(auto, using(crate::proofs::Operators::operators_taken))]
+#[tactic(auto, using(crate::proofs::TakenJoints::operators_taken))]
 pub fn operators_begin(
     brackets: bool,
     level: u8,

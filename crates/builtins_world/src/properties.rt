@@ -151,9 +151,9 @@ fn cleared(slot: Slot) -> Slot
     }
 }
 
-// A property's slot on an object that is there is another one.
+/// A property's slot on an object that is there is another one.
 #[tactic(auto, using(crate::proofs::Changes::slot_put))]
-fn put_slot<V: View>(view: &mut V, object: i32, name: &Text, slot: Slot) -> Result<(), AllocError>
+pub fn put_slot<V: View>(view: &mut V, object: i32, name: &Text, slot: Slot) -> Result<(), AllocError>
     ensures lasts { Lasts V.holds V.home V.anchor view.old view.new result }
     ensures left { OnOk result (Goes V.holds V.now view.old view.new (λ before after. after ≡ with_slot before object name.now slot)) }
 {
@@ -167,8 +167,8 @@ fn slot_part(name: &Text, slot: Slot) -> Result<Part, AllocError>
     Ok(Part::Slot(name.clone()?, Some(slot)))
 }
 
-// Why there is no slot of a name: the object is not there, or has no such property.
-fn missing<V: View>(view: &mut V, object: i32) -> Result<MooError, AllocError>
+/// Why there is no slot of a name: the object is not there, or has no such property.
+pub fn missing<V: View>(view: &mut V, object: i32) -> Result<MooError, AllocError>
     ensures lasts { Lasts V.holds V.home V.anchor view.old view.new result }
     ensures left { IfOk result (λ e. Tells V.holds V.now view.old view.new (λ w. missing_error (object_at w object) ≡ code_of e)) }
 {

@@ -9,8 +9,8 @@ use Rattle.moo_grammar.specs.Grammar.{Lines, with_lines, IsProgram}
 use Rattle.moo_grammar.specs.Postfix.{Put, put_lines}
 use Rattle.moo_grammar.specs.Machine.{State}
 use Rattle.moo_grammar.proofs.Unique.{unambiguous, reached}
-use Rattle.moo_syntax.specs.declared.fault.FaultKind.{FaultKind}
-use Rattle.moo_syntax.specs.declared.fault.FaultKind.TheVariants as k
+use Rattle.syntax_fault.specs.declared.fault.FaultKind.{FaultKind}
+use Rattle.syntax_fault.specs.declared.fault.FaultKind.TheVariants as k
 use Rattle.moo_syntax.specs.Nesting.{deep_lines}
 use Rattle.moo_syntax.specs.Syntax.{IsTree, HasFault, token, end, bad, nested, memory}
 use Rattle.moo_syntax.proofs.Deep.{deep_is}

@@ -12,8 +12,8 @@ use Rattle.moo_grammar.specs.Load.{loaded, load, program_of}
 use Rattle.moo_grammar.proofs.First.{can_begin, end_fault, done}
 use Rattle.moo_grammar.proofs.Unique.{loads}
 use Rattle.moo_tree.specs.StatementView.{program_of as statements_of}
-use Rattle.moo_syntax.specs.declared.fault.FaultKind.{FaultKind}
-use Rattle.moo_syntax.specs.declared.fault.FaultKind.TheVariants as k
+use Rattle.syntax_fault.specs.declared.fault.FaultKind.{FaultKind}
+use Rattle.syntax_fault.specs.declared.fault.FaultKind.TheVariants as k
 use Rattle.moo_syntax.specs.Nesting.{first_deep}
 use Rattle.moo_syntax.specs.Building.{HasStatements}
 use Rattle.moo_syntax.specs.Syntax.{IsTree, HasFault, token, end, bad, nested, line_of, kind_of}

@@ -7,8 +7,8 @@ use Rattle.moo_token.specs.declared.fault.FaultKind.TheVariants as of_token
 use Rattle.moo_token.specs.Tokens.{Place, Ending, whole, faulty, IsText, tokens_in}
 use Rattle.moo_grammar.specs.Grammar.{Lines, with_lines, tree_lines}
 use Rattle.moo_grammar.specs.Faults.{CanBegin, IsFault}
-use Rattle.moo_syntax.specs.declared.fault.FaultKind.{FaultKind}
-use Rattle.moo_syntax.specs.declared.fault.FaultKind.TheVariants as k
+use Rattle.syntax_fault.specs.declared.fault.FaultKind.{FaultKind}
+use Rattle.syntax_fault.specs.declared.fault.FaultKind.TheVariants as k
 use Rattle.moo_syntax.specs.Nesting.{deep_lines}
 
 -- the line of a token

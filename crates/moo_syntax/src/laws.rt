@@ -3,8 +3,8 @@
 ghost use Rattle.std.specs.Prelude.{◌≡◌, ℕ};
 ghost use Rattle.spec_value.specs.Datum.{Text};
 ghost use Rattle.spec_program.specs.Tree.{Program};
-ghost use Rattle.moo_syntax.specs.declared.fault.FaultKind.{FaultKind as Kind};
-ghost use Rattle.moo_syntax.specs.declared.fault.FaultKind.TheVariants as kind;
+ghost use Rattle.syntax_fault.specs.declared.fault.FaultKind.{FaultKind as Kind};
+ghost use Rattle.syntax_fault.specs.declared.fault.FaultKind.TheVariants as kind;
 ghost use Rattle.moo_syntax.specs.Syntax.{IsTree, HasFault};
 
 /// A text has one tree at most, and one that has a tree has no fault but a lack of memory.

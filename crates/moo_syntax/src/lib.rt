@@ -2,7 +2,6 @@
 #![tactic(auto)]
 
 pub mod build;
-pub mod fault;
 pub mod laws;
 pub mod literal;
 pub mod machine;

@@ -12,7 +12,6 @@ ghost use Rattle.moo_syntax.specs.Reading.{RefusedAt};
 ghost use Rattle.moo_syntax.specs.Syntax.{IsTree, HasFault, line_of, kind_of};
 
 use crate::build::{BuildError, statements_of};
-use crate::fault::{FaultKind, SyntaxFault};
 use crate::machine::Machine;
 use crate::nesting::first_deep;
 use crate::step_error::StepError;
@@ -21,6 +20,7 @@ use moo_token::token::Placed;
 use moo_token::tokens::{Tokens, tokens_of};
 use moo_tree::statement::Tree;
 use std::alloc::Global;
+use syntax_fault::fault::{FaultKind, SyntaxFault};
 
 #[derive(Drop)]
 enum ReadError {

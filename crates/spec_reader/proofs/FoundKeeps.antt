@@ -5,7 +5,7 @@ use Rattle.spec_value.specs.Datum.{Text}
 use Rattle.spec_program.specs.Tree.{evaluate, give, instead, the_code}
 use Rattle.spec_program.specs.Tokens as t
 use Rattle.spec_program.specs.Tokens.{Placed}
-use Rattle.spec_program.specs.Reading.{Read, got, stuck, and_then, if_keyword, past_sign as past_this, past_keyword as past_word, is_sign, is_keyword}
+use Rattle.spec_program.specs.Reading.{got, stuck, and_then, if_keyword, past_sign as past_this, past_keyword as past_word, is_sign, is_keyword}
 use Rattle.spec_program.specs.ReadExpressions as by
 use Rattle.spec_program.specs.ReadExpressions.{Found, Operand, FoundCodes, some_arguments, steps, operators, expression}
 use Rattle.spec_program.specs.ReadPrograms as in_programs
@@ -13,12 +13,12 @@ use Rattle.spec_program.specs.ReadPrograms.{FoundBlock, branches, arms, block}
 use Rattle.spec_program.specs.Frames as f
 use Rattle.spec_program.specs.Frames.{Kind, an_expression, an_operand, some_arguments_read, some_branches_read, some_arms_read, a_statement, Of, Frame, Frames, push, resume, means, body_read}
 use Rattle.spec_program.proofs.MovesHold.{pushed}
-use Rattle.spec_reader.specs.Next.{Next, found, reads_expression, reads_steps, reads_operators, reads_arguments, reads_block, reads_branches, reads_arms, goes, stops, on_keyword}
+use Rattle.spec_reader.specs.Next.{found, reads_expression, reads_steps, reads_arguments, reads_block, reads_branches, reads_arms, goes, stops, on_keyword}
 use Rattle.spec_reader.specs.Ends.{past_sign, past_keyword, codes_begin, body_begins}
-use Rattle.spec_reader.specs.Behind.{argument_read, index_read, codes_read, chosen, joined, tried, branch_read, arm_read, behind}
+use Rattle.spec_reader.specs.Behind.{argument_read, index_read, codes_read, tried, branch_read, arm_read, behind}
 use Rattle.spec_reader.specs.Laws.{Keeps}
 use Rattle.spec_reader.proofs.Keeping.{now, via, on_token, past}
-use Rattle.spec_reader.proofs.Parts.{arguments_keep, verb_keeps, codes_keep, items_keep, body_means, braces_keep}
+use Rattle.spec_reader.proofs.Parts.{verb_keeps, codes_keep, items_keep, body_means, braces_keep}
 
 argument_keeps : (n : ℕ) (b spliced : Bool) (fs : Frames some_arguments_read) (e : Found) (ts : List Placed)
     → Keeps n (means n fs (resume n (f.behind_argument b spliced) e ts)) ts (argument_read b spliced fs e ts)

@@ -1,5 +1,5 @@
 -- Where items of braces are read: each token keeps what is still to be read.
-use Rattle.std.proofs.Common.{◌≡◌, ℕ, suc, ◌<◌, Bool, true, false, List, [], ◌∷◌, length, if◌then◌else◌, refl, sym, ap, arith}
+use Rattle.std.proofs.Common.{◌≡◌, ℕ, ◌<◌, Bool, true, false, List, [], ◌∷◌, length, if◌then◌else◌, refl, sym, ap, arith}
 use Rattle.spec_value.specs.Datum.{Text}
 use Rattle.spec_program.specs.Tokens as t
 use Rattle.spec_program.specs.Tokens.{Sign, Token, Placed}
@@ -8,12 +8,12 @@ use Rattle.spec_program.specs.ReadExpressions as by
 use Rattle.spec_program.specs.ReadExpressions.{Allowed, FoundItems, items_from, expression}
 use Rattle.spec_program.specs.Frames as f
 use Rattle.spec_program.specs.Frames.{some_items_read, Frames, Item, push, resume, means}
-use Rattle.spec_program.specs.Moves.{at, begins_with}
+use Rattle.spec_program.specs.Moves.{at}
 use Rattle.spec_program.specs.ItemChoices.{goes_on}
 use Rattle.spec_program.proofs.MovesHold.{pushed, expression_again, items_again}
-use Rattle.spec_reader.specs.Next.{Next, reads_expression, State, goes, stops, next_means, on_word}
+use Rattle.spec_reader.specs.Next.{reads_expression, State, goes, stops, on_word}
 use Rattle.spec_reader.specs.Ends.{items_on}
-use Rattle.spec_reader.specs.Begins.{expression_item, if_alone, plain_item, rest_item, optional_named, optional_item, listed_item, stops_at, item_of_list, scatter_plain, scatter_rest, scatter_unless, item_of_scatter, item_by}
+use Rattle.spec_reader.specs.Begins.{expression_item, if_alone, plain_item, rest_item, optional_named, optional_item, listed_item, stops_at, item_of_list, scatter_plain, scatter_rest, scatter_unless, item_by}
 use Rattle.spec_reader.specs.Laws.{Keeps}
 use Rattle.spec_reader.proofs.Keeping.{now, via, later, on_token, past_a_word}
 use Rattle.spec_reader.proofs.Parts.{items_keep}

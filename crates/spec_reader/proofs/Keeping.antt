@@ -1,5 +1,5 @@
 -- How a step keeps what is still to be read: by what is taken of the tokens.
-use Rattle.std.proofs.Common.{◌≡◌, ℕ, ◌≤◌, Bool, true, false, List, [], ◌∷◌, length, refl, sym, ◌∙◌, arith}
+use Rattle.std.proofs.Common.{◌≡◌, ℕ, Bool, true, false, List, [], ◌∷◌, refl, sym, ◌∙◌, arith}
 use Rattle.spec_value.specs.Datum.{Text, fold_case}
 use Rattle.std.specs.Prelude.{Option, Some, None}
 use Rattle.spec_program.specs.Tokens as t

@@ -5,3 +5,11 @@ pub mod OperandKeeps
 pub mod ItemKeeps
 pub mod StatementKeeps
 pub mod StepHolds
+pub mod Working
+pub mod EndWorks
+pub mod FoundWorks
+pub mod OperandWorks
+pub mod ItemWorks
+pub mod StatementWorks
+pub mod StepWorks
+pub mod WholeRead

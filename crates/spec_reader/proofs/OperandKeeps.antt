@@ -1,5 +1,5 @@
 -- Where an operand, what is behind it, or arguments are read: each token keeps what is still to be read.
-use Rattle.std.proofs.Common.{◌≡◌, ℕ, suc, ◌<◌, Bool, true, false, List, [], ◌∷◌, length, refl, ap, ◌∙◌, arith}
+use Rattle.std.proofs.Common.{◌≡◌, ℕ, ◌<◌, Bool, true, false, List, [], ◌∷◌, length, refl, ap, ◌∙◌, arith}
 use Rattle.std.specs.Prelude.{nat_le}
 use Rattle.spec_value.specs.Datum as value
 use Rattle.spec_value.specs.Datum.{Datum, Text}
@@ -18,9 +18,9 @@ use Rattle.spec_program.specs.Moves.{at}
 use Rattle.spec_program.specs.FurtherMoves.{name_at}
 use Rattle.spec_program.specs.BracedMoves.{all_allowed}
 use Rattle.spec_program.proofs.MovesHold.{pushed, arguments_again, steps_again, operators_again, expression_move}
-use Rattle.spec_reader.specs.Next.{Next, found, reads_expression, reads_steps, reads_items, State, goes, stops, next_means, on, if_there}
+use Rattle.spec_reader.specs.Next.{Next, found, reads_expression, reads_steps, reads_items, State, goes, next_means, on, if_there}
 use Rattle.spec_reader.specs.Ends.{arguments_to}
-use Rattle.spec_reader.specs.Begins.{literal_begins, variable_at, word_begins, system_begins, dollar_alone, dollar_begins, brace_begins, operand_by, operand_begins, name_by, name_begins, step_by, steps_unless, if_tight, joint_by, operators_begin, arguments_begin}
+use Rattle.spec_reader.specs.Begins.{literal_begins, variable_at, word_begins, system_begins, dollar_alone, dollar_begins, brace_begins, operand_by, operand_begins, name_begins, step_by, steps_unless, if_tight, joint_by, operators_begin, arguments_begin}
 use Rattle.spec_reader.specs.Laws.{Keeps}
 use Rattle.spec_reader.proofs.Keeping.{now, via, later, on_token}
 use Rattle.spec_reader.proofs.Parts.{arguments_keep}

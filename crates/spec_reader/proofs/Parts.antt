@@ -1,20 +1,19 @@
 -- Parts that several frames share.
-use Rattle.std.proofs.Common.{◌≡◌, ℕ, zero, suc, Bool, true, false, List, [], ◌∷◌, refl, ◌∙◌, arith}
+use Rattle.std.proofs.Common.{◌≡◌, ℕ, zero, suc, Bool, List, refl, ◌∙◌, arith}
 use Rattle.std.specs.Prelude.{Option, Some, None}
-use Rattle.spec_program.specs.Tree.{Target, Items}
+use Rattle.spec_program.specs.Tree.{Target}
 use Rattle.spec_program.specs.Tokens as t
 use Rattle.spec_program.specs.Tokens.{Sign, Placed}
-use Rattle.spec_program.specs.Reading.{Read, got, stuck, and_then, if_sign, is_sign, is_keyword, past_sign as past_this, Node}
+use Rattle.spec_program.specs.Reading.{Read, got, stuck, and_then, if_sign, is_sign, is_keyword, past_sign as past_this}
 use Rattle.spec_program.specs.ReadExpressions as by
 use Rattle.spec_program.specs.ReadExpressions.{Found, Operand, Braces, Allowed, some_arguments, steps, items_from, operators, expression}
-use Rattle.spec_program.specs.ReadPrograms as in_programs
-use Rattle.spec_program.specs.ReadPrograms.{FoundBlock, block}
+use Rattle.spec_program.specs.ReadPrograms.{block}
 use Rattle.spec_program.specs.Frames as f
 use Rattle.spec_program.specs.Frames.{Kind, an_expression, an_operand, some_arguments_read, some_items_read, some_codes_read, a_statement, Of, Frame, Item, Body, Frames, push, resume, means, body_read}
 use Rattle.spec_program.specs.BracedMoves.{all_codes}
 use Rattle.spec_program.specs.ItemChoices.{goes_on}
 use Rattle.spec_program.proofs.MovesHold.{pushed}
-use Rattle.spec_reader.specs.Next.{Next, found, reads_expression, reads_steps, reads_operators, reads_arguments, reads_items, State, goes, stops, next_means}
+use Rattle.spec_reader.specs.Next.{Next, found, reads_expression, reads_operators, reads_arguments, reads_items, goes, stops, next_means}
 use Rattle.spec_reader.specs.Ends.{past_sign, arguments_to, items_on, codes_begin, body_begins}
 use Rattle.spec_reader.specs.Behind.{verb_named, is_any_level, assigned_or, target_part, target_read, braces_read}
 use Rattle.spec_reader.specs.Laws.{Keeps}

@@ -1,20 +1,19 @@
 -- Where statements are read: each token keeps what is still to be read.
-use Rattle.std.proofs.Common.{◌≡◌, ℕ, suc, ◌<◌, Bool, true, false, List, [], ◌∷◌, length, refl, ap, ◌∙◌, arith}
+use Rattle.std.proofs.Common.{ℕ, suc, ◌<◌, false, List, [], ◌∷◌, length, refl, ap, ◌∙◌, arith}
 use Rattle.std.specs.Prelude.{Option, Some, None}
 use Rattle.spec_value.specs.Datum.{Text, fold_case}
 use Rattle.spec_program.specs.Tree.{Statement, leave_loop, next_turn, give_zero}
 use Rattle.spec_program.specs.Tokens as t
 use Rattle.spec_program.specs.Tokens.{Keyword, Sign, Token, Placed}
-use Rattle.spec_program.specs.Reading.{Read, got, stuck, and_then, if_sign, is_sign, is_keyword}
+use Rattle.spec_program.specs.Reading.{Read, got, stuck, and_then, is_sign, is_keyword}
 use Rattle.spec_program.specs.ReadExpressions as by
 use Rattle.spec_program.specs.ReadExpressions.{expression}
 use Rattle.spec_program.specs.ReadPrograms as in_programs
 use Rattle.spec_program.specs.ReadPrograms.{FoundStatement, FoundBlock, branches, arms, block}
 use Rattle.spec_program.specs.Frames as f
 use Rattle.spec_program.specs.Frames.{Kind, an_expression, a_statement, a_block, some_branches_read, some_arms_read, Frame, Frames, Head, push, resume, means}
-use Rattle.spec_program.specs.Moves.{at}
 use Rattle.spec_program.proofs.MovesHold.{pushed, block_again, branches_again, arms_again}
-use Rattle.spec_reader.specs.Next.{Next, found, reads_expression, reads_block, reads_branches, State, goes, stops, next_means, on_word}
+use Rattle.spec_reader.specs.Next.{found, reads_expression, reads_block, reads_branches, State, goes, stops}
 use Rattle.spec_reader.specs.Ends.{past_sign, codes_begin, statement_ended, head_begins}
 use Rattle.spec_reader.specs.Begins.{return_begins, leaving_begins, for_in, for_named, for_begins, while_begins, fork_begins, branches_begin, arm_named, arms_begin, statement_by_keyword, expression_statement, statement_by_sign, statement_by, block_begins}
 use Rattle.spec_reader.specs.Laws.{Keeps}

@@ -1,5 +1,5 @@
 -- What begins with a token, where something is read.
-use Rattle.std.specs.Prelude.{ℕ, suc, nat_le, ◌==◌, Bool, true, false, List, [], ◌∷◌, if◌then◌else◌, Option, Some, None}
+use Rattle.std.specs.Prelude.{ℕ, nat_le, Bool, true, false, List, [], ◌∷◌, if◌then◌else◌, Option, Some, None}
 use Rattle.spec_value.specs.Datum as value
 use Rattle.spec_value.specs.Datum.{Datum, Text, fold_case}
 use Rattle.spec_value.specs.Operators.{negation, not_true}
@@ -7,7 +7,6 @@ use Rattle.spec_program.specs.Tree.{Statement, literal, variable, own_length, li
 use Rattle.spec_program.specs.Spelling.{operator_level, right_level}
 use Rattle.spec_program.specs.Tokens as t
 use Rattle.spec_program.specs.Tokens.{Keyword, Sign, Token, Placed}
-use Rattle.spec_program.specs.Reading.{is_sign}
 use Rattle.spec_program.specs.ReadExpressions as by
 use Rattle.spec_program.specs.ReadExpressions.{Found, found_at, Operand, whole, Allowed, Joint, joint}
 use Rattle.spec_program.specs.ReadPrograms as in_programs
@@ -16,8 +15,8 @@ use Rattle.spec_program.specs.Frames.{an_expression, an_operand, some_arguments_
 use Rattle.spec_program.specs.Moves.{begins_with}
 use Rattle.spec_program.specs.FurtherMoves.{name_at}
 use Rattle.spec_program.specs.BracedMoves.{all_allowed}
-use Rattle.spec_reader.specs.Next.{Next, found, reads_expression, reads_steps, reads_operators, reads_arguments, reads_items, reads_block, reads_branches, reads_arms, State, goes, stops, on_sign, on_keyword, TakenWord, no_word, this_word, taken_word, on_word}
-use Rattle.spec_reader.specs.Ends.{past_sign, past_keyword, arguments_to, items_on, codes_begin, statement_ended, head_begins}
+use Rattle.spec_reader.specs.Next.{Next, found, reads_expression, reads_steps, reads_items, reads_block, reads_branches, State, goes, stops, on_sign, on_keyword, TakenWord, no_word, this_word, taken_word, on_word}
+use Rattle.spec_reader.specs.Ends.{past_sign, arguments_to, items_on, codes_begin, statement_ended, head_begins}
 
 -- ---- an operand
 

@@ -1,11 +1,9 @@
 -- What goes on behind something that was found, by the newest frame.
 use Rattle.std.specs.Prelude.{ℕ, zero, suc, Bool, true, false, List, [], ◌++◌, Option, Some, None}
 use Rattle.spec_value.specs.Datum.{Text, fold_case}
-use Rattle.spec_value.specs.Operators.{UnaryOperator}
-use Rattle.spec_program.specs.Tree.{own_length, evaluate, give, unary, conditional, call, verb_call, assignment, scatter, Target, Items, codes_in, instead, the_code}
+use Rattle.spec_program.specs.Tree.{own_length, evaluate, give, unary, conditional, call, verb_call, assignment, scatter, Target, codes_in, instead, the_code}
 use Rattle.spec_program.specs.Tokens as t
 use Rattle.spec_program.specs.Tokens.{Placed}
-use Rattle.spec_program.specs.Reading.{Node}
 use Rattle.spec_program.specs.ReadExpressions as by
 use Rattle.spec_program.specs.ReadExpressions.{Found, found_at, FoundArguments, Operand, whole, Braces, Allowed, FoundCodes}
 use Rattle.spec_program.specs.ReadPrograms as in_programs

@@ -1,10 +1,10 @@
-use moo_syntax::fault::FaultKind;
 use moo_syntax::parse::parse;
 use moo_tree::expression::{Expression, ExpressionNode, TargetNode};
 use moo_tree::statement::StatementNode;
 use moo_value::value::Shown;
 use std::alloc::{AllocError, Global};
 use std::test::Fail;
+use syntax_fault::fault::FaultKind;
 
 // Each expression in brackets: a sum as (a + b), a property as [o p], an assignment as {o p = e}.
 fn show(alloc: Global, out: &mut String, expression: &Expression) -> Result<(), AllocError> {

@@ -1,0 +1,29 @@
+use Rattle.std.proofs.Common.{◌≡◌, true, [], ◌∷◌, Some, w32}
+use Rattle.std.proofs.lemmas.Int.{to_z-of_z}
+use Rattle.spec_value.specs.Datum.{object as object_of, text as text_value}
+use Rattle.spec_world.specs.Inherit.{slot_at}
+use Rattle.spec_world.specs.Permissions.{may, write_slot}
+use Rattle.spec_moo.specs.Natives.Properties.{set_property_info_row}
+use Rattle.moo_value.specs.Answers.{answer_of}
+use Rattle.permissions.specs.Acts.{act_of}
+use Rattle.builtins_world.specs.Said.{with_programmer}
+use Rattle.builtins_change.specs.Later.{slot_given}
+use Rattle.builtins_change.specs.Listed.{owner_and_bits}
+use Rattle.builtins_change.proofs.Chains.{then_does, slot_is_given}
+use Rattle.builtins_change.proofs.properties.set_property_info.Goals as goal
+
+pub returns-clause-left : goal.returns-clause-left
+returns-clause-left g c =
+    let object = to_z-of_z w32 c.args.object c.ranges.object in
+    let programmer = to_z-of_z w32 c.args.programmer c.ranges.programmer in
+    let owner = to_z-of_z w32 c.args.owner c.ranges.owner in
+    let act : act_of c.in_ok-act.act ≡ write_slot c.args.object c.args.name.now = cc (c.in_ok-act.ensures, object) in
+    then_does g.V.View.holds g.V.View.now c.args.view.now c.read_slot.new.view c.may.new.view c.give_slot.new.view
+    (λ w. slot_at w c.args.object c.args.name.now ≡ Some c.in-Some.slot) (λ w. may w c.args.programmer (write_slot c.args.object c.args.name.now) ≡ true)
+    (slot_given c.args.object c.args.name.now c.in-Some.slot c.args.owner c.args.bits.now)
+    (λ s k. set_property_info_row s k (object_of c.args.object ∷ text_value c.args.name.now ∷ owner_and_bits c.args.owner c.args.bits.now ∷ []))
+    c.args.programmer (answer_of c.in_ok-answer.answer)
+    (rw (object, c.in-Some.is) at c.in_ok-slot.ensures.left)
+    (rw (programmer, act, c.if-not-allowed.false) at c.in_ok-allowed.ensures.left)
+    (λ w l. let u = (rw (object, programmer, owner) at c.in_ok-answer.ensures.left) w l in (u.0, λ h. u.1))
+    (λ s k is allowed. slot_is_given s (with_programmer k c.args.programmer) c.args.object c.args.name.now c.in-Some.slot c.args.owner c.args.bits.now is allowed)

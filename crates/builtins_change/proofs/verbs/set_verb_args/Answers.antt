@@ -1,0 +1,17 @@
+use Rattle.std.proofs.Common.{w32, subst}
+use Rattle.std.proofs.lemmas.Int.{to_z-of_z}
+use Rattle.std.specs.Prelude.{IfOk}
+use Rattle.moo_value.specs.Answers.{answer_of}
+use Rattle.view.specs.Law.{Goes}
+use Rattle.builtins_world.specs.Said.{Does}
+use Rattle.builtins_change.specs.Later.{specified}
+use Rattle.builtins_change.proofs.verbs.set_verb_args.Goals as goal
+
+pub returns-clause-left : goal.returns-clause-left
+returns-clause-left g c =
+    let object = to_z-of_z w32 c.args.object c.ranges.object in
+    let programmer = to_z-of_z w32 c.args.programmer c.ranges.programmer in
+    subst
+    (λ m. IfOk c.specify.result (λ a. Goes g.V.View.holds g.V.View.now c.args.view.now c.specify.new.view
+    (λ before after. Does (specified m c.args.object c.args.which.now) before after c.args.programmer (answer_of a))))
+    c.read_specifier-specifier.ensures (rw (object, programmer) at c.specify.ensures.left)

@@ -1,0 +1,8 @@
+//! Built-in functions over tasks and the server (Programmer's Manual, "Operations on Tasks" and "Administrative Operations").
+#![tactic(auto)]
+
+pub mod chance;
+pub mod ids;
+pub mod programmer;
+pub mod server;
+pub mod tasks;

@@ -1,0 +1,4 @@
+pub mod Puts
+pub mod Scattering
+pub mod Sharing
+pub mod Storing

@@ -1,0 +1,4 @@
+pub mod Keeping
+pub mod Laws
+pub mod Sameness
+pub mod UnderWay

@@ -1,0 +1,172 @@
+//! Comparisons of what waits. None takes memory.
+ghost use Rattle.std.specs.Prelude.{◌≡◌, ◌↔◌, map, IsTrue, option_map, slice_get};
+ghost use Rattle.moo_code.specs.Slots.{in_slot};
+ghost use Rattle.moo_frame.specs.Effects.{waiting_of};
+ghost use Rattle.moo_frame.specs.Frames.{kept_of, native_name_of, native_of, outer_of};
+ghost use Rattle.moo_task.specs.Sameness.{SlotsAgree, StandAlike};
+
+use moo_frame::effect::Waiting;
+use moo_frame::frame::{Frame, Outer};
+use moo_frame::native::{Native, NativeName};
+use moo_frame::outers::Outers;
+use moo_machine::call::{Call, Start};
+use moo_machine::operands::Operands;
+use moo_value::compare::equal;
+use moo_value::value::Value;
+
+/// Whether two tasks wait for the same.
+pub fn same_waiting(a: &Waiting, b: &Waiting) -> bool
+    ensures { IsTrue result ↔ waiting_of a.now ≡ waiting_of b.now }
+{
+    match (a, b) {
+        (Waiting::Forked(x), Waiting::Forked(y)) => x == y,
+        (Waiting::Timed(x, v), Waiting::Timed(y, u)) => x == y && equal(v, u),
+        (Waiting::Idle, Waiting::Idle) => true,
+        (Waiting::ReadingOn(x), Waiting::ReadingOn(y)) => x == y,
+        _ => false,
+    }
+}
+
+/// Whether the same verbs and built-in functions wait.
+#[tactic(auto, using(crate::proofs::Stacks::outers_alike, crate::proofs::Stacks::alike_outers))]
+pub fn same_outers(a: &Outers, b: &Outers) -> bool
+    ensures { IsTrue result ↔ a.now ≡ b.now }
+{
+    same_stacks(a.as_slice(), b.as_slice())
+}
+
+fn same_stacks(xs: &[Outer], ys: &[Outer]) -> bool
+    ensures { IsTrue result ↔ map outer_of xs.now ≡ map outer_of ys.now }
+{
+    if xs.len() != ys.len() {
+        return false;
+    }
+    for i in 0..xs.len() {
+        if !same_outer(&xs[i], &ys[i]) {
+            return false;
+        }
+    }
+    true
+}
+
+fn same_outer(a: &Outer, b: &Outer) -> bool
+    ensures { IsTrue result ↔ outer_of a.now ≡ outer_of b.now }
+{
+    match (a, b) {
+        (Outer::Verb(x), Outer::Verb(y)) => same_frame(x, y),
+        (Outer::Native(x), Outer::Native(y)) => same_native(x, y),
+        _ => false,
+    }
+}
+
+#[tactic(auto, using(crate::proofs::Sameness::frames_same, crate::proofs::Sameness::same_frames, crate::proofs::Sameness::same_frame_slots))]
+fn same_frame(a: &Frame, b: &Frame) -> bool
+    ensures { IsTrue result ↔ kept_of a.now ≡ kept_of b.now }
+{
+    stand_alike(a, b) && same_slots(a.names(), &a.state.slots, &b.state.slots)
+}
+
+// All but their variables.
+fn stand_alike(a: &Frame, b: &Frame) -> bool
+    ensures { IsTrue result ↔ StandAlike (kept_of a.now) (kept_of b.now) }
+{
+    same_call(&a.call, &b.call)
+        && same_start(a.start.as_start(), b.start.as_start())
+        && a.program.tree().same(b.program.tree())
+        && a.state.place == b.state.place
+        && same_operands(&a.state.operands, &b.state.operands)
+}
+
+fn same_call(a: &Call, b: &Call) -> bool
+    ensures { IsTrue result ↔ a.now ≡ b.now }
+{
+    a.this == b.this
+        && a.caller == b.caller
+        && a.definer == b.definer
+        && a.programmer == b.programmer
+        && a.verb.as_str() == b.verb.as_str()
+        && a.debug == b.debug
+}
+
+fn same_start(a: &Start, b: &Start) -> bool
+    ensures { IsTrue result ↔ a.now ≡ b.now }
+{
+    a.argstr.as_str() == b.argstr.as_str()
+        && a.dobj == b.dobj
+        && a.dobjstr.as_str() == b.dobjstr.as_str()
+        && a.prepstr.as_str() == b.prepstr.as_str()
+        && a.iobj == b.iobj
+        && a.iobjstr.as_str() == b.iobjstr.as_str()
+}
+
+#[tactic(auto, using(crate::proofs::Stacks::stacks_alike))]
+fn same_operands(a: &Operands, b: &Operands) -> bool
+    ensures { IsTrue result ↔ a.now ≡ b.now }
+{
+    same_values(a.above(0), b.above(0))
+}
+
+// So many slots, of which those that are not there have no value.
+fn same_slots(count: usize, xs: &[Option<Value>], ys: &[Option<Value>]) -> bool
+    ensures { IsTrue result ↔ SlotsAgree count xs.now ys.now }
+{
+    for i in 0..count {
+        if !same_value(value_in(xs, i), value_in(ys, i)) {
+            return false;
+        }
+    }
+    true
+}
+
+// The value in a slot, which has none where it is not there.
+fn value_in(slots: &[Option<Value>], slot: usize) -> Option<&Value>
+    ensures { option_map (λ v. v.now) result ≡ in_slot (slice_get slots.now slot) }
+{
+    if slot < slots.len() {
+        slots[slot].as_ref()
+    } else {
+        None
+    }
+}
+
+fn same_value(a: Option<&Value>, b: Option<&Value>) -> bool
+    ensures { IsTrue result ↔ option_map (λ v. v.now) a.entry ≡ option_map (λ v. v.now) b.entry }
+{
+    match (a, b) {
+        (Some(x), Some(y)) => equal(x, y),
+        (None, None) => true,
+        _ => false,
+    }
+}
+
+fn same_native(a: &Native, b: &Native) -> bool
+    ensures { IsTrue result ↔ native_of a.now ≡ native_of b.now }
+{
+    same_name(a.name, b.name) && a.stage == b.stage && same_values(&a.arguments, &b.arguments)
+}
+
+fn same_name(a: NativeName, b: NativeName) -> bool
+    ensures { IsTrue result ↔ native_name_of a ≡ native_name_of b }
+{
+    match (a, b) {
+        (NativeName::Move, NativeName::Move)
+        | (NativeName::Create, NativeName::Create)
+        | (NativeName::Recycle, NativeName::Recycle)
+        | (NativeName::Eval, NativeName::Eval) => true,
+        _ => false,
+    }
+}
+
+fn same_values(xs: &[Value], ys: &[Value]) -> bool
+    ensures { IsTrue result ↔ xs.now ≡ ys.now }
+{
+    if xs.len() != ys.len() {
+        return false;
+    }
+    for i in 0..xs.len() {
+        if !equal(&xs[i], &ys[i]) {
+            return false;
+        }
+    }
+    true
+}

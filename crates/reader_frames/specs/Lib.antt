@@ -1,0 +1,3 @@
+pub mod LeftView
+pub mod FrameViews
+pub mod StateView

@@ -1,0 +1,10 @@
+//! What a reader of tokens has begun, what it reads next, and the tokens that are left.
+#![tactic(auto)]
+
+pub mod allowed;
+pub mod ends;
+pub mod frame;
+pub mod left;
+pub mod number;
+pub mod state;
+pub mod words;

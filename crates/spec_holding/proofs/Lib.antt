@@ -1,0 +1,14 @@
+pub mod HeldValues
+pub mod ArmsReach
+pub mod PointsReach
+pub mod TreesFit
+pub mod WorldsHold
+pub mod ChangesHold
+pub mod BuiltinsHold
+pub mod EffectsFit
+pub mod CatchesFit
+pub mod TurnsHold
+pub mod SegmentsHold
+pub mod StepsHold
+pub mod WholeWorlds
+pub mod Unspelled

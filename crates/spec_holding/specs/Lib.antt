@@ -1,0 +1,5 @@
+pub mod Points
+pub mod Fitting
+pub mod UnderWay
+pub mod Whole
+pub mod Unspelled

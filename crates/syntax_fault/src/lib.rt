@@ -1,0 +1,4 @@
+//! Why a text is no program, and where.
+#![tactic(auto)]
+
+pub mod fault;

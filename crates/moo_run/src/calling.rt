@@ -8,6 +8,7 @@ ghost use Rattle.moo_run.specs.Scenes.{led_at};
 ghost use Rattle.moo_run.specs.Calls.{AreArguments, calls_function_at, calls_native_at};
 
 use crate::natives::Natives;
+use moo_asking::asking::pass;
 use moo_frame::deeds::Deeds;
 use moo_frame::outcome::Outcome;
 use moo_frame::running::Running;

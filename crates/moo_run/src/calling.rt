@@ -8,6 +8,7 @@ ghost use Rattle.moo_run.specs.Scenes.{led_at};
 ghost use Rattle.moo_run.specs.Calls.{AreArguments, calls_function_at, calls_native_at};
 
 use crate::natives::Natives;
+use moo_asking::asking::pass;
 use moo_frame::deeds::Deeds;
 use moo_frame::outcome::Outcome;
 use moo_frame::running::Running;
@@ -35,6 +36,31 @@ pub fn is_pass(name: &Text) -> bool
     ensures { result ≡ same_text name.now (codes "pass") }
 {
     name.as_str() == "pass"
+}
+
+/// A call of a function, with its list of arguments on top: `pass` calls a verb.
+pub fn call<V: View, N: Natives>(
+    alloc: Global,
+    view: &mut V,
+    natives: &mut N,
+    deeds: &mut Deeds,
+    task: &mut Running,
+    name: &Text,
+) -> Result<Outcome, AllocError>
+    requires home { V.holds view.old (V.home view.old) }
+    requires well_formed { AreWellFormed V.holds V.now view.old }
+    requires place { task.old.frame.state.place + 1 < 2 ^ 64 }
+    ensures lasts { Lasts V.holds V.home V.anchor view.old view.new result }
+    ensures calls { IfOk result (λ o. Goes V.holds V.now view.old view.new (λ before after.
+        calls_function_at name.now deeds.old before task.old ≡ led_at o deeds.new after task.new)) }
+    ensures player { IfOk result (λ o. task.new.player ≡ task.old.player) }
+    ensures well_formed { OnOk result (AreWellFormed V.holds V.now view.new) }
+{
+    let passes = is_pass(name);
+    if passes {
+        return pass(alloc, view, task);
+    }
+    call_function(alloc, view, natives, deeds, task, name)
 }
 
 /// A call of a built-in function other than `pass`, with its list of arguments on top.

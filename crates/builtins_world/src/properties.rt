@@ -153,7 +153,12 @@ fn cleared(slot: Slot) -> Slot
 
 /// A property's slot on an object that is there is another one.
 #[tactic(auto, using(crate::proofs::Changes::slot_put))]
-pub fn put_slot<V: View>(view: &mut V, object: i32, name: &Text, slot: Slot) -> Result<(), AllocError>
+pub fn put_slot<V: View>(
+    view: &mut V,
+    object: i32,
+    name: &Text,
+    slot: Slot,
+) -> Result<(), AllocError>
     ensures lasts { Lasts V.holds V.home V.anchor view.old view.new result }
     ensures left { OnOk result (Goes V.holds V.now view.old view.new (λ before after. after ≡ with_slot before object name.now slot)) }
 {

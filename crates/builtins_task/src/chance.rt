@@ -65,7 +65,8 @@ fn bound(greatest: i32) -> Option<u32>
 
 // A number from 1 to a greatest one, by a word.
 fn up_to(word: u32, greatest: u32) -> i32
-    requires { 0 < greatest < 2147483648 }
+    requires lower { 0 < greatest }
+    requires upper { greatest < 2147483648 }
     ensures { result ≡ pos (1 + (word % greatest)) }
 {
     (word % greatest + 1) as i32

@@ -3,6 +3,5 @@
 
 pub mod chance;
 pub mod ids;
-pub mod programmer;
 pub mod server;
 pub mod tasks;

@@ -39,7 +39,8 @@ pub fn dump_database<V: View>(
 pub fn shutdown<V: View>(view: &mut V, programmer: i32) -> Result<Answer, AllocError>
     requires home { V.holds view.old (V.home view.old) }
     ensures lasts { Lasts V.holds V.home V.anchor view.old view.new result }
-    ensures left { IfOk result (λ a. Goes V.holds V.now view.old view.new (λ before after. Does (λ s c. shutdown_row s c []) before after programmer (answer_of a))) }
+    ensures left { IfOk result (λ a. Goes V.holds V.now view.old view.new
+        (λ before after. Does (λ s c. shutdown_row s c []) before after programmer (answer_of a))) }
 {
     if !may(view, programmer, &Act::Administer)? {
         return Ok(Err(MooError::PermissionDenied));

@@ -28,7 +28,8 @@ pub const LAST_MOMENT: u32 = 2147483647;
 
 /// `ticks_left`: how many ticks the task has left. No task has more than an integer says.
 pub fn ticks_left(deeds: &Deeds, ticks: u32) -> Result<Answer, AllocError>
-    ensures { IfOk result (λ a. (w : World) (c : Caller) → ticks_left_row (scene_of deeds.now w ticks) c [] ≡ effect_of (Answers a) (scene_of deeds.now w ticks)) }
+    ensures { IfOk result (λ a. (w : World) (c : Caller) →
+        ticks_left_row (scene_of deeds.now w ticks) c [] ≡ effect_of (Answers a) (scene_of deeds.now w ticks)) }
 {
     let _known = deeds.number;
     match i32::try_from(ticks) {

@@ -6,7 +6,7 @@ use Rattle.spec_value.specs.Answer.{Answer}
 use Rattle.spec_world.specs.World.{World, Object, Slot, Verb, object_at}
 use Rattle.spec_world.specs.Inherit.{slot_of, slot_at}
 use Rattle.spec_world.specs.Permissions.{in_place, may, write_slot, write_verb, change_members}
-use Rattle.spec_world.specs.Questions.{verbs_at}
+use Rattle.spec_view.specs.Questions.{verbs_at}
 use Rattle.spec_moo.specs.Scene.{Scene, in_world}
 use Rattle.spec_moo.specs.NativeEffect.{Caller, NativeEffect, answers, refuses}
 use Rattle.spec_moo.specs.Natives.Rows.{if_there}

@@ -3,7 +3,7 @@ ghost use Rattle.std.specs.Prelude.{◌≡◌, ◌<◌, ◌++◌, ◌∷◌, [],
 ghost use Rattle.spec_world.specs.Families.{change_object};
 ghost use Rattle.spec_world.specs.Members.{with_verb, without_verb, verb_added, verb_deleted, verb_changed};
 ghost use Rattle.spec_world.specs.Permissions.{in_place};
-ghost use Rattle.spec_world.specs.Questions.{verbs_at};
+ghost use Rattle.spec_view.specs.Questions.{verbs_at};
 ghost use Rattle.spec_moo.specs.Natives.Verbs.{with_info as with_info_of, with_specifier as with_specifier_of};
 ghost use Rattle.view.specs.Law.{Goes, Lasts};
 ghost use Rattle.builtins_change.specs.Specifiers.{specifier_of};

@@ -3,7 +3,7 @@ ghost use Rattle.std.specs.Prelude.{◌≡◌, ◌&&◌, [], ◌∷◌, not, is_
 ghost use Rattle.spec_value.specs.Datum.{object as object_of};
 ghost use Rattle.spec_world.specs.World.{object_at};
 ghost use Rattle.spec_world.specs.Permissions.{in_place};
-ghost use Rattle.spec_world.specs.Questions.{verbs_at};
+ghost use Rattle.spec_view.specs.Questions.{verbs_at};
 ghost use Rattle.spec_world.specs.VerbNames.{names_in};
 ghost use Rattle.spec_moo.specs.Natives.Properties.{are_bits as are_bits_of};
 ghost use Rattle.spec_moo.specs.Natives.Verbs.{set_verb_info_row, set_verb_args_row, add_verb_row, delete_verb_row, is_none_named};

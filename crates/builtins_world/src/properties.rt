@@ -4,7 +4,7 @@ ghost use Rattle.spec_value.specs.Datum.{object as object_of, text as text_value
 ghost use Rattle.spec_value.specs.Answer.{truth};
 ghost use Rattle.spec_world.specs.World.{object_at};
 ghost use Rattle.spec_world.specs.Inherit.{with_slot};
-ghost use Rattle.spec_world.specs.Questions.{new_slot};
+ghost use Rattle.spec_view.specs.Questions.{new_slot};
 ghost use Rattle.spec_world.specs.WellFormed.{has_name as has_name_of};
 ghost use Rattle.spec_moo.specs.Natives.Properties.{properties_row, property_info_row, is_clear_property_row, clear_property_row, slot_bits as slot_bits_of, defines_it};
 ghost use Rattle.moo_value.specs.Answers.{answer_of};

@@ -4,7 +4,6 @@ pub mod Inherit
 pub mod WellFormed
 pub mod Agreeing
 pub mod Locally
-pub mod Questions
 pub mod Laws
 pub mod ObjectLaws
 pub mod Permissions

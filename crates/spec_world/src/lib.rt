@@ -1,4 +1,4 @@
-//! The meaning of worlds: objects, tasks and links, inheritance, well-formedness, questions and changes, by definitions alone.
+//! The meaning of worlds: objects, tasks and links, inheritance, well-formedness, by definitions alone.
 #![tactic(auto)]
 
 pub mod inheritance;

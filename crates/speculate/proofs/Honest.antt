@@ -3,7 +3,7 @@ use Rattle.std.proofs.Common.{◌≡◌, ℕ, zero, suc, ◌+◌, List, [], ◌�
 use Rattle.std.proofs.lemmas.List.{take_all}
 use Rattle.std.proofs.lemmas.Option.{slice_get_within}
 use Rattle.spec_world.specs.World.{World}
-use Rattle.spec_world.specs.Questions.{Agrees}
+use Rattle.spec_view.specs.Questions.{Agrees}
 use Rattle.spec_task.specs.Step.{Step, Outcome, RunsOn, AllInRange, in_range, play1, play}
 use Rattle.world.specs.Counted.{Counted}
 use Rattle.world.specs.Sound.{IsSound}

@@ -1,7 +1,7 @@
 -- A step run over nothing but its reads.
 use Rattle.std.proofs.Common.{◌≡◌, List, [], sym, subst}
 use Rattle.spec_world.specs.World.{World}
-use Rattle.spec_world.specs.Questions.{Read, Change}
+use Rattle.spec_view.specs.Questions.{Read, Change}
 use Rattle.spec_task.specs.Step.{Step, Outcome, play1}
 use Rattle.view.specs.Law.{Goes}
 use Rattle.view.specs.Trace.{Trace, IsStart, world_now}

@@ -2,7 +2,7 @@
 use Rattle.std.specs.Prelude.{◌≡◌, List, refl}
 use Rattle.std.specs.Coded.{Coded, code_by, coded×, coded_list}
 use Rattle.spec_world.specs.World.{World}
-use Rattle.spec_world.specs.Questions.{Read, Change, Agrees, apply_all}
+use Rattle.spec_view.specs.Questions.{Read, Change, Agrees, apply_all}
 use Rattle.spec_task.specs.Step.{Step, Outcome, play1}
 use Rattle.spec_task.specs.StepCode.{step_code, outcome_code}
 use Rattle.footprint.specs.QuestionCode.{read_code, change_code}

@@ -1,7 +1,7 @@
 -- A step leaves a sound world sound.
 use Rattle.std.proofs.Common.{◌≡◌, Result, Ok, Err, sym, subst, IfOk, OnOk}
 use Rattle.spec_world.specs.World.{World}
-use Rattle.spec_world.specs.Questions.{Change, apply}
+use Rattle.spec_view.specs.Questions.{Change, apply}
 use Rattle.spec_task.specs.Step.{Event, Outcome, performed}
 use Rattle.world.specs.Sound.{IsSound}
 use Rattle.world.proofs.SoundKeeps.{sound_performed}

@@ -1,7 +1,7 @@
 -- What a step does to a view, reading by reading.
 use Rattle.std.proofs.Common.{◌≡◌, ℕ, suc, ◌+◌, ◌≤◌, Result, Ok, Err, sym, ap, ◌∙◌, arith}
 use Rattle.std.specs.Prelude.{IfOk, max, min}
-use Rattle.spec_world.specs.Questions.{new_next, apply}
+use Rattle.spec_view.specs.Questions.{new_next, apply}
 use Rattle.spec_world.specs.World.{World}
 use Rattle.spec_task.specs.Step.{Step, Outcome, performed, play1}
 use Rattle.view.specs.Law.{Goes}

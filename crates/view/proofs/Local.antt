@@ -12,7 +12,7 @@ use Rattle.spec_world.specs.Inherit.{slot_of, slot_at, put_slot, with_slot}
 use Rattle.spec_world.specs.Families.{change_at, change_object}
 use Rattle.spec_world.proofs.Households.{at_changed, at_without}
 use Rattle.spec_world.proofs.SlotTables.{text_turned, named_with, named_without}
-use Rattle.spec_world.specs.Questions.{Question, about_header, about_children, about_contents, about_defines, about_slot, about_verbs, about_link, about_greatest, about_ending, Answer, the_header, the_children, the_contents, the_defines, the_slot, the_verbs, the_link, the_greatest, the_ending, ask, Part, put_header, put_children, put_contents, put_defines, put_verbs, put_slots, put_part, new_slot, slot_on, Change, new_part, new_value, new_object, new_link, new_greatest, new_ending, new_next, put_value, is_number, put_record, apply, apply_all}
+use Rattle.spec_view.specs.Questions.{Question, about_header, about_children, about_contents, about_defines, about_slot, about_verbs, about_link, about_greatest, about_ending, Answer, the_header, the_children, the_contents, the_defines, the_slot, the_verbs, the_link, the_greatest, the_ending, ask, Part, put_header, put_children, put_contents, put_defines, put_verbs, put_slots, put_part, new_slot, slot_on, Change, new_part, new_value, new_object, new_link, new_greatest, new_ending, new_next, put_value, is_number, put_record, apply, apply_all}
 
 abbrev same_number : ℤ → ℤ → Bool
 same_number = eq_by_cmp int_cmp

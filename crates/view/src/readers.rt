@@ -2,7 +2,7 @@
 ghost use Rattle.std.specs.Prelude.{◌≡◌, IfOk, OnOk};
 ghost use Rattle.spec_value.specs.Table.{at};
 ghost use Rattle.spec_world.specs.Inherit.{slot_at};
-ghost use Rattle.spec_world.specs.Questions.{header_at, children_at, contents_at, defines_at, verbs_at, apply, new_part, new_value, new_object, new_link, new_greatest, new_ending, new_next};
+ghost use Rattle.spec_view.specs.Questions.{header_at, children_at, contents_at, defines_at, verbs_at, apply, new_part, new_value, new_object, new_link, new_greatest, new_ending, new_next};
 ghost use Rattle.footprint.specs.Meanings.{part_of, change_of};
 ghost use Rattle.view.specs.Law.{Goes, Keeps, Lasts, StaysSound, Tells};
 

@@ -2,7 +2,7 @@ use Rattle.std.proofs.Common.{◌≡◌, true, Some, w32}
 use Rattle.std.proofs.lemmas.Int.{to_z-of_z}
 use Rattle.std.specs.Prelude.{option_map}
 use Rattle.spec_world.specs.Permissions.{may, change_members}
-use Rattle.spec_world.specs.Questions.{verbs_at}
+use Rattle.spec_view.specs.Questions.{verbs_at}
 use Rattle.moo_value.specs.Answers.{answer_of}
 use Rattle.builtins_world.specs.Said.{with_programmer}
 use Rattle.builtins_change.specs.Later.{added, added_owned}

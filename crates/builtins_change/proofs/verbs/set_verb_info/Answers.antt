@@ -2,7 +2,7 @@ use Rattle.std.proofs.Common.{◌≡◌, true, [], ◌∷◌, Some, w32}
 use Rattle.std.proofs.lemmas.Int.{to_z-of_z}
 use Rattle.spec_value.specs.Datum.{object as object_of}
 use Rattle.spec_world.specs.Permissions.{in_place, may, write_verb}
-use Rattle.spec_world.specs.Questions.{verbs_at}
+use Rattle.spec_view.specs.Questions.{verbs_at}
 use Rattle.spec_moo.specs.Natives.Verbs.{verb_place, set_verb_info_row}
 use Rattle.moo_value.specs.Answers.{answer_of}
 use Rattle.builtins_world.specs.Said.{with_programmer}

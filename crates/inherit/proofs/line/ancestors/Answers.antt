@@ -1,7 +1,7 @@
 use Rattle.std.proofs.Common.{◌≡◌, ◌++◌, Some, not, sym, ap, ◌∙◌, rules, w32, to_z, of_z}
 use Rattle.std.proofs.lemmas.Int.{to_z-of_z}
 use Rattle.spec_world.specs.Inherit.{ancestors}
-use Rattle.spec_world.specs.Questions.{header_at}
+use Rattle.spec_view.specs.Questions.{header_at}
 use Rattle.inherit.specs.Lines.{from}
 use Rattle.inherit.proofs.Walks.{line_ends, line_goes_on, nearer_by}
 use Rattle.inherit.proofs.Tellings.{known_on, told_on, nearer_told}

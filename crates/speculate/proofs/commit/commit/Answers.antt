@@ -1,5 +1,5 @@
 use Rattle.std.proofs.Common.{rules, subst}
-use Rattle.spec_world.specs.Questions.{Agrees}
+use Rattle.spec_view.specs.Questions.{Agrees}
 use Rattle.spec_task.specs.Step.{Step}
 use Rattle.world.specs.Sound.{IsSound}
 use Rattle.speculate.specs.declared.held.Held.{Held}

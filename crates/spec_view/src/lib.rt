@@ -1,0 +1,4 @@
+//! What a step asks of a world and changes in it: questions, answers and changes, by definitions alone.
+#![tactic(auto)]
+
+pub mod laws;

@@ -1,0 +1,7 @@
+//! Statements as a reader of tokens reads them: what begins one, and what goes on behind its parts.
+#![tactic(auto)]
+
+pub mod begin;
+pub mod block;
+pub mod branches;
+pub mod statement;

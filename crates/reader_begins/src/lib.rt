@@ -2,6 +2,9 @@
 #![tactic(auto)]
 
 pub mod items;
+pub mod level;
+pub mod literal;
 pub mod operand;
 pub mod operators;
+pub mod parts;
 pub mod steps;

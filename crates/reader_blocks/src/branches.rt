@@ -8,9 +8,10 @@ ghost use Rattle.reader_frames.specs.FrameViews.{all_begun, branches_begun, arms
 ghost use Rattle.reader_frames.specs.StateView.{state_of};
 
 use moo_reader::block::{Arms, Branches};
+use moo_reader::statement::{branch_of, guarded_of, with_arm, with_branch};
 use reader_frames::frame::{ArmsFrame, BranchesFrame, Frame};
 use reader_frames::left::Left;
-use reader_frames::state::State;
+use reader_frames::state::{Next, Part, State};
 use std::alloc::{AllocError, Global};
 use std::collections::VecDeque;
 
@@ -24,7 +25,18 @@ pub fn behind_branches(
 ) -> Result<State, AllocError>
     ensures { IfOk result (λ s. state_of s ≡ found_by (branches_begun frame (all_begun begun.items)) (branches_found branches) (left_of left)) }
 {
-    Err(AllocError)
+    match frame {
+        BranchesFrame::If { line } => {
+            let statement = branch_of(alloc, line, branches)?;
+            let next = Next::Found(Part::Statement(statement));
+            Ok(State { next, begun, left })
+        }
+        BranchesFrame::Behind { condition, block } => {
+            let branches = with_branch(condition, block, branches)?;
+            let next = Next::Found(Part::Branches(branches));
+            Ok(State { next, begun, left })
+        }
+    }
 }
 
 /// Behind handlers.
@@ -37,5 +49,20 @@ pub fn behind_arms(
 ) -> Result<State, AllocError>
     ensures { IfOk result (λ s. state_of s ≡ found_by (arms_begun frame (all_begun begun.items)) (arms_found arms) (left_of left)) }
 {
-    Err(AllocError)
+    match frame {
+        ArmsFrame::Try { line, tried } => {
+            let statement = guarded_of(alloc, line, tried, arms)?;
+            let next = Next::Found(Part::Statement(statement));
+            Ok(State { next, begun, left })
+        }
+        ArmsFrame::Behind {
+            variable,
+            codes,
+            block,
+        } => {
+            let arms = with_arm(variable, codes, block, arms)?;
+            let next = Next::Found(Part::Arms(arms));
+            Ok(State { next, begun, left })
+        }
+    }
 }

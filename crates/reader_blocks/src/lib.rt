@@ -3,5 +3,9 @@
 
 pub mod begin;
 pub mod block;
+pub mod body;
 pub mod branches;
+pub mod heads;
+pub mod leaving;
 pub mod statement;
+pub mod strays;

@@ -1,0 +1,2 @@
+pub mod TakenJoints
+pub mod Ends

@@ -1,5 +1,5 @@
 -- What the steps of a reader keep of the text.
-use Rattle.std.proofs.Common.{◌≡◌, ℕ, suc, ◌+◌, ◌<◌, ◌≤◌, true, false, List, length, refl, sym, ap, ◌∙◌, subst, arith}
+use Rattle.std.proofs.Common.{◌≡◌, ◌+◌, ◌<◌, ◌≤◌, true, false, List, length, sym, ap, ◌∙◌, subst, arith}
 use Rattle.spec_program.specs.Tokens.{Placed}
 use Rattle.spec_program.specs.ReadPrograms.{parsed_by, parsed_tokens}
 use Rattle.spec_reader.specs.Next.{State, state_means}

@@ -2,7 +2,7 @@
 use Rattle.std.specs.Prelude.{◌≡◌, ℕ, List}
 use Rattle.spec_program.specs.Tokens.{Placed}
 use Rattle.spec_program.specs.ReadPrograms.{parsed_by}
-use Rattle.spec_reader.specs.Next.{Next, State, state_means, goes}
+use Rattle.spec_reader.specs.Next.{State, state_means, goes}
 use Rattle.spec_reader.specs.Work.{work}
 use Rattle.reader_frames.specs.declared.frame.Frame.{Frame}
 use Rattle.reader_frames.specs.declared.state.Part.{Part}

@@ -119,8 +119,8 @@ pub fn is_over(state: &State) -> bool
 
 fn discard_part(_part: Part) {}
 
-/// What was to be read next is let go of.
-pub fn discard(next: Next) {
+// What was to be read next is let go of.
+fn discard(next: Next) {
     match next {
         Next::Found(part) => discard_part(part),
         _ => {}

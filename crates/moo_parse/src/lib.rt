@@ -5,5 +5,4 @@ pub mod answer;
 pub mod ending;
 pub mod parse;
 pub mod reading;
-pub mod step;
 pub mod trim;

@@ -7,11 +7,11 @@ ghost use Rattle.reader_frames.specs.StateView.{state_of};
 ghost use Rattle.moo_parse.specs.Given.{given};
 
 use crate::ending::is_over;
-use crate::step::step;
 use crate::trim::trimmed;
 use moo_token::tokens::Tokens;
 use reader_frames::left::Left;
 use reader_frames::state::{Next, State};
+use reader_step::step::step;
 use std::alloc::{AllocError, Global};
 use std::collections::VecDeque;
 

@@ -1,0 +1,6 @@
+pub mod Lines
+pub mod Ended
+pub mod EndsTell
+pub mod Going
+pub mod Trimmed
+pub mod Answered

@@ -1,0 +1,5 @@
+//! One step of a reader of tokens.
+#![tactic(auto)]
+
+pub mod found;
+pub mod step;

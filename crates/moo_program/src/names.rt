@@ -128,6 +128,30 @@ pub fn count_slots(own: &[Text]) -> usize
     STARTING_NAMES.len() + own.len()
 }
 
+/// The slot of a variable, where these are the names behind the first ones; or how many slots there are, if it has none.
+#[tactic(auto, using(crate::proofs::Slots::slot_starting, crate::proofs::Slots::slot_own, crate::proofs::Slots::starting_within, crate::proofs::Slots::place_within))]
+pub fn slot_among(own: &[Text], name: &str) -> usize
+    ensures { result ≡ slot_of (known own.now) name.now }
+{
+    let place = starting_place(name);
+    if place < STARTING_NAMES.len() {
+        return place;
+    }
+    place + own_place(own, name)
+}
+
+// The place among a program's own names.
+fn own_place(names: &[Text], name: &str) -> usize
+    ensures { result ≡ slot_of names.now name.now }
+{
+    for (place, known) in names.iter().enumerate() {
+        if name == known.as_str() {
+            return place;
+        }
+    }
+    names.len()
+}
+
 fn is_named(names: &[Text], place: usize, name: &Text) -> bool
     ensures { IsTrue result → slice_get names.now place ≡ Some name.now }
 {

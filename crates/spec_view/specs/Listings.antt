@@ -1,8 +1,7 @@
 -- What a world lists of its tasks and links (Programmer's Manual, "Operations on Tasks" and "Operations on Network Connections").
 use Rattle.std.specs.Prelude.{ℤ, pos, int_le, List, map, filter}
 use Rattle.std.specs.Ordering.{int_eq}
-use Rattle.spec_value.specs.Table.{Numbered}
-use Rattle.spec_world.specs.World.{World, Task, Link}
+use Rattle.spec_world.specs.World.{World}
 use Rattle.spec_world.specs.Links.{reads_on}
 
 -- the ids of the tasks that wait

@@ -63,6 +63,7 @@ fn copy_frame(alloc: Global, frame: &Frame) -> Result<Frame, AllocError>
         call: copy_call(&frame.call)?,
         start: frame.start.clone()?,
         program: frame.program.clone()?,
+        further: frame.further.clone()?,
         state: State {
             place: state.place,
             operands: copy_operands(alloc, &state.operands)?,

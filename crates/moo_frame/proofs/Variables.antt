@@ -30,25 +30,22 @@ found_at (u ∷ vs) (suc i) v x b small is same = found_at vs i v x b (omega ari
 
 -- ---- in a verb
 
-has_slot : (names : List Text) (x : Text) → slot_of names x < length names → has_name names x ≡ true
-has_slot names x small = has_is names x ∙ lt-ltb (slot_of names x) (length names) small
+has_slot : (names : List Text) (x : Text) (slot : ℕ) → slot ≡ slot_of names x → slot < length names → has_name names x ≡ true
+has_slot names x slot is small = has_is names x ∙ lt-ltb (slot_of names x) (length names) (omega (arith, is, small))
 
-pub is_named : (p : Program) (x : Text) (slot : ℕ) → slot ≡ slot_of (names_of p) x → slot < length (names_of p) → has_name (names_of p) x ≡ true
-is_named p x slot is small = has_slot (names_of p) x (omega (arith, is, small))
-
-pub is_not_named : (p : Program) (x : Text) (slot : ℕ) → slot ≡ slot_of (names_of p) x → length (names_of p) ≤ slot → has_name (names_of p) x ≡ false
-is_not_named p x slot is great = has_is (names_of p) x ∙ le-ltb (slot_of (names_of p) x) (length (names_of p)) (omega (arith, is, great))
+has_none : (names : List Text) (x : Text) (slot : ℕ) → slot ≡ slot_of names x → length names ≤ slot → has_name names x ≡ false
+has_none names x slot is great = has_is names x ∙ le-ltb (slot_of names x) (length names) (omega (arith, is, great))
 
 pub held_in_slot : (p : Program) (further : List (Text × Datum)) (slots : List (Option Datum)) (x : Text) (slot : ℕ)
     → slot ≡ slot_of (names_of p) x → slot < length (names_of p) → in_slot (slice_get slots slot) ≡ named (variables_with p further slots) x
 held_in_slot p further slots x slot is small =
     let names : List Text = names_of p in
-    let there : slice_get names (slot_of names x) ≡ Some x = name_has_slot names x (is_named p x slot is small) in
+    let there : slice_get names (slot_of names x) ≡ Some x = name_has_slot names x (has_slot names x slot is small) in
     sym (slot_is_variable (others names further) names slots slot x (others_have_none names further) (names_are_once p) (ap (slice_get names) is ∙ there))
 
 pub held_further : (p : Program) (further : List (Text × Datum)) (slots : List (Option Datum)) (x : Text) (slot : ℕ)
     → slot ≡ slot_of (names_of p) x → length (names_of p) ≤ slot → named further x ≡ named (variables_with p further slots) x
 held_further p further slots x slot is great =
     let names : List Text = names_of p in
-    let none : has_name names x ≡ false = is_not_named p x slot is great in
+    let none : has_name names x ≡ false = has_none names x slot is great in
     sym (others_stay (others names further) names slots x none ∙ others_named names further x ∙ ap (λ b. if b then None else named further x) none)

@@ -1,7 +1,6 @@
 //! A verb under way, and what waits for a verb.
 ghost use Rattle.std.specs.Prelude.{◌≡◌, suc, length, option_map, IfOk};
 ghost use Rattle.spec_value.specs.Table.{named};
-ghost use Rattle.spec_world.specs.WellFormed.{has_name};
 ghost use Rattle.moo_code.specs.Names.{names_of};
 ghost use Rattle.moo_frame.specs.Frames.{kept_of};
 
@@ -66,12 +65,4 @@ impl Frame {
             None => Err(AllocError),
         }
     }
-}
-
-/// Whether a program names a variable.
-#[tactic(auto, using(crate::proofs::Variables::is_named, crate::proofs::Variables::is_not_named))]
-pub fn is_variable_of(program: &Program, name: &str) -> bool
-    ensures { result ≡ has_name (names_of program.now) name.now }
-{
-    slot_among(program.names(), name) < program.slot_count()
 }

@@ -1,6 +1,7 @@
 //! The names of a program's variables, and their slots.
 ghost use Rattle.std.specs.Prelude.{◌≡◌, ℕ, List, [], ◌∷◌, length, map, slice_get, IfSome, IsTrue, OnOk, Some};
 ghost use Rattle.std.specs.Borrow.{Bor};
+ghost use Rattle.spec_world.specs.WellFormed.{has_name};
 ghost use Rattle.moo_code.specs.Names.{with_names, starting_names};
 ghost use Rattle.moo_code.specs.Slots.{slot_of};
 ghost use Rattle.moo_program.specs.Names.{known};
@@ -138,6 +139,14 @@ pub fn slot_among(own: &[Text], name: &str) -> usize
         return place;
     }
     place + own_place(own, name)
+}
+
+/// Whether a variable has a slot, where these are the names behind the first ones.
+#[tactic(auto, using(crate::proofs::Slots::has_is))]
+pub fn has_slot_among(own: &[Text], name: &str) -> bool
+    ensures { result ≡ has_name (known own.now) name.now }
+{
+    slot_among(own, name) < count_slots(own)
 }
 
 // The place among a program's own names.

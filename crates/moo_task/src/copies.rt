@@ -83,7 +83,8 @@ fn copy_native(alloc: Global, native: &Native) -> Result<Native, AllocError>
     })
 }
 
-fn copy_call(call: &Call) -> Result<Call, AllocError>
+/// A copy of who runs which verb.
+pub fn copy_call(call: &Call) -> Result<Call, AllocError>
     ensures { IfOk result (λ copy. copy ≡ call.now) }
 {
     Ok(Call {

@@ -1,6 +1,6 @@
 //! Comparisons of what waits. None takes memory.
 ghost use Rattle.std.specs.Prelude.{◌≡◌, ◌↔◌, length, map, IsTrue, option_map};
-ghost use Rattle.moo_code.specs.Names.{names_of};
+ghost use Rattle.moo_program.specs.Names.{known};
 ghost use Rattle.moo_frame.specs.Effects.{waiting_of};
 ghost use Rattle.moo_frame.specs.Frames.{kept_of, native_name_of, native_of, outer_of};
 ghost use Rattle.moo_frame.specs.Variables.{variable_of};
@@ -13,8 +13,9 @@ use moo_frame::outers::Outers;
 use moo_frame::variables::{SharedVariables, Variable, value_in};
 use moo_machine::call::{Call, Start};
 use moo_machine::operands::Operands;
-use moo_program::program::Program;
+use moo_program::names::has_slot_among;
 use moo_value::compare::equal;
+use moo_value::text::Text;
 use moo_value::value::Value;
 
 /// Whether two tasks wait for the same.
@@ -68,7 +69,7 @@ fn same_frame(a: &Frame, b: &Frame) -> bool
 {
     stand_alike(a, b)
         && same_slots(a.names(), &a.state.slots, &b.state.slots)
-        && same_further(&a.program, &a.further, &b.further)
+        && same_further(a.program.names(), &a.further, &b.further)
 }
 
 // All but their variables.
@@ -123,37 +124,32 @@ fn same_slots(count: usize, xs: &[Option<Value>], ys: &[Option<Value>]) -> bool
     true
 }
 
-// Whether those variables are the same that a program does not name. Where all are, the time is the product of their count
-// with itself and that of the program's names.
+// Whether those variables are the same that a program does not name, whose own names these are. Where all are, the time is
+// the product of their count with itself and that of the names.
 #[tactic(auto, using(crate::proofs::Further::further_agree, crate::proofs::Further::agree_on_any))]
-fn same_further(program: &Program, a: &SharedVariables, b: &SharedVariables) -> bool
-    ensures { IsTrue result ↔ FurtherAgree (names_of program.now) a.now b.now }
+fn same_further(own: &[Text], a: &SharedVariables, b: &SharedVariables) -> bool
+    ensures { IsTrue result ↔ FurtherAgree (known own.now) a.now b.now }
 {
-    agree_on(program, a.as_slice(), a, b) && agree_on(program, b.as_slice(), a, b)
+    agree_on(own, a.as_slice(), a, b) && agree_on(own, b.as_slice(), a, b)
 }
 
-// Whether the variables of a list have the same values, unless a program names them.
+// Whether the variables of a list have the same values, unless they have slots.
 #[tactic(auto, using(crate::proofs::Further::one_more_agrees, crate::proofs::Further::agrees_there))]
-fn agree_on(
-    program: &Program,
-    variables: &[Variable],
-    a: &SharedVariables,
-    b: &SharedVariables,
-) -> bool
-    ensures { IsTrue result ↔ AgreeOn (names_of program.now) a.now b.now (length variables.now) (map variable_of variables.now) }
+fn agree_on(own: &[Text], variables: &[Variable], a: &SharedVariables, b: &SharedVariables) -> bool
+    ensures { IsTrue result ↔ AgreeOn (known own.now) a.now b.now (length variables.now) (map variable_of variables.now) }
 {
     for i in 0..variables.len() {
-        if !agree_at(program, variables[i].name.as_str(), a, b) {
+        if !agree_at(own, variables[i].name.as_str(), a, b) {
             return false;
         }
     }
     true
 }
 
-fn agree_at(program: &Program, name: &str, a: &SharedVariables, b: &SharedVariables) -> bool
-    ensures { IsTrue result ↔ AgreeAt (names_of program.now) a.now b.now name.now }
+fn agree_at(own: &[Text], name: &str, a: &SharedVariables, b: &SharedVariables) -> bool
+    ensures { IsTrue result ↔ AgreeAt (known own.now) a.now b.now name.now }
 {
-    is_variable_of(program, name) || same_value(a.find(name), b.find(name))
+    has_slot_among(own, name) || same_value(a.find(name), b.find(name))
 }
 
 fn same_value(a: Option<&Value>, b: Option<&Value>) -> bool

@@ -35,12 +35,12 @@ pub enum Fork {
     Started(i32, Task),
 }
 
-// What a `fork` asks for.
+/// What a `fork` asks for, and gets.
 #[derive(Drop)]
 pub enum Request {
-    /// It gets nothing.
+    /// Nothing: it is refused.
     Refused(Did),
-    /// It gets an id, and the moment at which the task is due, in seconds.
+    /// An id, and the moment at which the task is due, in seconds.
     Granted(i32, u32),
 }
 

@@ -97,7 +97,7 @@ fn find_among(variables: &[Variable], name: &str) -> Option<&Value>
     ensures { option_map (λ v. v.now) result ≡ named (map variable_of variables.now) name.now }
 {
     for variable in variables {
-        if variable.name.as_str() == name {
+        if name == variable.name.as_str() {
             return Some(&variable.value);
         }
     }

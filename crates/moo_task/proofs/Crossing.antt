@@ -14,6 +14,8 @@ use Rattle.moo_frame.specs.contracts.frame.Outer as outer
 use Rattle.moo_frame.specs.contracts.native.Native as native
 use Rattle.moo_frame.specs.contracts.outers.Outers as outers
 use Rattle.moo_frame.specs.contracts.start.SharedStart as shared_start
+use Rattle.moo_frame.specs.contracts.variables.SharedVariables as shared_variables
+use Rattle.moo_frame.specs.contracts.variables.Variable as variable
 use Rattle.moo_task.specs.contracts.task.Task as task
 
 call_send : IsSend call.the_row
@@ -46,15 +48,27 @@ state_send = search (sendable, crosses, operands_send, value_send) depth 60
 state_sync : IsSync state.the_row
 state_sync = search (sendable, crosses, operands_sync, value_sync) depth 60
 
+variable_send : IsSend variable.the_row
+variable_send = search (sendable, crosses, text_send, value_send) depth 60
+
+variable_sync : IsSync variable.the_row
+variable_sync = search (sendable, crosses, text_sync, value_sync) depth 60
+
+shared_variables_send : IsSend shared_variables.the_row
+shared_variables_send = search (sendable, crosses, variable_send, variable_sync) depth 60
+
+shared_variables_sync : IsSync shared_variables.the_row
+shared_variables_sync = search (sendable, crosses, variable_send, variable_sync) depth 60
+
 frame_send : IsSend frame.the_row
 frame_send =
     declared_send frame.the_type
-    (as_row_send call.the_field call_send, (as_row_send shared_start.the_field shared_start_send, (as_row_send program.the_field program_send, (state_send, tt))))
+    (as_row_send call.the_field call_send, (as_row_send shared_start.the_field shared_start_send, (as_row_send program.the_field program_send, (as_row_send shared_variables.the_field shared_variables_send, (state_send, tt)))))
 
 frame_sync : IsSync frame.the_row
 frame_sync =
     declared_sync frame.the_type
-    (as_row_sync call.the_field call_sync, (as_row_sync shared_start.the_field shared_start_sync, (as_row_sync program.the_field program_sync, (state_sync, tt))))
+    (as_row_sync call.the_field call_sync, (as_row_sync shared_start.the_field shared_start_sync, (as_row_sync program.the_field program_sync, (as_row_sync shared_variables.the_field shared_variables_sync, (state_sync, tt)))))
 
 native_send : IsSend native.the_row
 native_send = search (sendable, crosses, as_row_send, value_send) depth 60

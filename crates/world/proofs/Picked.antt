@@ -2,7 +2,7 @@
 use Rattle.std.proofs.Common.{◌≡◌, ◌≢◌, ℕ, ℤ, Bool, true, false, not, List, [], ◌∷◌, Option, Some, None, cond, is_eq, IsTrue, ◌&&◌, refl, sym, ◌∙◌, ap, subst, Ordering, Less, Equal, Greater}
 use Rattle.std.specs.Ordering.{eq_by_cmp, is_lt}
 use Rattle.std.specs.Cmp.{IsTotalOrder}
-use Rattle.std.specs.FinMap.{put, is_sorted}
+use Rattle.std.specs.FinMap.{put, is_sorted, IsAntisymmetric}
 use Rattle.std.specs.FinMap.Entries.{by_order, where_key, below_all, is_sorted-where_key}
 use Rattle.spec_value.proofs.Entries.{first_holds, second_holds, both_hold}
 use Rattle.spec_value.proofs.Keys.{as_type, as_test, still_sorted}
@@ -14,10 +14,7 @@ less_is Less h = refl
 less_is Equal h = cc
 less_is Greater h = cc
 
-abbrev EqualIs : {K : Type 0} → (K → K → Ordering) → Type 0
-EqualIs {K} R = (j k : K) → R j k ≡ Equal → j ≡ k
-
-module _ {K : Type 0} {R : K → K → Ordering} (o : IsTotalOrder R) (exact : EqualIs R) where
+module _ {K : Type 0} {R : K → K → Ordering} (o : IsTotalOrder R) (exact : IsAntisymmetric R) where
   -- ---- a key below all others
 
   below_less : {X : Type 0} (j k : K) (es : List (K × X)) → R j k ≡ Less → IsTrue (below_all R k es) → IsTrue (below_all R j es)
@@ -61,46 +58,45 @@ module _ {K : Type 0} {R : K → K → Ordering} (o : IsTotalOrder R) (exact : E
 
   -- ---- what is picked
 
-  module _ {X Y : Type 0} (f : X → Option Y) where
-    below_picked : (k : K) (es : List (K × X)) → IsTrue (below_all R k es) → IsTrue (below_all R k (picked f es))
-    below_picked k [] h = refl
-    below_picked k (e ∷ es) h = go (below_picked k es (second_holds _ _ h)) (f e.1)
-      where
-        go : IsTrue (below_all R k (picked f es)) → (y : Option Y) → IsTrue (below_all R k (pick e.0 y (picked f es)))
-        go rest None = rest
-        go rest (Some y) = both_hold (is_lt (R k e.0)) (below_all R k (picked f es)) (first_holds _ _ h) rest
+  below_picked : {X Y : Type 0} (f : X → Option Y) (k : K) (es : List (K × X)) → IsTrue (below_all R k es) → IsTrue (below_all R k (picked f es))
+  below_picked f k [] h = refl
+  below_picked f k (e ∷ es) h = go (below_picked f k es (second_holds _ _ h)) (f e.1)
+    where
+      go : IsTrue (below_all R k (picked f es)) → (y : Option Y) → IsTrue (below_all R k (pick e.0 y (picked f es)))
+      go rest None = rest
+      go rest (Some y) = both_hold (is_lt (R k e.0)) (below_all R k (picked f es)) (first_holds _ _ h) rest
 
-    pub picked_put : (k : K) (x : X) (es : List (K × X)) → IsTrue (is_sorted R es) → picked f (put R k x es) ≡ changed R k (f x) (picked f es)
-    picked_put k x [] h = go (f x)
-      where
-        go : (y : Option Y) → pick k y [] ≡ changed R k y []
-        go None = refl
-        go (Some y) = refl
-    picked_put k x (e ∷ es) h = go (R k e.0) refl (picked_put k x es (second_holds _ _ h))
-      where
-        above : IsTrue (below_all R e.0 es)
-        above = first_holds _ _ h
+  pub picked_put : {X Y : Type 0} (f : X → Option Y) (k : K) (x : X) (es : List (K × X)) → IsTrue (is_sorted R es) → picked f (put R k x es) ≡ changed R k (f x) (picked f es)
+  picked_put f k x [] h = go (f x)
+    where
+      go : (y : Option Y) → pick k y [] ≡ changed R k y []
+      go None = refl
+      go (Some y) = refl
+  picked_put f k x (e ∷ es) h = go (R k e.0) refl (picked_put f k x es (second_holds _ _ h))
+    where
+      above : IsTrue (below_all R e.0 es)
+      above = first_holds _ _ h
 
-        go : (r : Ordering) → R k e.0 ≡ r → picked f (put R k x es) ≡ changed R k (f x) (picked f es)
-            → picked f (by_order r ((k, x) ∷ e ∷ es) ((e.0, x) ∷ es) (e ∷ put R k x es)) ≡ changed R k (f x) (pick e.0 (f e.1) (picked f es))
-        go Less t later =
-            sym (changed_first k (f x) (picked f (e ∷ es)) (below_picked k (e ∷ es) (both_hold (is_lt (R k e.0)) (below_all R k es) (ap is_lt t) (below_less k e.0 es t above))))
-        go Equal t later = sym (changed_there k e.0 (f x) (f e.1) (picked f es) t (below_picked e.0 es above))
-        go Greater t later = ap (pick e.0 (f e.1)) later ∙ sym (changed_behind k e.0 (f x) (f e.1) (picked f es) t)
+      go : (r : Ordering) → R k e.0 ≡ r → picked f (put R k x es) ≡ changed R k (f x) (picked f es)
+          → picked f (by_order r ((k, x) ∷ e ∷ es) ((e.0, x) ∷ es) (e ∷ put R k x es)) ≡ changed R k (f x) (pick e.0 (f e.1) (picked f es))
+      go Less t later =
+          sym (changed_first k (f x) (picked f (e ∷ es)) (below_picked f k (e ∷ es) (both_hold (is_lt (R k e.0)) (below_all R k es) (ap is_lt t) (below_less k e.0 es t above))))
+      go Equal t later = sym (changed_there k e.0 (f x) (f e.1) (picked f es) t (below_picked f e.0 es above))
+      go Greater t later = ap (pick e.0 (f e.1)) later ∙ sym (changed_behind k e.0 (f x) (f e.1) (picked f es) t)
 
-    pub picked_removed : (k : K) (es : List (K × X)) → picked f (removed k es) ≡ removed k (picked f es)
-    picked_removed k [] = refl
-    picked_removed k (e ∷ es) = go (picked_removed k es) (not (eq_by_cmp R k e.0)) refl
-      where
-        kept : (y : Option Y) (ds : List (K × Y)) → not (eq_by_cmp R k e.0) ≡ true → removed k (pick e.0 y ds) ≡ pick e.0 y (removed k ds)
-        kept None ds t = refl
-        kept (Some y) ds t = ap (λ b. cond b ((e.0, y) ∷ removed k ds) (removed k ds)) t
+  pub picked_removed : {X Y : Type 0} (f : X → Option Y) (k : K) (es : List (K × X)) → picked f (removed k es) ≡ removed k (picked f es)
+  picked_removed f k [] = refl
+  picked_removed f k (e ∷ es) = go (picked_removed f k es) (not (eq_by_cmp R k e.0)) refl
+    where
+      kept : (y : Option Y) (ds : List (K × Y)) → not (eq_by_cmp R k e.0) ≡ true → removed k (pick e.0 y ds) ≡ pick e.0 y (removed k ds)
+      kept None ds t = refl
+      kept (Some y) ds t = ap (λ b. cond b ((e.0, y) ∷ removed k ds) (removed k ds)) t
 
-        gone : (y : Option Y) (ds : List (K × Y)) → not (eq_by_cmp R k e.0) ≡ false → removed k (pick e.0 y ds) ≡ removed k ds
-        gone None ds t = refl
-        gone (Some y) ds t = ap (λ b. cond b ((e.0, y) ∷ removed k ds) (removed k ds)) t
+      gone : (y : Option Y) (ds : List (K × Y)) → not (eq_by_cmp R k e.0) ≡ false → removed k (pick e.0 y ds) ≡ removed k ds
+      gone None ds t = refl
+      gone (Some y) ds t = ap (λ b. cond b ((e.0, y) ∷ removed k ds) (removed k ds)) t
 
-        go : picked f (removed k es) ≡ removed k (picked f es) → (b : Bool) → not (eq_by_cmp R k e.0) ≡ b
-            → picked f (cond b (e ∷ removed k es) (removed k es)) ≡ removed k (pick e.0 (f e.1) (picked f es))
-        go later true t = ap (pick e.0 (f e.1)) later ∙ sym (kept (f e.1) (picked f es) t)
-        go later false t = later ∙ sym (gone (f e.1) (picked f es) t)
+      go : picked f (removed k es) ≡ removed k (picked f es) → (b : Bool) → not (eq_by_cmp R k e.0) ≡ b
+          → picked f (cond b (e ∷ removed k es) (removed k es)) ≡ removed k (pick e.0 (f e.1) (picked f es))
+      go later true t = ap (pick e.0 (f e.1)) later ∙ sym (kept (f e.1) (picked f es) t)
+      go later false t = later ∙ sym (gone (f e.1) (picked f es) t)

@@ -1,9 +1,9 @@
 -- What is picked of the entries of a table.
-use Rattle.std.specs.Prelude.{ℕ, List, [], ◌∷◌, Option, Some, None}
-use Rattle.std.specs.Ordering.{Ordering, eq_by_cmp}
+use Rattle.std.specs.Prelude.{ℕ, not, List, [], ◌∷◌, Option, Some, None}
+use Rattle.std.specs.Ordering.{eq_by_cmp}
+use Rattle.std.specs.declared.cmp.Ordering.{Ordering}
 use Rattle.std.specs.FinMap.{put}
 use Rattle.std.specs.FinMap.Entries.{where_key}
-use Rattle.std.specs.Prelude.{not}
 
 -- an entry before the others, if there is something for it
 abbrev pub pick : {K Y : Type 0} → K → Option Y → List (K × Y) → List (K × Y)

@@ -20,9 +20,9 @@ pub(crate) trait Choice<R, T> {
     /// What is chosen of the record of a key, if anything is.
     ghost picks: { Self → ℕ → R → Option T };
 
-    fn choose(&self, key: u64, record: &R) -> Option<T>
+    fn choose(&self, key: u64, found: &R) -> Option<T>
         requires { key < bound self.now }
-        ensures { result ≡ picks self.now key record.now };
+        ensures { result ≡ picks self.now key found.now };
 }
 
 /// The ids of all tasks.
@@ -34,7 +34,7 @@ impl Choice<Task, i32> for AllIds {
 
     ghost picks = { λ _ k _. Some (signed_key k) };
 
-    fn choose(&self, key: u64, _record: &Task) -> Option<i32> {
+    fn choose(&self, key: u64, _found: &Task) -> Option<i32> {
         Some(id_of(key))
     }
 }

@@ -228,7 +228,7 @@ impl Draft {
     }
 
     // The connections of a person.
-    #[tactic(auto, using(crate::proofs::Listed::links_of, crate::proofs::Listed::few_links))]
+    #[tactic(auto, using(crate::proofs::Listed::links_of))]
     fn connections(&self, person: i32) -> Result<Numbers, AllocError>
         ensures { IfOk result (λ cs. cs ≡ connections_of self.now person) }
     {
@@ -237,7 +237,7 @@ impl Draft {
         Numbers::new(self.alloc, connections)
     }
 
-    #[tactic(auto, using(crate::proofs::Listed::links_of, crate::proofs::Listed::few_links))]
+    #[tactic(auto, using(crate::proofs::Listed::links_of))]
     fn is_connections(&self, person: i32, answer: &Answer) -> bool
         ensures { IsTrue result ↔ the_connections (connections_of self.now person) ≡ answer_of answer.now }
     {
@@ -251,7 +251,7 @@ impl Draft {
     }
 
     // The connections on which players have logged in, with the players.
-    #[tactic(auto, using(crate::proofs::Listed::logged_in, crate::proofs::Listed::few_links))]
+    #[tactic(auto, using(crate::proofs::Listed::logged_in))]
     fn connected(&self) -> Result<Players, AllocError>
         ensures { IfOk result (λ ps. ps ≡ connected self.now) }
     {
@@ -260,7 +260,7 @@ impl Draft {
         Ok(Players::new(players))
     }
 
-    #[tactic(auto, using(crate::proofs::Listed::logged_in, crate::proofs::Listed::few_links))]
+    #[tactic(auto, using(crate::proofs::Listed::logged_in))]
     fn is_connected(&self, answer: &Answer) -> bool
         ensures { IsTrue result ↔ the_connected (connected self.now) ≡ answer_of answer.now }
     {

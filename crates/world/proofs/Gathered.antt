@@ -1,5 +1,5 @@
 -- What is chosen of a table, from one key to the next.
-use Rattle.std.proofs.Common.{◌≡◌, ◌↔◌, ℕ, zero, suc, ◌+◌, ◌≤◌, List, [], ◌∷◌, ◌++◌, length, drop, Option, Some, None, IsTrue, refl, sym, ◌∙◌, ap, subst, arith, unwrap_or}
+use Rattle.std.proofs.Common.{◌≡◌, ◌↔◌, ℕ, zero, suc, ◌+◌, ◌≤◌, List, [], ◌∷◌, ◌++◌, length, drop, Option, Some, None, IsTrue, refl, sym, ◌∙◌, ap, arith, add-one, unwrap_or}
 use Rattle.std.specs.Prelude.{slice_get}
 use Rattle.std.specs.Ordering.{nat_cmp}
 use Rattle.std.specs.FinMap.{is_sorted}
@@ -52,7 +52,7 @@ module _ {X T : Type 0} (p : ℕ → X → Option T) (es : List (ℕ × X)) wher
   pub first_matches : (xs : List T) → Matches 0 0 xs
   first_matches xs = (λ e. all_left ∙ e, λ e. sym all_left ∙ e)
 
-  drop_got : (xs : List T) (n : ℕ) (t : T) → slice_get xs n ≡ Some t → drop n xs ≡ t ∷ drop (n + 1) xs
+  drop_got : (xs : List T) (n : ℕ) (t : T) → slice_get xs n ≡ Some t → drop n xs ≡ t ∷ drop (suc n) xs
   drop_got [] n t is = cc
   drop_got (x ∷ xs) zero t is = ap (λ o. unwrap_or o x ∷ xs) is
   drop_got (x ∷ xs) (suc n) t is = drop_got xs n t is
@@ -80,7 +80,7 @@ module _ {X T : Type 0} (p : ℕ → X → Option T) (es : List (ℕ × X)) wher
   pub one_matches : (k n : ℕ) (f : ℕ × X) (t : T) (xs : List T) → IsTrue (is_sorted nat_cmp es) → Some f ≡ first_from k es → Some t ≡ p f.0 f.1 → slice_get xs n ≡ Some t → Matches k n xs → Matches (f.0 + 1) (n + 1) xs
   one_matches k n f t xs sorted is chose there h =
       let here : left k ≡ t ∷ left (f.0 + 1) = next_left k f sorted is ∙ ap (λ o. before o (left (f.0 + 1))) (sym chose) in
-      let rest : drop n xs ≡ t ∷ drop (n + 1) xs = drop_got xs n t there in
+      let rest : drop n xs ≡ t ∷ drop (n + 1) xs = drop_got xs n t there ∙ ap (λ m. t ∷ drop m xs) (sym (add-one n)) in
       (λ e. cons_parts t _ _ (sym here ∙ h.0 e ∙ rest), λ e. h.1 (here ∙ ap (λ us. t ∷ us) e ∙ sym rest))
 
   pub none_matches : (k n : ℕ) (f : ℕ × X) (xs : List T) → IsTrue (is_sorted nat_cmp es) → Some f ≡ first_from k es → None ≡ p f.0 f.1 → Matches k n xs → Matches (f.0 + 1) n xs
@@ -88,10 +88,10 @@ module _ {X T : Type 0} (p : ℕ → X → Option T) (es : List (ℕ × X)) wher
       let here : left k ≡ left (f.0 + 1) = next_left k f sorted is ∙ ap (λ o. before o (left (f.0 + 1))) (sym chose) in
       (λ e. sym here ∙ h.0 e, λ e. h.1 (here ∙ e))
 
-  pub one_differs : (k n : ℕ) (f : ℕ × X) (t : T) (xs : List T) → IsTrue (is_sorted nat_cmp es) → Some f ≡ first_from k es → Some t ≡ p f.0 f.1 → (slice_get xs n ≡ Some t → ⊥) → Matches k n xs → chosen p es ≡ xs → ⊥
-  one_differs k n f t xs sorted is chose other h e =
+  pub one_there : (k n : ℕ) (f : ℕ × X) (t : T) (xs : List T) → IsTrue (is_sorted nat_cmp es) → Some f ≡ first_from k es → Some t ≡ p f.0 f.1 → Matches k n xs → chosen p es ≡ xs → slice_get xs n ≡ Some t
+  one_there k n f t xs sorted is chose h e =
       let here : left k ≡ t ∷ left (f.0 + 1) = next_left k f sorted is ∙ ap (λ o. before o (left (f.0 + 1))) (sym chose) in
-      other (got_drop xs (left (f.0 + 1)) n t (sym (h.0 e) ∙ here))
+      got_drop xs (left (f.0 + 1)) n t (sym (h.0 e) ∙ here)
 
   pub there_is : (n : ℕ) (t : T) (xs : List T) → slice_get xs n ≡ Some t → n + 1 ≤ length xs
   there_is n t [] is = cc

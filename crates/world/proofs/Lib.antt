@@ -9,3 +9,4 @@ pub mod Adding
 pub mod Picked
 pub mod Listed
 pub mod Gathered
+pub mod TasksKept

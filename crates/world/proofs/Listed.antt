@@ -1,5 +1,5 @@
 -- What a world lists is chosen of its tables.
-use Rattle.std.proofs.Common.{◌≡◌, ℕ, suc, ◌<◌, ◌≤◌, ℤ, pos, int_le, Bool, true, false, cond, List, [], ◌∷◌, map, filter, Option, Some, None, refl, ◌∙◌, ap, arith, All}
+use Rattle.std.proofs.Common.{◌≡◌, ℕ, suc, ◌<◌, ◌≤◌, ℤ, pos, int_le, Bool, true, false, cond, List, [], ◌∷◌, map, filter, Option, Some, None, refl, sym, ◌∙◌, ap, subst, arith, All}
 use Rattle.std.specs.List.{AllByRecursion}
 use Rattle.std.specs.Ordering.{int_eq}
 use Rattle.spec_value.specs.Table.{Numbered}
@@ -8,7 +8,7 @@ use Rattle.spec_world.specs.Links.{reads_on}
 use Rattle.moo_task.specs.Waits.{read_on}
 use Rattle.world.specs.Numbered.{numbered, signed_key, signed}
 use Rattle.world.specs.Picked.{pick, picked, before, chosen}
-use Rattle.world.specs.Tasks.{AreIds, reading}
+use Rattle.world.specs.Tasks.{AreIds, reading, AreTasks}
 
 -- ---- tasks
 
@@ -34,11 +34,19 @@ readers_of c (e ∷ es) = go (e.1).waiting (readers_of c es)
 
 pub reading_ids : (es : List (ℕ × Task)) → AreIds es → AreIds (reading es)
 reading_ids [] h = tt
-reading_ids (e ∷ es) h = go (read_on (e.1).waiting)
+reading_ids (e ∷ es) h = go (reading_ids es h.1) (read_on (e.1).waiting)
   where
-    go : (c : Option ℤ) → AreIds (pick e.0 c (reading es))
-    go None = reading_ids es h.1
-    go (Some c) = (h.0, reading_ids es h.1)
+    go : AreIds (reading es) → (c : Option ℤ) → AreIds (pick e.0 c (reading es))
+    go rest None = rest
+    go rest (Some c) = (h.0, rest)
+
+-- the same from the readers that are known
+pub known_ids : (es : List (ℕ × Task)) (rs : List (ℕ × ℤ)) → AreTasks es rs → AreIds rs
+known_ids es rs h = subst (λ (ds : List (ℕ × ℤ)). AreIds ds) (sym h.readers) (reading_ids es h.ids)
+
+pub known_readers : (c : ℤ) (es : List (ℕ × Task)) (rs : List (ℕ × ℤ)) → AreTasks es rs
+    → chosen (λ k d. cond (int_eq c d) (Some (signed_key k)) None) rs ≡ map (λ e. e.0) (filter (λ e. reads_on c (e.1).waiting) (signed es))
+known_readers c es rs h = ap (λ (ds : List (ℕ × ℤ)). chosen (λ k d. cond (int_eq c d) (Some (signed_key k)) None) ds) h.readers ∙ readers_of c es
 
 -- ---- links
 
@@ -52,12 +60,12 @@ links_of o (e ∷ es) = go (int_eq (e.1).person o) (links_of o es)
     go true h = ap (λ js. pos e.0 ∷ js) h
     go false h = h
 
-pub logged_in : (es : List (ℕ × Link)) → chosen (λ k l. cond (int_le (pos 0) l.person) (Some (pos k, l.person)) None) es ≡ map (λ e. (e.0, (e.1).person)) (filter (λ e. int_le (pos 0) (e.1).person) (numbered es))
+pub logged_in : (es : List (ℕ × Link)) → chosen {T = ℤ × ℤ} (λ k l. cond (int_le (pos 0) l.person) (Some (pos k, l.person)) None) es ≡ map (λ e. (e.0, (e.1).person)) (filter (λ e. int_le (pos 0) (e.1).person) (numbered es))
 logged_in [] = refl
 logged_in (e ∷ es) = go (int_le (pos 0) (e.1).person) (logged_in es)
   where
-    go : (b : Bool) → chosen (λ k l. cond (int_le (pos 0) l.person) (Some (pos k, l.person)) None) es ≡ map (λ x. (x.0, (x.1).person)) (filter (λ x. int_le (pos 0) (x.1).person) (numbered es))
-        → before (cond b (Some (pos e.0, (e.1).person)) None) (chosen (λ k l. cond (int_le (pos 0) l.person) (Some (pos k, l.person)) None) es)
+    go : (b : Bool) → chosen {T = ℤ × ℤ} (λ k l. cond (int_le (pos 0) l.person) (Some (pos k, l.person)) None) es ≡ map (λ x. (x.0, (x.1).person)) (filter (λ x. int_le (pos 0) (x.1).person) (numbered es))
+        → before {T = ℤ × ℤ} (cond b (Some (pos e.0, (e.1).person)) None) (chosen {T = ℤ × ℤ} (λ k l. cond (int_le (pos 0) l.person) (Some (pos k, l.person)) None) es)
         ≡ map (λ x. (x.0, (x.1).person)) (cond b ((pos e.0, e.1) ∷ filter (λ x. int_le (pos 0) (x.1).person) (numbered es)) (filter (λ x. int_le (pos 0) (x.1).person) (numbered es)))
     go true h = ap (λ ps. (pos e.0, (e.1).person) ∷ ps) h
     go false h = h

@@ -60,19 +60,19 @@ module _ {K : Type 0} {R : K → K → Ordering} (o : IsTotalOrder R) (exact : I
 
   below_picked : {X Y : Type 0} (f : X → Option Y) (k : K) (es : List (K × X)) → IsTrue (below_all R k es) → IsTrue (below_all R k (picked f es))
   below_picked f k [] h = refl
-  below_picked f k (e ∷ es) h = go (below_picked f k es (second_holds _ _ h)) (f e.1)
+  below_picked {Y = Y} f k (e ∷ es) h = go (below_picked f k es (second_holds _ _ h)) (f e.1)
     where
       go : IsTrue (below_all R k (picked f es)) → (y : Option Y) → IsTrue (below_all R k (pick e.0 y (picked f es)))
       go rest None = rest
       go rest (Some y) = both_hold (is_lt (R k e.0)) (below_all R k (picked f es)) (first_holds _ _ h) rest
 
   pub picked_put : {X Y : Type 0} (f : X → Option Y) (k : K) (x : X) (es : List (K × X)) → IsTrue (is_sorted R es) → picked f (put R k x es) ≡ changed R k (f x) (picked f es)
-  picked_put f k x [] h = go (f x)
+  picked_put {Y = Y} f k x [] h = go (f x)
     where
       go : (y : Option Y) → pick k y [] ≡ changed R k y []
       go None = refl
       go (Some y) = refl
-  picked_put f k x (e ∷ es) h = go (R k e.0) refl (picked_put f k x es (second_holds _ _ h))
+  picked_put {Y = Y} f k x (e ∷ es) h = go (R k e.0) refl (picked_put f k x es (second_holds _ _ h))
     where
       above : IsTrue (below_all R e.0 es)
       above = first_holds _ _ h
@@ -86,7 +86,7 @@ module _ {K : Type 0} {R : K → K → Ordering} (o : IsTotalOrder R) (exact : I
 
   pub picked_removed : {X Y : Type 0} (f : X → Option Y) (k : K) (es : List (K × X)) → picked f (removed k es) ≡ removed k (picked f es)
   picked_removed f k [] = refl
-  picked_removed f k (e ∷ es) = go (picked_removed f k es) (not (eq_by_cmp R k e.0)) refl
+  picked_removed {Y = Y} f k (e ∷ es) = go (picked_removed f k es) (not (eq_by_cmp R k e.0)) refl
     where
       kept : (y : Option Y) (ds : List (K × Y)) → not (eq_by_cmp R k e.0) ≡ true → removed k (pick e.0 y ds) ≡ pick e.0 y (removed k ds)
       kept None ds t = refl

@@ -13,6 +13,6 @@ AreIds es = AllByRecursion (λ e. e.0 < 4294967296) es
 abbrev pub reading : List (ℕ × Task) → List (ℕ × ℤ)
 reading es = picked (λ t. read_on t.waiting) es
 
-pub record AreTasks (tasks : List (ℕ × Task)) (readers : List (ℕ × ℤ)) : Type 0 where
+pub record AreTasks (tasks : List (ℕ × Task)) (known : List (ℕ × ℤ)) : Type 0 where
   pub ids : AreIds tasks
-  pub readers : readers ≡ reading tasks
+  pub readers : known ≡ reading tasks

@@ -197,8 +197,9 @@ impl Draft {
     fn waiting(&self) -> Result<Numbers, AllocError>
         ensures { IfOk result (λ ids. ids ≡ waiting_ids self.now) }
     {
-        let ids = self.tasks.ids(self.alloc)?;
-        Numbers::new(self.alloc, ids)
+        let found = self.tasks.ids(self.alloc)?;
+        let ids = Numbers::new(self.alloc, found)?;
+        Ok(ids)
     }
 
     fn is_waiting(&self, answer: &Answer) -> bool
@@ -214,8 +215,9 @@ impl Draft {
     fn readers(&self, connection: i32) -> Result<Numbers, AllocError>
         ensures { IfOk result (λ ids. ids ≡ readers_on self.now connection) }
     {
-        let ids = self.tasks.readers_on(self.alloc, connection)?;
-        Numbers::new(self.alloc, ids)
+        let found = self.tasks.readers_on(self.alloc, connection)?;
+        let ids = Numbers::new(self.alloc, found)?;
+        Ok(ids)
     }
 
     fn is_readers(&self, connection: i32, answer: &Answer) -> bool
@@ -228,45 +230,55 @@ impl Draft {
     }
 
     // The connections of a person.
-    #[tactic(auto, using(crate::proofs::Listed::links_of))]
     fn connections(&self, person: i32) -> Result<Numbers, AllocError>
         ensures { IfOk result (λ cs. cs ≡ connections_of self.now person) }
     {
         let _within = self.links.len();
-        let connections = gather(self.alloc, &self.links, &LinksOf { person })?;
-        Numbers::new(self.alloc, connections)
+        let found = gather(self.alloc, &self.links, &LinksOf { person })?;
+        let connections = Numbers::new(self.alloc, found)?;
+        Ok(connections)
     }
 
-    #[tactic(auto, using(crate::proofs::Listed::links_of))]
+    fn has_connections(&self, person: i32, connections: &[i32]) -> bool
+        ensures { IsTrue result ↔ connections_of self.now person ≡ connections.now }
+    {
+        let _within = self.links.len();
+        is_gathered(&self.links, &LinksOf { person }, connections)
+    }
+
     fn is_connections(&self, person: i32, answer: &Answer) -> bool
         ensures { IsTrue result ↔ the_connections (connections_of self.now person) ≡ answer_of answer.now }
     {
-        let _within = self.links.len();
         match answer {
             Answer::Connections(connections) => {
-                is_gathered(&self.links, &LinksOf { person }, connections.as_slice())
+                self.has_connections(person, connections.as_slice())
             }
             _ => false,
         }
     }
 
     // The connections on which players have logged in, with the players.
-    #[tactic(auto, using(crate::proofs::Listed::logged_in))]
     fn connected(&self) -> Result<Players, AllocError>
         ensures { IfOk result (λ ps. ps ≡ connected self.now) }
     {
         let _within = self.links.len();
-        let players = gather(self.alloc, &self.links, &LoggedIn)?;
-        Ok(Players::new(players))
+        let found = gather(self.alloc, &self.links, &LoggedIn)?;
+        let players = Players::new(found);
+        Ok(players)
     }
 
-    #[tactic(auto, using(crate::proofs::Listed::logged_in))]
+    fn has_connected(&self, players: &[(i32, i32)]) -> bool
+        ensures { IsTrue result ↔ connected self.now ≡ players.now }
+    {
+        let _within = self.links.len();
+        is_gathered(&self.links, &LoggedIn, players)
+    }
+
     fn is_connected(&self, answer: &Answer) -> bool
         ensures { IsTrue result ↔ the_connected (connected self.now) ≡ answer_of answer.now }
     {
-        let _within = self.links.len();
         match answer {
-            Answer::Connected(players) => is_gathered(&self.links, &LoggedIn, players.as_slice()),
+            Answer::Connected(players) => self.has_connected(players.as_slice()),
             _ => false,
         }
     }

@@ -45,6 +45,7 @@ impl Model for Tasks {
 
 impl Tasks {
     /// No tasks.
+    #[tactic(auto, using(crate::proofs::TasksKept::no_tasks))]
     pub(crate) fn empty(alloc: Global) -> Tasks
         ensures { result ≡ [] }
     {
@@ -63,6 +64,7 @@ impl Tasks {
     }
 
     /// Another task of an id, or none. After an `Err` they are as they were.
+    #[tactic(auto, using(crate::proofs::TasksKept::task_put, crate::proofs::TasksKept::tasks_kept))]
     pub(crate) fn put(&mut self, id: i32, task: Option<Task>) -> Result<(), AllocError>
         ensures ok { OnOk result (self.new ≡ put_task self.old id task) }
         ensures err { OnErr result (self.new ≡ self.old) }
@@ -70,10 +72,7 @@ impl Tasks {
         let key = key_of(id);
         let _sorted = self.tasks.len();
         let readers = changed_reader(&self.readers, key, &task)?;
-        match task {
-            Some(task) => self.tasks.put(key, task)?,
-            None => self.tasks.remove(key)?,
-        }
+        changed_task(&mut self.tasks, key, task)?;
         self.readers = readers;
         Ok(())
     }
@@ -89,6 +88,7 @@ impl Tasks {
     }
 
     /// Whether two are the same tasks. It takes no memory.
+    #[tactic(auto, using(crate::proofs::Walks::same_signed))]
     pub(crate) fn same(&self, other: &Tasks) -> bool
         ensures { IsTrue result ↔ self.now ≡ other.now }
     {
@@ -99,7 +99,8 @@ impl Tasks {
     pub(crate) fn ids(&self, alloc: Global) -> Result<Vec<i32>, AllocError>
         ensures { IfOk result (λ ids. ids.items ≡ map (λ e. e.0) self.now) }
     {
-        gather(alloc, &self.tasks, &AllIds)
+        let ids = gather(alloc, &self.tasks, &AllIds)?;
+        Ok(ids)
     }
 
     /// Whether these are their ids, in order. It takes no memory.
@@ -113,7 +114,8 @@ impl Tasks {
     pub(crate) fn readers_on(&self, alloc: Global, connection: i32) -> Result<Vec<i32>, AllocError>
         ensures { IfOk result (λ ids. ids.items ≡ map (λ e. e.0) (filter (λ e. reads_on connection (e.1).waiting) self.now)) }
     {
-        gather(alloc, &self.readers, &ReadersOf { connection })
+        let ids = gather(alloc, &self.readers, &ReadersOf { connection })?;
+        Ok(ids)
     }
 
     /// Whether these are the ids of those that read on a connection, in order. It takes no memory, and looks at no other task.
@@ -121,6 +123,18 @@ impl Tasks {
         ensures { IsTrue result ↔ map (λ e. e.0) (filter (λ e. reads_on connection (e.1).waiting) self.now) ≡ ids.now }
     {
         is_gathered(&self.readers, &ReadersOf { connection }, ids)
+    }
+}
+
+// Another task of a key, or none. After an `Err` the table is as it was.
+fn changed_task(tasks: &mut Table<Task, 7>, key: u64, task: Option<Task>) -> Result<(), AllocError>
+    requires { key < 4294967296 }
+    ensures ok { OnOk result (tasks.new.entries ≡ changed nat_cmp key task tasks.old.entries) }
+    ensures err { OnErr result (tasks.new ≡ tasks.old) }
+{
+    match task {
+        Some(task) => tasks.put(key, task),
+        None => tasks.remove(key),
     }
 }
 

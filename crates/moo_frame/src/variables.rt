@@ -92,8 +92,8 @@ impl Clone for SharedVariables {
     }
 }
 
-#[tactic(auto, using(crate::proofs::Variables::found_at))]
-fn find_among(variables: &[Variable], name: &str) -> Option<&Value>
+#[tactic(auto, using(crate::proofs::Finding::found_at))]
+fn find_among<'a>(variables: &'a [Variable], name: &str) -> Option<&'a Value>
     ensures { option_map (λ v. v.now) result ≡ named (map variable_of variables.now) name.now }
 {
     for variable in variables {

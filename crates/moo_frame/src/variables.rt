@@ -38,7 +38,7 @@ impl Model for SharedVariables {
 
     ghost use Rattle.moo_frame.specs.Variables.{shared_variables};
 
-    ghost view = { λ a. shared_variables (option_map (λ s. (arc_value s).items) a.variables) };
+    ghost view = { λ a. shared_variables (option_map arc_value a.variables) };
 }
 
 impl SharedVariables {

@@ -48,7 +48,6 @@ pub enum Request {
 /// `E_TYPE`, a negative number `E_INVARG`. The variable of the task has its id before the task gets the variables.
 ///
 /// The fork is told by the slot of its variable, if it has one, and by its number among those of the verb's program.
-#[tactic(auto, using(crate::proofs::Forks::fork_starts))]
 pub fn start_fork(
     alloc: Global,
     task: &mut Running,

@@ -92,7 +92,6 @@ impl Clone for SharedVariables {
     }
 }
 
-#[tactic(auto, using(crate::proofs::Finding::found_at))]
 fn find_among<'a>(variables: &'a [Variable], name: &str) -> Option<&'a Value>
     ensures { option_map (λ v. v.now) result ≡ named (map variable_of variables.now) name.now }
 {

@@ -1,7 +1,7 @@
 -- All variables of a verb, for another program.
-use Rattle.std.proofs.Common.{◌≡◌, ◌∙◌, ap, sym, refl, subst, ℕ, zero, suc, ◌+◌, ◌<◌, ◌⊎◌, inl, inr, ◌||◌, Bool, true, false, cond, List, [], ◌∷◌, ◌++◌, length, map, drop, get_or, Option, Some, None, IsTrue, is_some, arith}
+use Rattle.std.proofs.Common.{◌≡◌, ◌∙◌, ap, sym, refl, subst, ℕ, zero, suc, ◌+◌, ◌<◌, ◌⊎◌, inl, inr, ◌||◌, Bool, true, false, cond, List, [], ◌∷◌, ◌++◌, length, map, take, drop, get_or, append_assoc, Bor, Option, Some, None, IsTrue, is_some, arith}
 use Rattle.std.specs.Prelude.{if◌then◌else◌}
-use Rattle.std.proofs.lemmas.List.{map-append}
+use Rattle.std.proofs.lemmas.List.{append-nil, map-append, take_all, take_more}
 use Rattle.std.proofs.lemmas.List.Folds.{list_any-append}
 use Rattle.spec_value.specs.Datum.{Datum, Text, same_text}
 use Rattle.spec_value.specs.Table.{Named, named, is_named}
@@ -42,6 +42,37 @@ begins f body own further slots c s st same_names slots_are alike call_is start_
     let all : variables_with body further slots ≡ table =
     ap (variables_with body further) (slots_are ∙ ap (map (named table)) same_names) ∙ table_is_split table (names_of body) further (frame_sorted f) by_names in
     λ i. record { call = call_is i; start = start_is i; program = body; variables = all i; place = 0; operands = none i }
+
+-- ---- values of names
+
+module _ (table : Named Datum) where
+  pub own_from_start : (own : List Text) (slots : List (Option Datum)) → slots ≡ map (named table) starting_names
+      → slots ≡ map (named table) starting_names ++ map (named table) (take 0 own)
+  own_from_start own slots e = e ∙ sym (append-nil (map (named table) starting_names))
+
+  pub next_own : (own : List Text) (i : ℕ) (x : Text) (slots new : List (Option Datum)) (v : Option Datum) → i < length own → x ≡ get_or own i x
+      → slots ≡ map (named table) starting_names ++ map (named table) (take i own) → v ≡ named table x → new ≡ slots ++ v ∷ []
+      → new ≡ map (named table) starting_names ++ map (named table) (take (i + 1) own)
+  next_own own i x slots new v small is before value pushed =
+      let firsts : List (Option Datum) = map (named table) starting_names in
+      pushed ∙ ap (λ us. us ++ v ∷ []) before ∙ append_assoc firsts (map (named table) (take i own)) (v ∷ [])
+      ∙ ap (λ u. firsts ++ (map (named table) (take i own) ++ u ∷ [])) (value ∙ ap (named table) is)
+      ∙ ap (λ us. firsts ++ us) (sym (map-append (named table) (take i own) (get_or own i x ∷ [])) ∙ ap (map (named table)) (sym (take_more own i x small)))
+
+  pub all_values : (own : List Text) (n : ℕ) → length own ≤ n → map (named table) starting_names ++ map (named table) (take n own) ≡ map (named table) (known own)
+  unfolding known
+  all_values own n all =
+      ap (λ us. map (named table) starting_names ++ map (named table) us) (take_all n own all) ∙ sym (map-append (named table) starting_names own)
+
+  pub next_starting : (names : List (Bor Text)) (i : ℕ) (b : Bor Text) (slots new : List (Option Datum)) (v : Option Datum) → i < length names → b ≡ get_or names i b
+      → slots ≡ map (named table) (map (λ (s : Bor Text). s.now) (take i names)) → v ≡ named table b.now → new ≡ slots ++ v ∷ []
+      → new ≡ map (named table) (map (λ (s : Bor Text). s.now) (take (i + 1) names))
+  next_starting names i b slots new v small is before value pushed =
+      let texts : List (Bor Text) → List Text = map (λ s. s.now) in
+      pushed ∙ ap (λ us. us ++ v ∷ []) before
+      ∙ ap (λ u. map (named table) (texts (take i names)) ++ u ∷ []) (value ∙ ap (λ (s : Bor Text). named table s.now) is)
+      ∙ sym (map-append (named table) (texts (take i names)) ((get_or names i b).now ∷ []))
+      ∙ ap (map (named table)) (sym (map-append (λ (s : Bor Text). s.now) (take i names) (get_or names i b ∷ [])) ∙ ap texts (sym (take_more names i b small)))
 
 -- ---- copies
 

@@ -121,16 +121,20 @@ module _ (a : Around) (c : Call) (s : State) (d : Deeds) (w : World) (x : Option
 
 -- ---- the task is made and queued
 
-pub fork_starts : (r : Running) (s : State) (d e : Deeds) (w : World) (x : Option Text) (body : Program) (id : ℤ) (due : ℕ) (q : Vec (Option Datum) Global) (t : Task)
+pub fork_starts : (r : Running) (s t : State) (d e : Deeds) (w : World) (x : Option Text) (body : Program) (id : ℤ) (due n : ℕ) (task : Task)
     → forks x body d w r ≡ request_shown (Granted id due) (in_scene (around_in r d w) d w) r.frame.call x body s
-    → with_named x (integer id) (variables_with r.frame.program r.frame.further s.slots.items) ≡ variables_with r.frame.program r.frame.further q.items
-    → t ≡ forked_task r.player due (forked_kept (kept_of (record (r.frame) { state = record s { slots = q } })) body)
-    → enqueued (id_taken (scene_of d w s.ticks)) id t ≡ scene_of e (with_task w id t) s.ticks
-    → forks x body d w r ≡ fork_shown (Started id t) e w (record r { frame = record (r.frame) { state = record s { slots = q; place = suc s.place } } })
-fork_starts r s d e w x body id due q t asked named made queued =
+    → with_named x (integer id) (variables_with r.frame.program r.frame.further s.slots.items) ≡ variables_with r.frame.program r.frame.further t.slots.items
+    → t ≡ record s { slots = t.slots } → n ≡ suc s.place
+    → task ≡ forked_task r.player due (forked_kept (kept_of (record (r.frame) { state = t })) body)
+    → enqueued (id_taken (scene_of d w s.ticks)) id task ≡ scene_of e (with_task w id task) s.ticks
+    → forks x body d w r ≡ fork_shown (Started id task) e w (record r { frame = record (r.frame) { state = record t { place = n } } })
+fork_starts r s t d e w x body id due n task asked named same next made queued =
     let a : Around = in_scene (around_in r d w) d w in
-    let k : Kept = kept a r.frame.call s in
-    asked ∙ ap (λ vars. goes_on a r.frame.call id due body vars s) named
-    ∙ ap (λ z. on (enqueued (id_taken (scene_of d w s.ticks)) id z)
-    (record k { variables = variables_with r.frame.program r.frame.further q.items; place = suc s.place }) a.outer s.ticks) (sym made)
-    ∙ ap (λ z. on z (record k { variables = variables_with r.frame.program r.frame.further q.items; place = suc s.place }) a.outer s.ticks) queued
+    let vars : Named Datum = variables_with r.frame.program r.frame.further t.slots.items in
+    let behind : Kept = record (kept a r.frame.call s) { variables = vars; place = suc s.place } in
+    let ticks : s.ticks ≡ t.ticks = sym (ap (λ (z : State). z.ticks) same) in
+    let operands : s.operands ≡ t.operands = sym (ap (λ (z : State). z.operands) same) in
+    asked ∙ ap (λ vs. goes_on a r.frame.call id due body vs s) named
+    ∙ ap (λ z. on (enqueued (id_taken (scene_of d w s.ticks)) id z) behind a.outer s.ticks) (sym made)
+    ∙ ap (λ z. on z behind a.outer s.ticks) queued
+    ∙ (λ i. on (scene_of e (with_task w id task) (ticks i)) (record behind { place = sym next i; operands = operands i }) a.outer (ticks i))

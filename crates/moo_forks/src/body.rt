@@ -39,7 +39,6 @@ pub fn forked(
 }
 
 // The body at its beginning.
-#[tactic(auto, using(crate::proofs::Copying::begins))]
 fn begun(alloc: Global, frame: &Frame, body: Program) -> Result<Frame, AllocError>
     ensures kept { IfOk result (λ f. kept_of f ≡ forked_kept (kept_of frame.now) body) }
     ensures place { IfOk result (λ f. f.state.place ≡ 0) }
@@ -67,7 +66,7 @@ fn begun(alloc: Global, frame: &Frame, body: Program) -> Result<Frame, AllocErro
 // ---- variables that the body names
 
 // The values of a program's names: those of every verb's start, and its own.
-#[tactic(auto, using(std::proofs::lemmas::List::map-append), unfolding(moo_program::specs::Names::known))]
+#[tactic(auto, using(crate::proofs::Copying::own_from_start, crate::proofs::Copying::next_own, crate::proofs::Copying::all_values))]
 fn slots_for(alloc: Global, frame: &Frame, own: &[Text]) -> Result<Vec<Option<Value>>, AllocError>
     ensures { IfOk result (λ slots. slots.items ≡ map (named (kept_of frame.now).variables) (known own.now)) }
 {
@@ -78,6 +77,7 @@ fn slots_for(alloc: Global, frame: &Frame, own: &[Text]) -> Result<Vec<Option<Va
     Ok(slots)
 }
 
+#[tactic(auto, using(crate::proofs::Copying::next_starting))]
 fn starting_values(
     alloc: Global,
     frame: &Frame,

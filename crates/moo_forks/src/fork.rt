@@ -48,7 +48,6 @@ pub enum Request {
 /// `E_TYPE`, a negative number `E_INVARG`. The variable of the task has its id before the task gets the variables.
 ///
 /// The fork is told by the slot of its variable, if it has one, and by its number among those of the verb's program.
-#[tactic(auto, using(crate::proofs::Forks::fork_starts))]
 pub fn start_fork(
     alloc: Global,
     task: &mut Running,
@@ -76,6 +75,7 @@ pub fn start_fork(
 }
 
 // The operand and a tick are taken, and an id and a moment given.
+#[tactic(auto, using(moo_machine::proofs::Next::next_place), unfolding(moo_code::specs::Machine::does, moo_code::specs::Performing::performed))]
 fn requested(state: &mut State, call: &Call, deeds: &Deeds) -> Result<Request, AllocError>
     requires { state.old.place + 1 < 2 ^ 64 }
     ensures shown { IfOk result (λ r. (a : Around) (w : World) (x : Option TextOf) (body : Body)
@@ -92,15 +92,19 @@ fn requested(state: &mut State, call: &Call, deeds: &Deeds) -> Result<Request, A
     state.ticks -= 1;
     let end = state.place + 1;
     let Some(seconds) = seconds_in(&value) else {
-        return Ok(Request::Refused(state.skips(call, end, MooError::TypeMismatch)));
+        let did = state.skips(call, end, MooError::TypeMismatch);
+        return Ok(Request::Refused(did));
     };
     if seconds < 0 {
-        return Ok(Request::Refused(state.skips(call, end, MooError::InvalidArgument)));
+        let did = state.skips(call, end, MooError::InvalidArgument);
+        return Ok(Request::Refused(did));
     }
-    match next_id(deeds)? {
-        Some(id) => Ok(Request::Granted(id, moment_after(deeds, seconds.unsigned_abs()))),
-        None => Ok(Request::Refused(state.skips(call, end, MooError::LimitExceeded))),
-    }
+    let Some(id) = next_id(deeds)? else {
+        let did = state.skips(call, end, MooError::LimitExceeded);
+        return Ok(Request::Refused(did));
+    };
+    let due = moment_after(deeds, seconds.unsigned_abs());
+    Ok(Request::Granted(id, due))
 }
 
 // So many seconds.

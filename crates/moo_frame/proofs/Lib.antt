@@ -1,5 +1,5 @@
 pub mod Beginning
 pub mod Entering
+pub mod Finding
 pub mod Performing
-pub mod Variables
 pub mod Waiting

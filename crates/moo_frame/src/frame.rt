@@ -43,7 +43,7 @@ impl Frame {
     }
 
     /// The value of a variable, whether the verb's program names it or not.
-    #[tactic(auto, using(crate::proofs::Variables::held_in_slot, crate::proofs::Variables::held_further))]
+    #[tactic(auto, using(crate::proofs::Finding::held_in_slot, crate::proofs::Finding::held_further))]
     pub fn variable(&self, name: &str) -> Option<&Value>
         ensures { option_map (λ v. v.now) result ≡ named (kept_of self.now).variables name.now }
     {

@@ -38,7 +38,7 @@ impl Model for SharedVariables {
 
     ghost use Rattle.moo_frame.specs.Variables.{shared_variables};
 
-    ghost view = { λ a. shared_variables (option_map (λ s. (arc_value s).items) a.variables) };
+    ghost view = { λ a. shared_variables (option_map arc_value a.variables) };
 }
 
 impl SharedVariables {
@@ -92,8 +92,7 @@ impl Clone for SharedVariables {
     }
 }
 
-#[tactic(auto, using(crate::proofs::Variables::found_at))]
-fn find_among(variables: &[Variable], name: &str) -> Option<&Value>
+fn find_among<'a>(variables: &'a [Variable], name: &str) -> Option<&'a Value>
     ensures { option_map (λ v. v.now) result ≡ named (map variable_of variables.now) name.now }
 {
     for variable in variables {

@@ -7,7 +7,7 @@ ghost use Rattle.moo_frame.specs.Variables.{variable_of};
 ghost use Rattle.moo_task.specs.Sameness.{AgreeAt, AgreeOn, FurtherAgree, SlotsAgree, StandAlike};
 
 use moo_frame::effect::Waiting;
-use moo_frame::frame::{Frame, Outer, is_variable_of};
+use moo_frame::frame::{Frame, Outer};
 use moo_frame::native::{Native, NativeName};
 use moo_frame::outers::Outers;
 use moo_frame::variables::{SharedVariables, Variable, value_in};

@@ -27,7 +27,7 @@ stands_or_not (e ∷ es) x = go (text_or_not x e.0) (stands_or_not es x)
     go (inr other) (inl s) = inl (record { place = suc s.place; entry = s.entry; inside = omega (arith, s.inside); there = s.there; name = s.name })
     go (inr other) (inr none) = inr (ap (λ b. cond b (Some e.1) (named es x)) (sought x e.0 ∙ other) ∙ none)
 
-pub further_agree : (names : List Text) (xs ys : List (Text × Datum)) → AgreeOn names xs ys (length xs) xs → AgreeOn names xs ys (length ys) ys → FurtherAgree names xs ys
+further_agree : (names : List Text) (xs ys : List (Text × Datum)) → AgreeOn names xs ys (length xs) xs → AgreeOn names xs ys (length ys) ys → FurtherAgree names xs ys
 further_agree names xs ys of_xs of_ys x none = go (stands_or_not xs x) (stands_or_not ys x)
   where
     at : (es : List (Text × Datum)) → AgreeOn names xs ys (length es) es → Stands es x → named xs x ≡ named ys x
@@ -37,6 +37,20 @@ further_agree names xs ys of_xs of_ys x none = go (stands_or_not xs x) (stands_o
     go (inl s) q = at xs of_xs s
     go (inr p) (inl s) = at ys of_ys s
     go (inr p) (inr q) = p ∙ sym q
+
+counted : (vs : List Variable) → length (map variable_of vs) ≡ length vs
+counted [] = refl
+counted (v ∷ vs) = ap suc (counted vs)
+
+of_slice : (names : List Text) (xs ys es : List (Text × Datum)) (vs : List Variable) → map variable_of vs ≡ es → AgreeOn names xs ys (length vs) (map variable_of vs)
+    → AgreeOn names xs ys (length es) es
+of_slice names xs ys es vs same h i e small there =
+    h i e (omega (arith, small, ap length same, counted vs)) (ap (λ zs. slice_get zs i) same ∙ there)
+
+-- the same of the variables in two slices
+pub slices_agree : (names : List Text) (xs ys : List (Text × Datum)) (vs us : List Variable) → map variable_of vs ≡ xs → map variable_of us ≡ ys
+    → AgreeOn names xs ys (length vs) (map variable_of vs) → AgreeOn names xs ys (length us) (map variable_of us) → FurtherAgree names xs ys
+slices_agree names xs ys vs us of_vs of_us h g = further_agree names xs ys (of_slice names xs ys xs vs of_vs h) (of_slice names xs ys ys us of_us g)
 
 pub agree_on_any : (names : List Text) (xs ys : List (Text × Datum)) (count : ℕ) (es : List (Text × Datum)) → FurtherAgree names xs ys → AgreeOn names xs ys count es
 agree_on_any names xs ys count es agree i e small there = agree e.0

@@ -7,7 +7,7 @@ ghost use Rattle.moo_frame.specs.Variables.{variable_of};
 ghost use Rattle.moo_task.specs.Sameness.{AgreeAt, AgreeOn, FurtherAgree, SlotsAgree, StandAlike};
 
 use moo_frame::effect::Waiting;
-use moo_frame::frame::{Frame, Outer, is_variable_of};
+use moo_frame::frame::{Frame, Outer};
 use moo_frame::native::{Native, NativeName};
 use moo_frame::outers::Outers;
 use moo_frame::variables::{SharedVariables, Variable, value_in};
@@ -63,12 +63,20 @@ fn same_outer(a: &Outer, b: &Outer) -> bool
     }
 }
 
-#[tactic(auto, using(crate::proofs::Sameness::frames_same, crate::proofs::Sameness::same_frames, crate::proofs::Sameness::same_frame_slots, crate::proofs::Sameness::same_frame_further))]
+#[tactic(auto, using(crate::proofs::Sameness::same_frames))]
 fn same_frame(a: &Frame, b: &Frame) -> bool
     ensures { IsTrue result ↔ kept_of a.now ≡ kept_of b.now }
 {
-    stand_alike(a, b)
-        && same_slots(a.names(), &a.state.slots, &b.state.slots)
+    stand_alike(a, b) && same_variables(a, b)
+}
+
+// The variables of two that stand alike.
+#[tactic(auto, using(crate::proofs::Sameness::same_frame_slots))]
+fn same_variables(a: &Frame, b: &Frame) -> bool
+    requires { StandAlike (kept_of a.now) (kept_of b.now) }
+    ensures { IsTrue result ↔ kept_of a.now ≡ kept_of b.now }
+{
+    same_slots(a.names(), &a.state.slots, &b.state.slots)
         && same_further(a.program.names(), &a.further, &b.further)
 }
 
@@ -126,7 +134,7 @@ fn same_slots(count: usize, xs: &[Option<Value>], ys: &[Option<Value>]) -> bool
 
 // Whether those variables are the same that a program does not name, whose own names these are. Where all are, the time is
 // the product of their count with itself and that of the names.
-#[tactic(auto, using(crate::proofs::Further::further_agree, crate::proofs::Further::agree_on_any))]
+#[tactic(auto, using(crate::proofs::Further::agree_on_any))]
 fn same_further(own: &[Text], a: &SharedVariables, b: &SharedVariables) -> bool
     ensures { IsTrue result ↔ FurtherAgree (known own.now) a.now b.now }
 {

@@ -1,4 +1,5 @@
-use Rattle.std.proofs.Common.{◌≡◌, ◌∙◌, ap, sym, subst, arith, suc, ◌-◌}
+use Rattle.std.proofs.Common.{◌≡◌, ◌∙◌, ◌<◌, ap, sym, subst, arith, suc, ◌-◌}
+use Rattle.std.specs.Prelude.{IfSome}
 use Rattle.spec_value.specs.Datum.{type_mismatch, invalid_argument, limit_exceeded}
 use Rattle.moo_code.specs.Instruction.{skipped}
 use Rattle.moo_machine.specs.Shown.{fails_of}
@@ -45,3 +46,6 @@ returns-clause-shown c a w x body =
     fork_granted a c.args.call.now s c.args.deeds.now w x body c.in-Some.value c.pop.new.self u c.in-Some.ensures paid
     c.in-Some-seconds_in.seconds c.in-Some-2.id c.moment_after-due.result c.in-Some-seconds_in.ensures c.if-seconds-lt0.false
     known.0 known.1 (c.moment_after-due.ensures w u)
+
+pub returns-clause-id : goal.returns-clause-id
+returns-clause-id c = subst (λ o. IfSome o (λ i. c.args.deeds.now.ids_used < 64)) c.in-Some-2.is c.in_ok-id.ensures.left

@@ -7,7 +7,7 @@ use Rattle.spec_world.specs.World.{Task, Link, Waiting, forked, timed, idle, rea
 use Rattle.spec_world.specs.Links.{reads_on}
 use Rattle.moo_task.specs.Waits.{read_on}
 use Rattle.world.specs.Numbered.{numbered, signed_key, signed}
-use Rattle.world.specs.Picked.{pick, picked, before, chosen}
+use Rattle.world.specs.Picked.{pick, before, chosen}
 use Rattle.world.specs.Tasks.{AreIds, reading, AreTasks}
 
 -- ---- tasks

@@ -1,14 +1,14 @@
 -- What is at a key of a table, and what is put there.
-use Rattle.std.proofs.Common.{◌≡◌, ℕ, suc, ◌<◌, ◌≤◌, ◌-◌, ℤ, pos, negsuc, int_lt, List, [], ◌∷◌, map, Option, Some, None, Bool, true, false, not, cond, IsTrue, nat_lt, ◌==◌, refl, sym, ◌∙◌, ap, subst, arith, All, T, is_some}
+use Rattle.std.proofs.Common.{◌≡◌, ℕ, suc, ◌<◌, ◌≤◌, ◌-◌, ℤ, pos, negsuc, List, [], ◌∷◌, Option, Some, None, Bool, true, false, not, cond, IsTrue, nat_lt, refl, sym, ◌∙◌, ap, subst, arith, All, is_some}
 use Rattle.std.proofs.lemmas.Bool.Decides.{nat_tests}
 use Rattle.std.specs.Ordering.{nat_cmp, int_cmp, eq_by_cmp, is_eq}
 use Rattle.std.specs.declared.cmp.Ordering.{Ordering}
 use Rattle.std.specs.declared.cmp.Ordering.TheVariants.{Less, Equal, Greater}
 use Rattle.std.specs.Cmp.{unsigned_tied}
 use borrow.Author.Tests.{eqb-true}
-use Rattle.std.specs.FinMap.{find, put, is_sorted}
+use Rattle.std.specs.FinMap.{find, put}
 use Rattle.std.specs.FinMap.Entries.{by_order}
-use Rattle.spec_value.specs.Table.{Numbered, at, with, without}
+use Rattle.spec_value.specs.Table.{at, with, without}
 use Rattle.spec_view.specs.Questions.{is_number, put_record}
 use Rattle.world_table.specs.Entries.{without as without_key}
 use Rattle.world.specs.Numbered.{keyed, numbered, signed_key, signed}

@@ -11,7 +11,7 @@ use Rattle.moo_task.specs.Waits.{read_on}
 use Rattle.world_table.specs.Entries.{without as without_key}
 use Rattle.world.specs.Numbered.{signed_key, signed}
 use Rattle.world.specs.Picked.{changed}
-use Rattle.world.specs.Tasks.{AreIds, reading, AreTasks}
+use Rattle.world.specs.Tasks.{AreIds, AreTasks}
 use Rattle.world.proofs.Maps.{with_signed, without_signed}
 use Rattle.world.proofs.Picked.{picked_put, picked_removed}
 

@@ -1,5 +1,5 @@
 -- Two tables walked side by side, from one key to the next.
-use Rattle.std.proofs.Common.{◌≡◌, ◌↔◌, ℕ, zero, suc, ◌+◌, ◌-◌, ◌<◌, ◌≤◌, ℤ, pos, negsuc, option_map, is_some, not, List, [], ◌∷◌, map, Option, Some, None, Bool, true, false, cond, ◌&&◌, IsTrue, nat_le, nat_lt, refl, sym, ◌∙◌, ap, subst, arith}
+use Rattle.std.proofs.Common.{◌≡◌, ◌↔◌, ℕ, ◌+◌, ◌-◌, ◌<◌, ◌≤◌, ℤ, pos, negsuc, option_map, is_some, not, List, [], ◌∷◌, map, Option, Some, None, Bool, true, false, cond, IsTrue, nat_le, nat_lt, refl, sym, ◌∙◌, ap, subst, arith}
 use Rattle.std.proofs.lemmas.Bool.Decides.{nat_tests}
 use Rattle.std.proofs.lemmas.Bool.{and_parts}
 use Rattle.std.specs.List.{AllByRecursion}

@@ -1,4 +1,4 @@
-use Rattle.std.proofs.Common.{◌≡◌, ◌++◌, ◌+◌, ◌<◌, ◌≤◌, ap, subst, sym, ◌∙◌, arith}
+use Rattle.std.proofs.Common.{◌++◌, ◌+◌, ◌<◌, ◌≤◌, ap, subst, sym, ◌∙◌, arith}
 use Rattle.world.proofs.Gathered.{Gathered, left, all_left, one_gathered, none_gathered, all_gathered}
 use Rattle.world.proofs.Walks.{found_within, found_reaches}
 use Rattle.world.proofs.choice.gather.Goals as goal

@@ -1,6 +1,5 @@
-use Rattle.std.proofs.Common.{◌≡◌, ◌≤◌, ◌<◌, ◌+◌, ℕ, ap, sym, ◌∙◌, Some, refl, subst, arith}
-use Rattle.world_table.specs.Entries.{first_from}
-use Rattle.world.proofs.Walks.{SameFrom, same_at_first, same_behind, found_reaches, found_within, one_ends, one_entry, both_end}
+use Rattle.std.proofs.Common.{◌≤◌, ◌<◌, ap, ◌∙◌, Some, refl, arith}
+use Rattle.world.proofs.Walks.{same_at_first, same_behind, found_reaches, found_within, one_ends, one_entry, both_end}
 use Rattle.world.proofs.records.same_entries.Goals as goal
 use Rattle.world.proofs.records.same_entries.Goals.{then-number-other_number-via-then-number-other_number, then-number-other_number-via-else-number-other_number+then-not-is_same}
 

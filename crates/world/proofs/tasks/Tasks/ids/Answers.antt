@@ -1,10 +1,8 @@
-use Rattle.std.proofs.Common.{◌≡◌, ◌<◌, ◌≤◌, ◌∙◌, ℕ, ℤ, sym, ap, arith, rules, w32}
-use Rattle.std.proofs.lemmas.Int.{to_z-of_z}
-use Rattle.std.specs.Prelude.{map, filter}
+use Rattle.std.proofs.Common.{◌<◌, ◌≤◌, ◌∙◌, ℕ, ap, arith, rules}
+use Rattle.std.specs.Prelude.{map}
 use Rattle.std.specs.List.{AllByRecursion}
 use Rattle.spec_value.specs.Table.{Numbered}
 use Rattle.spec_world.specs.World.{Task}
-use Rattle.spec_world.specs.Links.{reads_on}
 use Rattle.world.proofs.Listed.{all_ids}
 use Rattle.world.proofs.tasks.Tasks.ids.Goals as goal
 

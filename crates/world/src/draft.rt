@@ -31,7 +31,6 @@ use world_table::Table;
 const LAST_NEXT: u64 = 33554432;
 
 /// A world that may be between two changes: nothing is promised of it. Its records are shared with the world that it came from.
-#[derive(Drop)]
 pub struct Draft {
     pub(crate) objects: Table<Object, 4>,
     pub(crate) tasks: Tasks,
@@ -40,6 +39,21 @@ pub struct Draft {
     pub(crate) next: u64,
     pub(crate) ending: bool,
     pub(crate) alloc: Global,
+}
+
+// Written out, so that letting go of all that a draft holds is proved here and not where one is let go.
+impl Drop for Draft {
+    fn drop(self) {
+        let Draft {
+            objects: _objects,
+            tasks: _tasks,
+            links: _links,
+            greatest: _greatest,
+            next: _next,
+            ending: _ending,
+            alloc: _alloc,
+        } = self;
+    }
 }
 
 impl Model for Draft {
@@ -220,11 +234,17 @@ impl Draft {
         Ok(ids)
     }
 
+    fn has_readers(&self, connection: i32, ids: &[i32]) -> bool
+        ensures { IsTrue result ↔ readers_on self.now connection ≡ ids.now }
+    {
+        self.tasks.has_readers_on(connection, ids)
+    }
+
     fn is_readers(&self, connection: i32, answer: &Answer) -> bool
         ensures { IsTrue result ↔ the_readers (readers_on self.now connection) ≡ answer_of answer.now }
     {
         match answer {
-            Answer::Readers(ids) => self.tasks.has_readers_on(connection, ids.as_slice()),
+            Answer::Readers(ids) => self.has_readers(connection, ids.as_slice()),
             _ => false,
         }
     }

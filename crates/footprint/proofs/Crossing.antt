@@ -3,12 +3,15 @@ use denote.Param.Send.{IsSend, IsSync, sendable}
 use denote.Param.SendFields.{as_row_send, declared_send, variants_send}
 use Rattle.std.proofs.Crossing.{crosses}
 use Rattle.moo_value.proofs.Crossing.{value_send, value_sync, text_send, text_sync}
+use Rattle.moo_task.proofs.Crossing.{task_send, task_sync}
 use Rattle.moo_compiler.proofs.Crossing.{program_send, program_sync}
 use Rattle.footprint.specs.contracts.change.Change as change
 use Rattle.footprint.specs.contracts.header.Header as header
 use Rattle.footprint.specs.contracts.link.Link as link
+use Rattle.footprint.specs.contracts.link.Programming as programming
 use Rattle.footprint.specs.contracts.lists.Names as names
 use Rattle.footprint.specs.contracts.lists.Objects as objects
+use Rattle.footprint.specs.contracts.lists.Players as players
 use Rattle.footprint.specs.contracts.object.Object as object
 use Rattle.footprint.specs.contracts.part.Part as part
 use Rattle.footprint.specs.contracts.question.Answer as answer
@@ -24,9 +27,6 @@ use Rattle.footprint.specs.contracts.verb.Verbs as verbs
 pub header_send : IsSend header.the_row
 header_send = search (sendable, crosses, text_send) depth 60
 
-pub link_send : IsSend link.the_row
-link_send = search (sendable, crosses) depth 60
-
 pub slot_send : IsSend slot.the_row
 slot_send = search (sendable, crosses, value_send) depth 60
 
@@ -38,9 +38,6 @@ verb_send = search (sendable, crosses, text_send, program_send) depth 60
 
 pub header_sync : IsSync header.the_row
 header_sync = search (sendable, crosses, text_sync) depth 60
-
-pub link_sync : IsSync link.the_row
-link_sync = search (sendable, crosses) depth 60
 
 pub slot_sync : IsSync slot.the_row
 slot_sync = search (sendable, crosses, value_sync) depth 60
@@ -69,6 +66,21 @@ names_sync = search (sendable, crosses, text_send, text_sync) depth 60
 objects_sync : IsSync objects.the_row
 objects_sync = search (sendable, crosses) depth 60
 
+players_send : IsSend players.the_row
+players_send = search (sendable, crosses) depth 60
+
+programming_send : IsSend programming.the_row
+programming_send = search (sendable, crosses, text_send, names_send) depth 60
+
+programming_sync : IsSync programming.the_row
+programming_sync = search (sendable, crosses, text_sync, names_sync) depth 60
+
+pub link_send : IsSend link.the_row
+link_send = search (sendable, crosses, programming_send) depth 60
+
+pub link_sync : IsSync link.the_row
+link_sync = search (sendable, crosses, programming_sync) depth 60
+
 pub object_send : IsSend object.the_row
 object_send = search (sendable, crosses, header_send, slots_send, verbs_send, names_send, objects_send) depth 60
 
@@ -76,10 +88,10 @@ pub object_sync : IsSync object.the_row
 object_sync = search (sendable, crosses, header_sync, slots_sync, verbs_sync, names_sync, objects_sync) depth 60
 
 question_send : IsSend question.the_row
-question_send = search (sendable, crosses, text_send) depth 60
+question_send = search (sendable, crosses, text_send) depth 120
 
 answer_send : IsSend answer.the_row
-answer_send = search (sendable, crosses, header_send, names_send, objects_send, slot_send, verbs_send, link_send) depth 60
+answer_send = search (sendable, crosses, header_send, names_send, objects_send, slot_send, verbs_send, link_send, task_send, players_send) depth 120
 
 read_send : IsSend read.the_row
 read_send = declared_send read.the_type (question_send, (answer_send, tt))
@@ -93,7 +105,7 @@ part_send = search (sendable, crosses, header_send, objects_send, names_send, ve
 change_send : IsSend change.the_row
 change_send =
     variants_send change.enum
-    (((search (sendable, crosses, as_row_send) depth 60), ((search (sendable, crosses, as_row_send, part_send) depth 60), tt)), (((search (sendable, crosses, as_row_send) depth 60), ((search (sendable, crosses, as_row_send, text_send) depth 60), ((search (sendable, crosses, as_row_send, value_send) depth 60), tt))), (((search (sendable, crosses, as_row_send) depth 60), ((search (sendable, crosses, as_row_send, object_send) depth 60), tt)), (((search (sendable, crosses, as_row_send) depth 60), ((search (sendable, crosses, as_row_send, link_send) depth 60), tt)), (((search (sendable, crosses, as_row_send) depth 60), tt), (((search (sendable, crosses, as_row_send) depth 60), tt), (((search (sendable, crosses, as_row_send) depth 60), tt), tt)))))))
+    (((search (sendable, crosses, as_row_send) depth 60), ((search (sendable, crosses, as_row_send, part_send) depth 60), tt)), (((search (sendable, crosses, as_row_send) depth 60), ((search (sendable, crosses, as_row_send, text_send) depth 60), ((search (sendable, crosses, as_row_send, value_send) depth 60), tt))), (((search (sendable, crosses, as_row_send) depth 60), ((search (sendable, crosses, as_row_send, object_send) depth 60), tt)), (((search (sendable, crosses, as_row_send) depth 60), ((search (sendable, crosses, as_row_send, task_send) depth 60), tt)), (((search (sendable, crosses, as_row_send) depth 60), ((search (sendable, crosses, as_row_send, link_send) depth 60), tt)), (((search (sendable, crosses, as_row_send) depth 60), tt), (((search (sendable, crosses, as_row_send) depth 60), tt), (((search (sendable, crosses, as_row_send) depth 60), tt), tt))))))))
 
 pub changes_send : IsSend changes.the_row
 changes_send = search (sendable, crosses, change_send) depth 60

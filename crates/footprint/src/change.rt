@@ -4,6 +4,7 @@ ghost use Rattle.std.specs.Prelude.{◌≡◌, IfOk};
 use crate::link::Link;
 use crate::object::Object;
 use crate::part::Part;
+use moo_task::task::Task;
 use moo_value::text::Text;
 use moo_value::value::Value;
 use std::alloc::AllocError;
@@ -17,6 +18,8 @@ pub enum Change {
     Value(i32, Text, Value),
     /// An object is made, or is another one, or goes. Only numbers from 0 to 999,999 are given.
     Object(i32, Option<Object>),
+    /// A task comes to wait, or is another one, or waits no more. It may have any id.
+    Task(i32, Option<Task>),
     /// A link is opened, or is another one, or goes. Only numbers from 0 to 999,999 are given.
     Link(i32, Option<Link>),
     /// The greatest number that an object has had.
@@ -39,6 +42,7 @@ impl Clone for Change {
             Change::Object(number, object) => {
                 Ok(Change::Object(*number, object.as_ref().cloned()?))
             }
+            Change::Task(id, task) => Ok(Change::Task(*id, task.as_ref().cloned()?)),
             Change::Link(number, link) => Ok(Change::Link(*number, link.as_ref().cloned()?)),
             Change::Greatest(number) => Ok(Change::Greatest(*number)),
             Change::Ending(ending) => Ok(Change::Ending(*ending)),

@@ -1,4 +1,4 @@
-//! Lists of objects and of names.
+//! Lists of numbers, of names and of players.
 ghost use Rattle.std.specs.Prelude.{◌≡◌, IfOk};
 
 use moo_value::text::Text;
@@ -52,6 +52,9 @@ impl Clone for Objects {
     }
 }
 
+/// Numbers of tasks or of connections, in their order.
+pub type Numbers = Objects;
+
 /// Names in their order, shared by their owners: a clone is a count.
 #[derive(Drop)]
 pub struct Names {
@@ -97,5 +100,41 @@ impl Clone for Names {
         Ok(Names {
             items: self.items.clone()?,
         })
+    }
+}
+
+/// Lines of a program, in their order.
+pub type Lines = Names;
+
+/// Connections on which players have logged in, with their players, in the order of the connections.
+#[derive(Drop)]
+pub struct Players {
+    items: Vec<(i32, i32)>,
+}
+
+impl Model for Players {
+    ghost use Rattle.std.specs.Prelude.{List, ℤ};
+    ghost use Rattle.std.specs.Coded.{coded×, coded_list, coded_ℤ};
+
+    ghost Value = { List (ℤ × ℤ) };
+
+    ghost coded = { coded_list (coded× coded_ℤ coded_ℤ) };
+
+    ghost view = { λ a. a.items.items };
+}
+
+impl Players {
+    /// These connections with their players.
+    pub fn new(players: Vec<(i32, i32)>) -> Players
+        ensures { result ≡ players.items }
+    {
+        Players { items: players }
+    }
+
+    /// The connections with their players, in their order.
+    pub fn as_slice(&self) -> &[(i32, i32)]
+        ensures { result.now ≡ self.now }
+    {
+        self.items.as_slice()
     }
 }

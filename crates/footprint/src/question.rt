@@ -3,9 +3,10 @@ ghost use Rattle.std.specs.Prelude.{◌≡◌, IfOk};
 
 use crate::header::Header;
 use crate::link::Link;
-use crate::lists::{Names, Objects};
+use crate::lists::{Names, Numbers, Objects, Players};
 use crate::slot::Slot;
 use crate::verb::Verbs;
+use moo_task::task::Task;
 use moo_value::text::Text;
 use std::alloc::AllocError;
 
@@ -24,8 +25,18 @@ pub enum Question {
     Slot(i32, Text),
     /// An object's own verbs.
     Verbs(i32),
+    /// The task of an id that waits.
+    Task(i32),
+    /// The ids of the tasks that wait.
+    Waiting,
     /// The link of a number.
     Link(i32),
+    /// The ids of the tasks that read on a connection.
+    Readers(i32),
+    /// The connections of a person.
+    Connections(i32),
+    /// The connections on which players have logged in, with the players.
+    Connected,
     /// The greatest number that an object has had, -1 where there was none.
     Greatest,
     /// Whether the server is about to end.
@@ -42,7 +53,12 @@ pub enum Answer {
     /// That there is no such object, or that it has no such slot.
     Slot(Option<Option<Slot>>),
     Verbs(Option<Verbs>),
+    Task(Option<Task>),
+    Waiting(Numbers),
     Link(Option<Link>),
+    Readers(Numbers),
+    Connections(Numbers),
+    Connected(Players),
     Greatest(i32),
     Ending(bool),
 }
@@ -58,7 +74,12 @@ impl Clone for Question {
             Question::Defines(object) => Ok(Question::Defines(*object)),
             Question::Slot(object, name) => Ok(Question::Slot(*object, name.clone()?)),
             Question::Verbs(object) => Ok(Question::Verbs(*object)),
+            Question::Task(id) => Ok(Question::Task(*id)),
+            Question::Waiting => Ok(Question::Waiting),
             Question::Link(number) => Ok(Question::Link(*number)),
+            Question::Readers(connection) => Ok(Question::Readers(*connection)),
+            Question::Connections(person) => Ok(Question::Connections(*person)),
+            Question::Connected => Ok(Question::Connected),
             Question::Greatest => Ok(Question::Greatest),
             Question::Ending => Ok(Question::Ending),
         }

@@ -1,15 +1,16 @@
 //! Comparisons of records and answers. None takes memory.
 ghost use Rattle.std.specs.Prelude.{◌≡◌, ◌↔◌, IsTrue, option_map};
-ghost use Rattle.spec_view.specs.Questions.{the_header, the_children, the_contents, the_defines, the_slot, the_verbs, the_link, the_greatest, the_ending};
+ghost use Rattle.spec_view.specs.Questions.{the_header, the_children, the_contents, the_defines, the_slot, the_verbs, the_task, the_waiting, the_link, the_readers, the_connections, the_connected, the_greatest, the_ending};
 ghost use Rattle.footprint.specs.Meanings.{answer_of};
 
 use crate::header::Header;
-use crate::link::Link;
-use crate::lists::{Names, Objects};
+use crate::link::{Link, Programming};
+use crate::lists::{Lines, Names, Objects, Players};
 use crate::object::Object;
 use crate::question::Answer;
 use crate::slot::Slot;
 use crate::verb::{Verb, Verbs};
+use moo_task::task::Task;
 use moo_value::compare::equal;
 use moo_value::text::Text;
 use moo_value::value::Value;
@@ -77,7 +78,38 @@ impl Link {
     pub fn same(&self, other: &Link) -> bool
         ensures { IsTrue result ↔ self.now ≡ other.now }
     {
-        self.person == other.person
+        self.person == other.person && same_programming(&self.programming, &other.programming)
+    }
+}
+
+fn same_programming(a: &Option<Programming>, b: &Option<Programming>) -> bool
+    ensures { IsTrue result ↔ a.now ≡ b.now }
+{
+    match (a, b) {
+        (Some(x), Some(y)) => x.same(y),
+        (None, None) => true,
+        _ => false,
+    }
+}
+
+impl Programming {
+    /// Whether two programs that are typed are the same.
+    pub fn same(&self, other: &Programming) -> bool
+        ensures { IsTrue result ↔ self.now ≡ other.now }
+    {
+        self.object == other.object
+            && same_text(&self.verb, &other.verb)
+            && same_lines(&self.lines, &other.lines)
+    }
+}
+
+fn same_lines(a: &Option<Lines>, b: &Option<Lines>) -> bool
+    ensures { IsTrue result ↔ a.now ≡ b.now }
+{
+    match (a, b) {
+        (Some(x), Some(y)) => x.same(y),
+        (None, None) => true,
+        _ => false,
     }
 }
 
@@ -170,6 +202,35 @@ impl Names {
     {
         same_names(self.as_slice(), other.as_slice())
     }
+}
+
+impl Players {
+    /// Whether two lists of players are the same.
+    pub fn same(&self, other: &Players) -> bool
+        ensures { IsTrue result ↔ self.now ≡ other.now }
+    {
+        same_pairs(self.as_slice(), other.as_slice())
+    }
+}
+
+fn same_pairs(xs: &[(i32, i32)], ys: &[(i32, i32)]) -> bool
+    ensures { IsTrue result ↔ xs.now ≡ ys.now }
+{
+    if xs.len() != ys.len() {
+        return false;
+    }
+    for i in 0..xs.len() {
+        if !same_pair(xs[i], ys[i]) {
+            return false;
+        }
+    }
+    true
+}
+
+fn same_pair(a: (i32, i32), b: (i32, i32)) -> bool
+    ensures { IsTrue result ↔ a ≡ b }
+{
+    a.0 == b.0 && a.1 == b.1
 }
 
 fn same_numbers(xs: &[i32], ys: &[i32]) -> bool
@@ -285,6 +346,27 @@ impl Answer {
         }
     }
 
+    /// Whether the answer is this task, or that there is none.
+    pub fn is_task(&self, found: Option<&Task>) -> bool
+        ensures { IsTrue result ↔ the_task (option_map (λ x. x.now) found.entry) ≡ answer_of self.now }
+    {
+        match (found, self) {
+            (Some(a), Answer::Task(Some(b))) => a.same(b),
+            (None, Answer::Task(None)) => true,
+            _ => false,
+        }
+    }
+
+    /// Whether the answer is these ids of tasks that wait.
+    pub fn is_waiting(&self, ids: &[i32]) -> bool
+        ensures { IsTrue result ↔ the_waiting ids.now ≡ answer_of self.now }
+    {
+        match self {
+            Answer::Waiting(others) => same_numbers(ids, others.as_slice()),
+            _ => false,
+        }
+    }
+
     /// Whether the answer is this link, or that there is none.
     pub fn is_link(&self, found: Option<&Link>) -> bool
         ensures { IsTrue result ↔ the_link (option_map (λ x. x.now) found.entry) ≡ answer_of self.now }
@@ -292,6 +374,36 @@ impl Answer {
         match (found, self) {
             (Some(a), Answer::Link(Some(b))) => a.same(b),
             (None, Answer::Link(None)) => true,
+            _ => false,
+        }
+    }
+
+    /// Whether the answer is these ids of tasks that read.
+    pub fn is_readers(&self, ids: &[i32]) -> bool
+        ensures { IsTrue result ↔ the_readers ids.now ≡ answer_of self.now }
+    {
+        match self {
+            Answer::Readers(others) => same_numbers(ids, others.as_slice()),
+            _ => false,
+        }
+    }
+
+    /// Whether the answer is these connections of a person.
+    pub fn is_connections(&self, connections: &[i32]) -> bool
+        ensures { IsTrue result ↔ the_connections connections.now ≡ answer_of self.now }
+    {
+        match self {
+            Answer::Connections(others) => same_numbers(connections, others.as_slice()),
+            _ => false,
+        }
+    }
+
+    /// Whether the answer is these connections with their players.
+    pub fn is_connected(&self, players: &[(i32, i32)]) -> bool
+        ensures { IsTrue result ↔ the_connected players.now ≡ answer_of self.now }
+    {
+        match self {
+            Answer::Connected(others) => same_pairs(players, others.as_slice()),
             _ => false,
         }
     }
@@ -327,7 +439,12 @@ impl Answer {
             Answer::Defines(found) => other.is_defines(found.as_ref()),
             Answer::Slot(found) => other.is_slot(found.as_ref().map(|slot| slot.as_ref())),
             Answer::Verbs(found) => other.is_verbs(found.as_ref()),
+            Answer::Task(found) => other.is_task(found.as_ref()),
+            Answer::Waiting(ids) => other.is_waiting(ids.as_slice()),
             Answer::Link(found) => other.is_link(found.as_ref()),
+            Answer::Readers(ids) => other.is_readers(ids.as_slice()),
+            Answer::Connections(connections) => other.is_connections(connections.as_slice()),
+            Answer::Connected(players) => other.is_connected(players.as_slice()),
             Answer::Greatest(greatest) => other.is_greatest(*greatest),
             Answer::Ending(ending) => other.is_ending(*ending),
         }

@@ -1,4 +1,5 @@
 pub mod Beginning
 pub mod Entering
+pub mod Finding
 pub mod Performing
 pub mod Waiting

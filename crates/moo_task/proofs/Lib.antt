@@ -1,3 +1,5 @@
+pub mod Crossing
+pub mod Further
 pub mod Going
 pub mod Kept
 pub mod Sameness

@@ -11,6 +11,7 @@ ghost use Rattle.moo_frame.specs.Frames.{kept_of};
 ghost use Rattle.moo_frame.specs.Outcomes.{running_kept, ticks_of};
 ghost use Rattle.moo_task.specs.Keeping.{HasStopped, IsKept, forked_task};
 ghost use Rattle.moo_task.specs.UnderWay.{GoesOn, IsUnderWay};
+ghost use Rattle.moo_task.specs.Waits.{due_at, read_on};
 
 use crate::copies::{copy_outers, copy_waiting};
 use crate::same::{same_outers, same_waiting};
@@ -102,6 +103,27 @@ impl Task {
         ensures { waiting_of result.now ≡ self.now.waiting }
     {
         &self.waiting
+    }
+
+    /// The connection that it reads on, if it waits for a line.
+    pub fn reads_on(&self) -> Option<i32>
+        ensures { result ≡ read_on self.now.waiting }
+    {
+        match &self.waiting {
+            Waiting::ReadingOn(connection) => Some(*connection),
+            _ => None,
+        }
+    }
+
+    /// The moment at which it is due, in seconds, if it waits for one.
+    pub fn due(&self) -> Option<u32>
+        ensures { result ≡ due_at self.now.waiting }
+    {
+        match &self.waiting {
+            Waiting::Forked(due) => Some(*due),
+            Waiting::Timed(due, _) => Some(*due),
+            _ => None,
+        }
     }
 
     /// The call of its innermost verb.

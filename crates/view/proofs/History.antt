@@ -2,7 +2,8 @@
 use Rattle.std.proofs.Common.{◌≡◌, List, [], ◌∷◌, ◌++◌, refl, sym, ◌∙◌}
 use Rattle.spec_world.specs.World.{World}
 use Rattle.spec_view.specs.Questions.{Question, Answer, ask, Read, Agrees, Change, apply, apply_all}
-use Rattle.view.proofs.Local.{alike_after}
+use Rattle.world.specs.Sound.{IsSound}
+use Rattle.view.proofs.Local.{InOrder, alike_after}
 
 pub apply_all_last : (cs : List Change) (c : Change) (w : World) → apply_all (cs ++ c ∷ []) w ≡ apply c (apply_all cs w)
 apply_all_last [] c w = refl
@@ -20,7 +21,11 @@ pub agrees_last : (w : World) (rs : List Read) (r : Read) → Agrees w (rs ++ r 
 agrees_last w [] r h = h.0
 agrees_last w (s ∷ rs) r h = agrees_last w rs r h.1
 
+in_order : (w : World) → IsSound w → InOrder w
+in_order w h = record { tasks = h.well_formed.tasks_in_order; links = h.well_formed.links_in_order }
+
 -- what home answers now is what each start answers now that answered as home
-pub answered_now : (w home : World) (cs : List Change) (rs : List Read) (q : Question) (base a : Answer)
+pub answered_now : (w home : World) (cs : List Change) (rs : List Read) (q : Question) (base a : Answer) → IsSound w → IsSound home
     → Agrees w (rs ++ record { question = q; answer = base } ∷ []) → base ≡ ask home q → a ≡ ask (apply_all cs home) q → ask (apply_all cs w) q ≡ a
-answered_now w home cs rs q base a h is now = alike_after cs w home q (agrees_last w rs (record { question = q; answer = base }) h ∙ is) ∙ sym now
+answered_now w home cs rs q base a sound home_sound h is now =
+    alike_after cs w home q (in_order w sound) (in_order home home_sound) (agrees_last w rs (record { question = q; answer = base }) h ∙ is) ∙ sym now

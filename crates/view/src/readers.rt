@@ -2,7 +2,8 @@
 ghost use Rattle.std.specs.Prelude.{◌≡◌, IfOk, OnOk};
 ghost use Rattle.spec_value.specs.Table.{at};
 ghost use Rattle.spec_world.specs.Inherit.{slot_at};
-ghost use Rattle.spec_view.specs.Questions.{header_at, children_at, contents_at, defines_at, verbs_at, apply, new_part, new_value, new_object, new_link, new_greatest, new_ending, new_next};
+ghost use Rattle.spec_view.specs.Listings.{waiting_ids, readers_on, connections_of, connected};
+ghost use Rattle.spec_view.specs.Questions.{header_at, children_at, contents_at, defines_at, verbs_at, apply, new_part, new_value, new_object, new_task, new_link, new_greatest, new_ending, new_next};
 ghost use Rattle.footprint.specs.Meanings.{part_of, change_of};
 ghost use Rattle.view.specs.Law.{Goes, Keeps, Lasts, StaysSound, Tells};
 
@@ -10,12 +11,13 @@ use crate::law::View;
 use footprint::change::Change;
 use footprint::header::Header;
 use footprint::link::Link;
-use footprint::lists::{Names, Objects};
+use footprint::lists::{Names, Numbers, Objects, Players};
 use footprint::object::Object;
 use footprint::part::Part;
 use footprint::question::{Answer, Question};
 use footprint::slot::Slot;
 use footprint::verb::Verbs;
+use moo_task::task::Task;
 use moo_value::text::Text;
 use moo_value::value::Value;
 use std::alloc::AllocError;
@@ -98,6 +100,30 @@ pub fn read_verbs<V: View>(view: &mut V, object: i32) -> Result<Option<Verbs>, A
     }
 }
 
+/// The task of an id, or None where none waits.
+pub fn read_task<V: View>(view: &mut V, id: i32) -> Result<Option<Task>, AllocError>
+    ensures lasts { Lasts V.holds V.home V.anchor view.old view.new result }
+    ensures left { IfOk result (λ a. Tells V.holds V.now view.old view.new (λ w. at w.tasks id ≡ a)) }
+    ensures sound { OnOk result (StaysSound V.home V.now view.old view.new) }
+{
+    match view.get(&Question::Task(id))? {
+        Answer::Task(task) => Ok(task),
+        _ => unreachable!(),
+    }
+}
+
+/// The ids of the tasks that wait, in order.
+pub fn read_waiting<V: View>(view: &mut V) -> Result<Numbers, AllocError>
+    ensures lasts { Lasts V.holds V.home V.anchor view.old view.new result }
+    ensures left { IfOk result (λ a. Tells V.holds V.now view.old view.new (λ w. waiting_ids w ≡ a)) }
+    ensures sound { OnOk result (StaysSound V.home V.now view.old view.new) }
+{
+    match view.get(&Question::Waiting)? {
+        Answer::Waiting(ids) => Ok(ids),
+        _ => unreachable!(),
+    }
+}
+
 /// The link of a number, or None where it is not open.
 pub fn read_link<V: View>(view: &mut V, number: i32) -> Result<Option<Link>, AllocError>
     ensures lasts { Lasts V.holds V.home V.anchor view.old view.new result }
@@ -106,6 +132,42 @@ pub fn read_link<V: View>(view: &mut V, number: i32) -> Result<Option<Link>, All
 {
     match view.get(&Question::Link(number))? {
         Answer::Link(link) => Ok(link),
+        _ => unreachable!(),
+    }
+}
+
+/// The ids of the tasks that read on a connection, in order.
+pub fn read_readers<V: View>(view: &mut V, connection: i32) -> Result<Numbers, AllocError>
+    ensures lasts { Lasts V.holds V.home V.anchor view.old view.new result }
+    ensures left { IfOk result (λ a. Tells V.holds V.now view.old view.new (λ w. readers_on w connection ≡ a)) }
+    ensures sound { OnOk result (StaysSound V.home V.now view.old view.new) }
+{
+    match view.get(&Question::Readers(connection))? {
+        Answer::Readers(ids) => Ok(ids),
+        _ => unreachable!(),
+    }
+}
+
+/// The connections of a person, in order.
+pub fn read_connections<V: View>(view: &mut V, person: i32) -> Result<Numbers, AllocError>
+    ensures lasts { Lasts V.holds V.home V.anchor view.old view.new result }
+    ensures left { IfOk result (λ a. Tells V.holds V.now view.old view.new (λ w. connections_of w person ≡ a)) }
+    ensures sound { OnOk result (StaysSound V.home V.now view.old view.new) }
+{
+    match view.get(&Question::Connections(person))? {
+        Answer::Connections(connections) => Ok(connections),
+        _ => unreachable!(),
+    }
+}
+
+/// The connections on which players have logged in, with the players, in the order of the connections.
+pub fn read_connected<V: View>(view: &mut V) -> Result<Players, AllocError>
+    ensures lasts { Lasts V.holds V.home V.anchor view.old view.new result }
+    ensures left { IfOk result (λ a. Tells V.holds V.now view.old view.new (λ w. connected w ≡ a)) }
+    ensures sound { OnOk result (StaysSound V.home V.now view.old view.new) }
+{
+    match view.get(&Question::Connected)? {
+        Answer::Connected(players) => Ok(players),
         _ => unreachable!(),
     }
 }
@@ -154,6 +216,15 @@ pub fn write_object<V: View>(
     ensures kept { OnOk result (Keeps V.holds view.old view.new) }
 {
     view.put(Change::Object(number, object))
+}
+
+/// A task comes to wait, or is another one, or waits no more.
+pub fn write_task<V: View>(view: &mut V, id: i32, task: Option<Task>) -> Result<(), AllocError>
+    ensures lasts { Lasts V.holds V.home V.anchor view.old view.new result }
+    ensures left { OnOk result (Goes V.holds V.now view.old view.new (λ before after. after ≡ apply (new_task id task) before)) }
+    ensures kept { OnOk result (Keeps V.holds view.old view.new) }
+{
+    view.put(Change::Task(id, task))
 }
 
 /// A link is opened, or is another one, or goes.

@@ -4,7 +4,10 @@ use denote.Model.Goals.{has_of, part_has, one_law, All, tied_goals, send}
 use denote.Param.SendFields.{as_row_send, declared_send}
 use denote.Model.Cut.{split_one}
 use denote.Model.Local.{Parts, rows}
+use denote.Struct.Field.{i32-field}
 use Rattle.std.proofs.Crossing.{crosses}
+use Rattle.moo_task.proofs.Crossing.{task_send, task_sync}
+use Rattle.moo_task.specs.contracts.task.Task as task
 use Rattle.footprint.proofs.Crossing.{object_send, object_sync, link_send, link_sync}
 use Rattle.footprint.specs.contracts.link.Link as link
 use Rattle.footprint.specs.contracts.object.Object as object
@@ -14,20 +17,39 @@ use Rattle.world.specs.declared.count.Count.TheInside.{Inside}
 use Rattle.world.specs.contracts.count.Count.TheKnot as knot
 use Rattle.world.specs.contracts.count.Count as count
 use Rattle.world.specs.contracts.draft.Draft as draft
+use Rattle.world.specs.contracts.tasks.Tasks as tasks
 use Rattle.world.specs.contracts.worlds.Snapshot as snapshot
 use Rattle.world.specs.contracts.worlds.World as world
+
+number_send : IsSend i32-field.row
+number_send = search (sendable, crosses) depth 60
+
+number_sync : IsSync i32-field.row
+number_sync = search (sendable, crosses) depth 60
+
+tasks_send : IsSend tasks.the_row
+tasks_send =
+    let found = table_send task.the_row task_send task_sync in
+    let readers = table_send i32-field.row number_send number_sync in
+    search (sendable, crosses, found, readers) depth 60
+
+tasks_sync : IsSync tasks.the_row
+tasks_sync =
+    let found = table_sync task.the_row task_send task_sync in
+    let readers = table_sync i32-field.row number_send number_sync in
+    search (sendable, crosses, found, readers) depth 60
 
 draft_send : IsSend draft.the_row
 draft_send =
     let objects = table_send object.the_row object_send object_sync in
     let links = table_send link.the_row link_send link_sync in
-    search (sendable, crosses, objects, links) depth 60
+    search (sendable, crosses, objects, links, tasks_send) depth 60
 
 draft_sync : IsSync draft.the_row
 draft_sync =
     let objects = table_sync object.the_row object_send object_sync in
     let links = table_sync link.the_row link_send link_sync in
-    search (sendable, crosses, objects, links) depth 60
+    search (sendable, crosses, objects, links, tasks_sync) depth 60
 
 pub snapshot_send : IsSend snapshot.the_row
 snapshot_send = search (sendable, crosses, draft_send) depth 60

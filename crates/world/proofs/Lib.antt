@@ -6,3 +6,7 @@ pub mod Changed
 pub mod SoundKeeps
 pub mod Walks
 pub mod Adding
+pub mod Picked
+pub mod Listed
+pub mod Gathered
+pub mod TasksKept

@@ -1,53 +1,88 @@
 -- What is at a key of a table, and what is put there.
-use Rattle.std.proofs.Common.{◌≡◌, ℕ, suc, ◌<◌, ◌≤◌, ◌^◌, ◌*◌, ℤ, pos, negsuc, int_lt, List, [], ◌∷◌, map, Option, Some, None, Bool, true, false, not, cond, IsTrue, nat_lt, ◌==◌, refl, sym, ◌∙◌, ap, subst, arith, All, T, is_some}
+use Rattle.std.proofs.Common.{◌≡◌, ℕ, suc, ◌<◌, ◌≤◌, ◌-◌, ℤ, pos, negsuc, List, [], ◌∷◌, Option, Some, None, Bool, true, false, not, cond, IsTrue, nat_lt, refl, sym, ◌∙◌, ap, subst, arith, All, is_some}
 use Rattle.std.proofs.lemmas.Bool.Decides.{nat_tests}
 use Rattle.std.specs.Ordering.{nat_cmp, int_cmp, eq_by_cmp, is_eq}
 use Rattle.std.specs.declared.cmp.Ordering.{Ordering}
 use Rattle.std.specs.declared.cmp.Ordering.TheVariants.{Less, Equal, Greater}
 use Rattle.std.specs.Cmp.{unsigned_tied}
 use borrow.Author.Tests.{eqb-true}
-use Rattle.std.specs.FinMap.{find, put, is_sorted}
+use Rattle.std.specs.FinMap.{find, put}
 use Rattle.std.specs.FinMap.Entries.{by_order}
-use Rattle.spec_value.specs.Table.{Numbered, at, with, without}
+use Rattle.spec_value.specs.Table.{at, with, without}
 use Rattle.spec_view.specs.Questions.{is_number, put_record}
 use Rattle.world_table.specs.Entries.{without as without_key}
-use Rattle.world.specs.Numbered.{numbered}
-
-pub positive_cmp : (a b : ℕ) → int_cmp (pos a) (pos b) ≡ nat_cmp a b
-positive_cmp a b = grind (arith, nat_tests)
-
-pub at_positive : {X : Type 0} (es : List (ℕ × X)) (k : ℕ) → at (numbered es) (pos k) ≡ find nat_cmp k es
-at_positive [] k = refl
-at_positive (e ∷ es) k = λ i. cond (is_eq (positive_cmp k e.0 i)) (Some e.1) (at_positive es k i)
-
-pub at_negative : {X : Type 0} (es : List (ℕ × X)) (k : ℕ) → at (numbered es) (negsuc k) ≡ None
-at_negative [] k = refl
-at_negative (e ∷ es) k = at_negative es k
+use Rattle.world.specs.Numbered.{keyed, numbered, signed_key, signed}
 
 order_of : {A B : Type 0} (f : A → B) (r : Ordering) (x y z : A) → by_order r (f x) (f y) (f z) ≡ f (by_order r x y z)
 order_of f Less x y z = refl
 order_of f Equal x y z = refl
 order_of f Greater x y z = refl
 
-pub with_positive : {X : Type 0} (es : List (ℕ × X)) (k : ℕ) (x : X) → with (numbered es) (pos k) x ≡ numbered (put nat_cmp k x es)
-with_positive [] k x = refl
-with_positive (e ∷ es) k x =
-    (λ i. by_order (positive_cmp k e.0 i) ((pos k, x) ∷ (pos e.0, e.1) ∷ numbered es) ((pos e.0, x) ∷ numbered es) ((pos e.0, e.1) ∷ with_positive es k x i))
-    ∙ order_of numbered (nat_cmp k e.0) ((k, x) ∷ e ∷ es) ((e.0, x) ∷ es) (e ∷ put nat_cmp k x es)
+-- ---- keys that are read in their order
 
-kept_or_not : {X : Type 0} (b : Bool) (e : ℕ × X) (es : List (ℕ × X)) → cond b ((pos e.0, e.1) ∷ numbered es) (numbered es) ≡ numbered (cond b (e ∷ es) es)
-kept_or_not true e es = refl
-kept_or_not false e es = refl
+module _ (f : ℕ → ℤ) (order : (a b : ℕ) → int_cmp (f a) (f b) ≡ nat_cmp a b) where
+  pub at_key : {X : Type 0} (es : List (ℕ × X)) (k : ℕ) → at (keyed f es) (f k) ≡ find nat_cmp k es
+  at_key [] k = refl
+  at_key (e ∷ es) k = λ i. cond (is_eq (order k e.0 i)) (Some e.1) (at_key es k i)
+
+  pub with_key : {X : Type 0} (es : List (ℕ × X)) (k : ℕ) (x : X) → with (keyed f es) (f k) x ≡ keyed f (put nat_cmp k x es)
+  with_key [] k x = refl
+  with_key (e ∷ es) k x =
+      (λ i. by_order (order k e.0 i) ((f k, x) ∷ (f e.0, e.1) ∷ keyed f es) ((f e.0, x) ∷ keyed f es) ((f e.0, e.1) ∷ with_key es k x i))
+      ∙ order_of (keyed f) (nat_cmp k e.0) ((k, x) ∷ e ∷ es) ((e.0, x) ∷ es) (e ∷ put nat_cmp k x es)
+
+  kept_or_not : {X : Type 0} (b : Bool) (e : ℕ × X) (es : List (ℕ × X)) → cond b ((f e.0, e.1) ∷ keyed f es) (keyed f es) ≡ keyed f (cond b (e ∷ es) es)
+  kept_or_not true e es = refl
+  kept_or_not false e es = refl
+
+  pub without_at : {X : Type 0} (es : List (ℕ × X)) (k : ℕ) → without (keyed f es) (f k) ≡ keyed f (without_key k es)
+  without_at [] k = refl
+  without_at (e ∷ es) k =
+      (λ i. cond (not (is_eq (order k e.0 i))) ((f e.0, e.1) ∷ without_at es k i) (without_at es k i))
+      ∙ kept_or_not (not (eq_by_cmp nat_cmp k e.0)) e (without_key k es)
+
+-- ---- natural numbers
+
+pub positive_cmp : (a b : ℕ) → int_cmp (pos a) (pos b) ≡ nat_cmp a b
+positive_cmp a b = grind (arith, nat_tests)
+
+pub at_positive : {X : Type 0} (es : List (ℕ × X)) (k : ℕ) → at (numbered es) (pos k) ≡ find nat_cmp k es
+at_positive es k = at_key pos positive_cmp es k
+
+pub at_negative : {X : Type 0} (es : List (ℕ × X)) (k : ℕ) → at (numbered es) (negsuc k) ≡ None
+at_negative [] k = refl
+at_negative (e ∷ es) k = at_negative es k
+
+pub with_positive : {X : Type 0} (es : List (ℕ × X)) (k : ℕ) (x : X) → with (numbered es) (pos k) x ≡ numbered (put nat_cmp k x es)
+with_positive es k x = with_key pos positive_cmp es k x
 
 pub without_positive : {X : Type 0} (es : List (ℕ × X)) (k : ℕ) → without (numbered es) (pos k) ≡ numbered (without_key k es)
-without_positive [] k = refl
-without_positive (e ∷ es) k =
-    (λ i. cond (not (is_eq (positive_cmp k e.0 i))) ((pos e.0, e.1) ∷ without_positive es k i) (without_positive es k i))
-    ∙ kept_or_not (not (eq_by_cmp nat_cmp k e.0)) e (without_key k es)
+without_positive es k = without_at pos positive_cmp es k
 
 pub without_negative : {X : Type 0} (es : List (ℕ × X)) (k : ℕ) → without (numbered es) (negsuc k) ≡ numbered es
 without_negative [] k = refl
 without_negative (e ∷ es) k = ap (λ rest. (pos e.0, e.1) ∷ rest) (without_negative es k)
+
+-- ---- integers of 32 bits
+
+pub signed_cmp : (a b : ℕ) → int_cmp (signed_key a) (signed_key b) ≡ nat_cmp a b
+signed_cmp a b = go (nat_lt a 2147483648) refl (nat_lt b 2147483648) refl
+  where
+    go : (p : Bool) → nat_lt a 2147483648 ≡ p → (q : Bool) → nat_lt b 2147483648 ≡ q
+        → int_cmp (cond p (negsuc (2147483647 - a)) (pos (a - 2147483648))) (cond q (negsuc (2147483647 - b)) (pos (b - 2147483648))) ≡ nat_cmp a b
+    go true e true h = grind (arith, nat_tests)
+    go true e false h = grind (arith, nat_tests)
+    go false e true h = grind (arith, nat_tests)
+    go false e false h = grind (arith, nat_tests)
+
+pub at_signed : {X : Type 0} (es : List (ℕ × X)) (i : ℤ) (k : ℕ) → signed_key k ≡ i → at (signed es) i ≡ find nat_cmp k es
+at_signed es i k is = ap (at (signed es)) (sym is) ∙ at_key signed_key signed_cmp es k
+
+pub with_signed : {X : Type 0} (es : List (ℕ × X)) (i : ℤ) (k : ℕ) (x : X) → signed_key k ≡ i → with (signed es) i x ≡ signed (put nat_cmp k x es)
+with_signed es i k x is = ap (λ j. with (signed es) j x) (sym is) ∙ with_key signed_key signed_cmp es k x
+
+pub without_signed : {X : Type 0} (es : List (ℕ × X)) (i : ℤ) (k : ℕ) → signed_key k ≡ i → without (signed es) i ≡ signed (without_key k es)
+without_signed es i k is = ap (without (signed es)) (sym is) ∙ without_at signed_key signed_cmp es k
 
 -- ---- another record, or none
 

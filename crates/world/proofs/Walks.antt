@@ -1,13 +1,14 @@
 -- Two tables walked side by side, from one key to the next.
-use Rattle.std.proofs.Common.{◌≡◌, ◌↔◌, ℕ, zero, suc, ◌+◌, ◌<◌, ◌≤◌, ℤ, pos, negsuc, option_map, is_some, not, List, [], ◌∷◌, map, Option, Some, None, Bool, true, false, cond, ◌&&◌, IsTrue, nat_le, nat_lt, refl, sym, ◌∙◌, ap, subst, arith, All}
+use Rattle.std.proofs.Common.{◌≡◌, ◌↔◌, ℕ, ◌+◌, ◌-◌, ◌<◌, ◌≤◌, ℤ, pos, negsuc, option_map, is_some, not, List, [], ◌∷◌, map, Option, Some, None, Bool, true, false, cond, IsTrue, nat_le, nat_lt, refl, sym, ◌∙◌, ap, subst, arith}
 use Rattle.std.proofs.lemmas.Bool.Decides.{nat_tests}
 use Rattle.std.proofs.lemmas.Bool.{and_parts}
+use Rattle.std.specs.List.{AllByRecursion}
 use Rattle.std.specs.Ordering.{nat_cmp, is_lt}
 use Rattle.std.specs.FinMap.{is_sorted}
 use Rattle.std.specs.FinMap.Entries.{below_all}
 use Rattle.world_table.specs.Entries.{first_from}
 use Rattle.spec_value.specs.Table.{Numbered}
-use Rattle.world.specs.Numbered.{numbered}
+use Rattle.world.specs.Numbered.{keyed, numbered, signed_key, signed}
 
 -- the entries at this key or above it
 abbrev pub from : {X : Type 0} → ℕ → List (ℕ × X) → List (ℕ × X)
@@ -75,12 +76,12 @@ found_reaches k (e ∷ es) f is =
       | false ↦ λ _ h. found_reaches k es f h
     ] refl is
 
-pub found_within : {X : Type 0} (bound k : ℕ) (es : List (ℕ × X)) (f : ℕ × X) → All (λ e. e.0 < bound) es → Some f ≡ first_from k es → f.0 < bound
+pub found_within : {X : Type 0} (bound k : ℕ) (es : List (ℕ × X)) (f : ℕ × X) → AllByRecursion (λ e. e.0 < bound) es → Some f ≡ first_from k es → f.0 < bound
 found_within bound k [] f all is = cc
 found_within bound k (e ∷ es) f all is =
     elim (nat_le k e.0) as (λ b. Some f ≡ cond b (Some e) (first_from k es) → f.0 < bound) [
-      | true ↦ λ h. subst (λ (g : ℕ × _). g.0 < bound) (sym (some_here e f h)) (all 0 e (omega arith))
-      | false ↦ λ h. found_within bound k es f (λ j d lt. all (suc j) d (omega arith)) h
+      | true ↦ λ h. subst (λ (g : ℕ × _). g.0 < bound) (sym (some_here e f h)) all.0
+      | false ↦ λ h. found_within bound k es f all.1 h
     ] is
 
 -- ---- both tables have the same entries up to the key
@@ -101,33 +102,51 @@ same_at_end k xs ys in_as in_bs h = h (none_from k xs in_as ∙ sym (none_from k
 
 -- ---- tables by integers
 
-key_of : ℤ → ℕ
-key_of (pos n) = n
-key_of (negsuc n) = n
+module _ (f : ℕ → ℤ) (back : ℤ → ℕ) (comes_back : (k : ℕ) → back (f k) ≡ k) where
+  abbrev unkeyed : {X : Type 0} → Numbered X → List (ℕ × X)
+  unkeyed es = map (λ e. (back e.0, e.1)) es
 
-unnumbered : {X : Type 0} → Numbered X → List (ℕ × X)
-unnumbered es = map (λ e. (key_of e.0, e.1)) es
+  unkeyed_back : {X : Type 0} (es : List (ℕ × X)) → unkeyed (keyed f es) ≡ es
+  unkeyed_back [] = refl
+  unkeyed_back (e ∷ es) = λ i. (comes_back e.0 i, e.1) ∷ unkeyed_back es i
 
-unnumbered_back : {X : Type 0} (es : List (ℕ × X)) → unnumbered (numbered es) ≡ es
-unfolding unnumbered key_of
-unnumbered_back [] = refl
-unnumbered_back (e ∷ es) = ap (λ fs. e ∷ fs) (unnumbered_back es)
+  pub same_keyed : {X : Type 0} (xs ys : List (ℕ × X)) → keyed f xs ≡ keyed f ys → xs ≡ ys
+  same_keyed xs ys e = sym (unkeyed_back xs) ∙ ap unkeyed e ∙ unkeyed_back ys
+
+natural : ℤ → ℕ
+natural (pos n) = n
+natural (negsuc n) = n
 
 pub same_numbered : {X : Type 0} (xs ys : List (ℕ × X)) → numbered xs ≡ numbered ys → xs ≡ ys
-same_numbered xs ys e = sym (unnumbered_back xs) ∙ ap unnumbered e ∙ unnumbered_back ys
+unfolding natural
+same_numbered xs ys e = same_keyed pos natural (λ k. refl) xs ys e
+
+key_back : ℤ → ℕ
+key_back (pos n) = n + 2147483648
+key_back (negsuc n) = 2147483647 - n
+
+key_comes_back : (k : ℕ) → key_back (signed_key k) ≡ k
+unfolding key_back
+key_comes_back k = go (nat_lt k 2147483648) refl
+  where
+    go : (b : Bool) → nat_lt k 2147483648 ≡ b → key_back (cond b (negsuc (2147483647 - k)) (pos (k - 2147483648))) ≡ k
+    go true e = let lt : k < 2147483648 = grind (arith, nat_tests) in omega arith
+    go false e = let le : 2147483648 ≤ k = grind (arith, nat_tests) in omega arith
+
+pub same_signed : {X : Type 0} (xs ys : List (ℕ × X)) → signed xs ≡ signed ys → xs ≡ ys
+same_signed xs ys e = same_keyed signed_key key_back key_comes_back xs ys e
 
 -- ---- what a walk of both comes to
 
-pub one_ends : {X : Type 0} (k : ℕ) (xs ys : List (ℕ × X)) (f : ℕ × X) → Some f ≡ first_from k xs → None ≡ first_from k ys → numbered xs ≡ numbered ys → ⊥
-one_ends k xs ys f in_xs in_ys e =
-    let h : Some f ≡ None = in_xs ∙ ap (first_from k) (same_numbered xs ys e) ∙ sym in_ys in cc
+pub one_ends : {X : Type 0} (k : ℕ) (xs ys : List (ℕ × X)) (f : ℕ × X) → Some f ≡ first_from k xs → None ≡ first_from k ys → xs ≡ ys → ⊥
+one_ends k xs ys f in_xs in_ys e = let h : Some f ≡ None = in_xs ∙ ap (first_from k) e ∙ sym in_ys in cc
 
-pub one_entry : {X : Type 0} (k : ℕ) (xs ys : List (ℕ × X)) (f g : ℕ × X) → Some f ≡ first_from k xs → Some g ≡ first_from k ys → numbered xs ≡ numbered ys → f ≡ g
-one_entry k xs ys f g in_xs in_ys e = some_here g f (in_xs ∙ ap (first_from k) (same_numbered xs ys e) ∙ sym in_ys)
+pub one_entry : {X : Type 0} (k : ℕ) (xs ys : List (ℕ × X)) (f g : ℕ × X) → Some f ≡ first_from k xs → Some g ≡ first_from k ys → xs ≡ ys → f ≡ g
+one_entry k xs ys f g in_xs in_ys e = some_here g f (in_xs ∙ ap (first_from k) e ∙ sym in_ys)
 
 pub both_end : {X Y : Type 0} (q : ℕ × Y → ℕ × X) (o : Option (ℕ × Y)) (r : Bool) (k : ℕ) (xs ys : List (ℕ × X)) → is_some o ≡ not r → None ≡ first_from k xs → option_map q o ≡ first_from k ys
-    → SameFrom k xs ys → (IsTrue r ↔ numbered xs ≡ numbered ys)
-both_end q None true k xs ys is in_xs in_ys h = (λ _. ap numbered (same_at_end k xs ys in_xs in_ys h), λ _. refl)
+    → SameFrom k xs ys → (IsTrue r ↔ xs ≡ ys)
+both_end q None true k xs ys is in_xs in_ys h = (λ _. same_at_end k xs ys in_xs in_ys h, λ _. refl)
 both_end q None false k xs ys is in_xs in_ys h = absurd (cc)
 both_end q (Some y) true k xs ys is in_xs in_ys h = absurd (cc)
 both_end q (Some y) false k xs ys is in_xs in_ys h = (λ t. absurd (cc), λ e. absurd (one_ends k ys xs (q y) in_ys in_xs (sym e)))

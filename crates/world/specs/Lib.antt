@@ -5,3 +5,5 @@ pub mod Sound
 pub mod Ready
 pub mod Forks
 pub mod Objects
+pub mod Picked
+pub mod Tasks

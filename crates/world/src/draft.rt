@@ -2,21 +2,25 @@
 ghost use Rattle.std.specs.Prelude.{◌≡◌, ◌↔◌, ◌<◌, ℕ, ℤ, pos, negsuc, false, [], max, IfOk, OnOk, OnErr, IsTrue, is_some, option_map, MatchOption};
 ghost use Rattle.spec_value.specs.Table.{at, with};
 ghost use Rattle.spec_world.specs.World.{object_at, with_object};
-ghost use Rattle.spec_view.specs.Questions.{header_at, children_at, contents_at, defines_at, slot_on, verbs_at, ask, Agrees, apply, apply_all, new_part, new_value, new_next};
+ghost use Rattle.spec_view.specs.Listings.{waiting_ids, readers_on, connections_of, connected};
+ghost use Rattle.spec_view.specs.Questions.{header_at, children_at, contents_at, defines_at, slot_on, verbs_at, the_waiting, the_readers, the_connections, the_connected, ask, Agrees, apply, apply_all, new_part, new_value, new_next};
 ghost use Rattle.footprint.specs.Meanings.{question_of, answer_of, part_of, change_of};
 ghost use Rattle.world.specs.Numbered.{numbered};
 
+use crate::choice::{LinksOf, LoggedIn, gather, is_gathered};
 use crate::records::{put_record, record_at, same_records, set_record};
+use crate::tasks::Tasks;
 use footprint::change::Change;
 use footprint::header::Header;
 use footprint::link::Link;
-use footprint::lists::{Names, Objects};
+use footprint::lists::{Names, Numbers, Objects, Players};
 use footprint::object::Object;
 use footprint::part::Part;
 use footprint::question::{Answer, Question};
 use footprint::reads::Reads;
 use footprint::slot::Slot;
 use footprint::verb::Verbs;
+use moo_task::task::Task;
 use moo_value::text::Text;
 use moo_value::value::Value;
 use std::alloc::{AllocError, Global};
@@ -27,9 +31,9 @@ use world_table::Table;
 const LAST_NEXT: u64 = 33554432;
 
 /// A world that may be between two changes: nothing is promised of it. Its records are shared with the world that it came from.
-#[derive(Drop)]
 pub struct Draft {
     pub(crate) objects: Table<Object, 4>,
+    pub(crate) tasks: Tasks,
     pub(crate) links: Table<Link, 4>,
     pub(crate) greatest: i32,
     pub(crate) next: u64,
@@ -37,8 +41,22 @@ pub struct Draft {
     pub(crate) alloc: Global,
 }
 
+// Written out, so that letting go of all that a draft holds is proved here and not where one is let go.
+impl Drop for Draft {
+    fn drop(self) {
+        let Draft {
+            objects: _objects,
+            tasks: _tasks,
+            links: _links,
+            greatest: _greatest,
+            next: _next,
+            ending: _ending,
+            alloc: _alloc,
+        } = self;
+    }
+}
+
 impl Model for Draft {
-    ghost use Rattle.std.specs.Prelude.{[]};
     ghost use Rattle.spec_world.specs.World.{World as Meant};
     ghost use Rattle.spec_world.specs.WorldCode.{world_code};
     ghost use Rattle.world.specs.Numbered.{numbered};
@@ -49,7 +67,7 @@ impl Model for Draft {
 
     ghost view = { λ a. record {
       objects = numbered a.objects.entries;
-      tasks = [];
+      tasks = a.tasks;
       links = numbered a.links.entries;
       greatest = a.greatest;
       next = a.next;
@@ -58,12 +76,13 @@ impl Model for Draft {
 }
 
 impl Draft {
-    /// No objects and no links.
+    /// No objects, tasks and links.
     pub fn empty(alloc: Global) -> Draft
         ensures { result ≡ record { objects = []; tasks = []; links = []; greatest = negsuc 0; next = 1; ending = false } }
     {
         Draft {
             objects: Table::empty(alloc),
+            tasks: Tasks::empty(alloc),
             links: Table::empty(alloc),
             greatest: -1,
             next: 1,
@@ -80,6 +99,14 @@ impl Draft {
         ensures err { OnErr result (self.new ≡ self.old) }
     {
         self.objects.put(u64::from(number), object)
+    }
+
+    /// A task more that waits, or another task of that id.
+    pub fn put_task(&mut self, id: i32, task: Task) -> Result<(), AllocError>
+        ensures ok { OnOk result (self.new ≡ record (self.old) { tasks = with self.old.tasks id task }) }
+        ensures err { OnErr result (self.new ≡ self.old) }
+    {
+        self.tasks.put(id, Some(task))
     }
 
     /// A link more, or another link of that number.
@@ -111,8 +138,7 @@ impl Draft {
 
     /// The world is not about to end any more.
     pub(crate) fn reopen(&mut self)
-        ensures ending { self.new ≡ record (self.old) { ending = false } }
-        ensures no_tasks { self.old.tasks ≡ [] }
+        ensures { self.new ≡ record (self.old) { ending = false } }
     {
         self.ending = false;
     }
@@ -123,6 +149,7 @@ impl Draft {
     {
         Ok(Draft {
             objects: self.objects.share()?,
+            tasks: self.tasks.share()?,
             links: self.links.share()?,
             greatest: self.greatest,
             next: self.next,
@@ -180,6 +207,102 @@ impl Draft {
         record_at(&self.links, number)
     }
 
+    // The ids of the tasks that wait.
+    fn waiting(&self) -> Result<Numbers, AllocError>
+        ensures { IfOk result (λ ids. ids ≡ waiting_ids self.now) }
+    {
+        let found = self.tasks.ids(self.alloc)?;
+        let ids = Numbers::new(self.alloc, found)?;
+        Ok(ids)
+    }
+
+    fn is_waiting(&self, answer: &Answer) -> bool
+        ensures { IsTrue result ↔ the_waiting (waiting_ids self.now) ≡ answer_of answer.now }
+    {
+        match answer {
+            Answer::Waiting(ids) => self.tasks.has_ids(ids.as_slice()),
+            _ => false,
+        }
+    }
+
+    // The ids of the tasks that read on a connection.
+    fn readers(&self, connection: i32) -> Result<Numbers, AllocError>
+        ensures { IfOk result (λ ids. ids ≡ readers_on self.now connection) }
+    {
+        let found = self.tasks.readers_on(self.alloc, connection)?;
+        let ids = Numbers::new(self.alloc, found)?;
+        Ok(ids)
+    }
+
+    fn has_readers(&self, connection: i32, ids: &[i32]) -> bool
+        ensures { IsTrue result ↔ readers_on self.now connection ≡ ids.now }
+    {
+        self.tasks.has_readers_on(connection, ids)
+    }
+
+    fn is_readers(&self, connection: i32, answer: &Answer) -> bool
+        ensures { IsTrue result ↔ the_readers (readers_on self.now connection) ≡ answer_of answer.now }
+    {
+        match answer {
+            Answer::Readers(ids) => self.has_readers(connection, ids.as_slice()),
+            _ => false,
+        }
+    }
+
+    // The connections of a person.
+    fn connections(&self, person: i32) -> Result<Numbers, AllocError>
+        ensures { IfOk result (λ cs. cs ≡ connections_of self.now person) }
+    {
+        let _within = self.links.len();
+        let found = gather(self.alloc, &self.links, &LinksOf { person })?;
+        let connections = Numbers::new(self.alloc, found)?;
+        Ok(connections)
+    }
+
+    fn has_connections(&self, person: i32, connections: &[i32]) -> bool
+        ensures { IsTrue result ↔ connections_of self.now person ≡ connections.now }
+    {
+        let _within = self.links.len();
+        is_gathered(&self.links, &LinksOf { person }, connections)
+    }
+
+    fn is_connections(&self, person: i32, answer: &Answer) -> bool
+        ensures { IsTrue result ↔ the_connections (connections_of self.now person) ≡ answer_of answer.now }
+    {
+        match answer {
+            Answer::Connections(connections) => {
+                self.has_connections(person, connections.as_slice())
+            }
+            _ => false,
+        }
+    }
+
+    // The connections on which players have logged in, with the players.
+    fn connected(&self) -> Result<Players, AllocError>
+        ensures { IfOk result (λ ps. ps ≡ connected self.now) }
+    {
+        let _within = self.links.len();
+        let found = gather(self.alloc, &self.links, &LoggedIn)?;
+        let players = Players::new(found);
+        Ok(players)
+    }
+
+    fn has_connected(&self, players: &[(i32, i32)]) -> bool
+        ensures { IsTrue result ↔ connected self.now ≡ players.now }
+    {
+        let _within = self.links.len();
+        is_gathered(&self.links, &LoggedIn, players)
+    }
+
+    fn is_connected(&self, answer: &Answer) -> bool
+        ensures { IsTrue result ↔ the_connected (connected self.now) ≡ answer_of answer.now }
+    {
+        match answer {
+            Answer::Connected(players) => self.has_connected(players.as_slice()),
+            _ => false,
+        }
+    }
+
     /// The answer to a question.
     pub fn ask(&self, question: &Question) -> Result<Answer, AllocError>
         ensures { IfOk result (λ a. answer_of a ≡ ask self.now (question_of question.now)) }
@@ -191,7 +314,12 @@ impl Draft {
             Question::Defines(object) => Ok(Answer::Defines(self.defines(*object).cloned()?)),
             Question::Slot(object, name) => Ok(Answer::Slot(copied(self.slot(*object, name))?)),
             Question::Verbs(object) => Ok(Answer::Verbs(self.verbs(*object).cloned()?)),
+            Question::Task(id) => Ok(Answer::Task(self.tasks.get(*id).cloned()?)),
+            Question::Waiting => Ok(Answer::Waiting(self.waiting()?)),
             Question::Link(number) => Ok(Answer::Link(self.link(*number).cloned()?)),
+            Question::Readers(connection) => Ok(Answer::Readers(self.readers(*connection)?)),
+            Question::Connections(person) => Ok(Answer::Connections(self.connections(*person)?)),
+            Question::Connected => Ok(Answer::Connected(self.connected()?)),
             Question::Greatest => Ok(Answer::Greatest(self.greatest)),
             Question::Ending => Ok(Answer::Ending(self.ending)),
         }
@@ -208,7 +336,12 @@ impl Draft {
             Question::Defines(object) => answer.is_defines(self.defines(*object)),
             Question::Slot(object, name) => answer.is_slot(self.slot(*object, name)),
             Question::Verbs(object) => answer.is_verbs(self.verbs(*object)),
+            Question::Task(id) => answer.is_task(self.tasks.get(*id)),
+            Question::Waiting => self.is_waiting(answer),
             Question::Link(number) => answer.is_link(self.link(*number)),
+            Question::Readers(connection) => self.is_readers(*connection, answer),
+            Question::Connections(person) => self.is_connections(*person, answer),
+            Question::Connected => self.is_connected(answer),
             Question::Greatest => answer.is_greatest(self.greatest),
             Question::Ending => answer.is_ending(self.ending),
         }
@@ -231,6 +364,7 @@ impl Draft {
         ensures { IsTrue result ↔ self.now ≡ other.now }
     {
         same_records(&self.objects, &other.objects)
+            && self.tasks.same(&other.tasks)
             && same_records(&self.links, &other.links)
             && self.greatest == other.greatest
             && self.next == other.next
@@ -246,6 +380,7 @@ impl Draft {
             Change::Part(number, part) => self.put_part(number, part),
             Change::Value(number, name, value) => self.put_value(number, &name, value),
             Change::Object(number, object) => set_record(&mut self.objects, number, object),
+            Change::Task(id, task) => self.tasks.put(id, task),
             Change::Link(number, link) => set_record(&mut self.links, number, link),
             Change::Greatest(greatest) => {
                 self.greatest = greatest;

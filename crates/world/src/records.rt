@@ -1,11 +1,13 @@
 //! Tables of records, by the numbers of objects and links.
 ghost use Rattle.std.specs.Prelude.{◌≡◌, ◌↔◌, ◌<◌, ◌^◌, ℕ, ℤ, pos, negsuc, OnOk, OnErr, IsTrue, is_some, None, option_map, MatchOption};
+ghost use Rattle.std.specs.List.{AllByRecursion};
 ghost use Rattle.spec_value.specs.Table.{at, with};
 ghost use Rattle.spec_view.specs.Questions.{put_record as changed_record};
 ghost use Rattle.world.specs.Numbered.{numbered};
 
 use footprint::link::Link;
 use footprint::object::Object;
+use moo_task::task::Task;
 use std::alloc::AllocError;
 use world_table::Table;
 
@@ -86,11 +88,42 @@ impl Compared for Link {
     }
 }
 
+impl Compared for Task {
+    fn is_same(&self, other: &Task) -> bool {
+        self.same(other)
+    }
+}
+
+impl Compared for i32 {
+    fn is_same(&self, other: &i32) -> bool {
+        *self == *other
+    }
+}
+
+impl Compared for (i32, i32) {
+    fn is_same(&self, other: &(i32, i32)) -> bool {
+        self.0 == other.0 && self.1 == other.1
+    }
+}
+
 /// Whether two tables have the same records for the same numbers. It takes no memory.
+#[tactic(auto, using(crate::proofs::Walks::same_numbered))]
 pub(crate) fn same_records<R: Compared + Drop>(a: &Table<R, 4>, b: &Table<R, 4>) -> bool
     ensures { IsTrue result ↔ numbered a.now.entries ≡ numbered b.now.entries }
 {
-    let _sizes = (a.len(), b.len());
+    let _within = a.len();
+    same_entries(a, b)
+}
+
+/// Whether two tables have the same entries. It takes no memory.
+pub(crate) fn same_entries<R: Compared + Drop, const LEVELS: u32>(
+    a: &Table<R, LEVELS>,
+    b: &Table<R, LEVELS>,
+) -> bool
+    requires { AllByRecursion (λ e. e.0 < 4294967296) a.now.entries }
+    ensures { IsTrue result ↔ a.now.entries ≡ b.now.entries }
+{
+    let _sorted = (a.len(), b.len());
     let mut key = 0;
     while let Some((number, record)) = a.next_from(key) {
         let Some((other_number, other)) = b.next_from(key) else {

@@ -54,7 +54,7 @@ impl Model for Snapshot {
 }
 
 impl World {
-    /// No objects and no links. The next step is number 1.
+    /// No objects, tasks and links. The next step is number 1.
     #[tactic(auto, using(crate::proofs::Settled::empty_is_sound))]
     pub fn empty(alloc: Global) -> World
         ensures plain { result.plain ≡ record { objects = []; tasks = []; links = []; greatest = negsuc 0; next = 1; ending = false } }

@@ -33,8 +33,8 @@ pub(crate) fn records(alloc: Global) -> Result<Draft, AllocError>
     ensures { IfOk result (λ d. d ≡ meant.fixture) }
 {
     let mut draft = objects(alloc)?;
-    draft.put_link(1, Link { person: 4 })?;
-    draft.put_link(2, Link { person: 5 })?;
+    draft.put_link(1, Link::new(4))?;
+    draft.put_link(2, Link::new(5))?;
     draft.set_greatest(7);
     Ok(draft)
 }

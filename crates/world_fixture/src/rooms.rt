@@ -54,7 +54,7 @@ fn put_room(alloc: Global, draft: &mut Draft, place: u32, verbs: Verbs) -> Resul
     draft.put_object(room, lone_room(alloc, player, verbs)?)?;
     draft.put_object(player, guest(alloc, room)?)?;
     let person = player as i32;
-    draft.put_link(3 + place, Link { person })?;
+    draft.put_link(3 + place, Link::new(person))?;
     draft.set_greatest(person);
     Ok(())
 }

@@ -13,3 +13,18 @@ returns-then-len-held-clause-shown c a k out hs fits =
 pub returns-in_ok-offered-in-Arms-clause-shown : goal.returns-in_ok-offered-in-Arms-clause-shown
 returns-in_ok-offered-in-Arms-clause-shown c a k out hs fits =
     rw (c.in-Arms.is, ← c.deref.ensures.value) (c.in_ok-offered-in-Arms.ensures.shown a k out c.args.handler.now.first c.args.handler.now.past hs fits)
+
+pub returns-in-Loop-clause-shown : goal.returns-in-Loop-clause-shown
+returns-in-Loop-clause-shown c a k out hs fits = rw c.in-Loop.is (c.to_loop.ensures.shown a k out c.args.handler.now.first hs)
+
+pub returns-in_ok-offered-in-Finally-clause-shown : goal.returns-in_ok-offered-in-Finally-clause-shown
+returns-in_ok-offered-in-Finally-clause-shown c a k out hs fits =
+    rw c.in-Finally.is (c.in_ok-offered-in-Finally.ensures.shown a k out c.args.handler.now.first c.args.handler.now.past hs)
+
+pub returns-in_ok-offered-in-Code-clause-shown : goal.returns-in_ok-offered-in-Code-clause-shown
+returns-in_ok-offered-in-Code-clause-shown c a k out hs fits =
+    rw c.in-Code.is (c.in_ok-offered-in-Code.ensures.shown a k out c.args.handler.now.first c.args.handler.now.past hs)
+
+pub returns-in-Instead-clause-shown : goal.returns-in-Instead-clause-shown
+returns-in-Instead-clause-shown c a k out hs fits =
+    rw c.in-Instead.is (c.to_part.ensures.shown a k out c.args.handler.now.first c.args.handler.now.past c.in-Instead.part.number hs)

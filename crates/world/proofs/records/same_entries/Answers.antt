@@ -1,8 +1,7 @@
-use Rattle.std.proofs.Common.{◌≡◌, ◌≤◌, ◌<◌, ◌+◌, ℕ, ap, sym, ◌∙◌, Some, refl, subst, arith}
-use Rattle.world_table.specs.Entries.{first_from}
-use Rattle.world.proofs.Walks.{SameFrom, same_at_first, same_behind, found_reaches, found_within, one_ends, one_entry, both_end}
-use Rattle.world.proofs.records.same_records.Goals as goal
-use Rattle.world.proofs.records.same_records.Goals.{then-number-other_number-via-then-number-other_number, then-number-other_number-via-else-number-other_number+then-not-is_same}
+use Rattle.std.proofs.Common.{◌≤◌, ◌<◌, ap, ◌∙◌, Some, refl, arith}
+use Rattle.world.proofs.Walks.{same_at_first, same_behind, found_reaches, found_within, one_ends, one_entry, both_end}
+use Rattle.world.proofs.records.same_entries.Goals as goal
+use Rattle.world.proofs.records.same_entries.Goals.{then-number-other_number-via-then-number-other_number, then-number-other_number-via-else-number-other_number+then-not-is_same}
 
 pub loop-number-init : goal.loop-number-init
 loop-number-init g c = record { within = omega arith; same = same_at_first _ _ }
@@ -20,18 +19,18 @@ returns-then-number-other_number g c =
 
 pub overflow_add-key : goal.overflow_add-key
 overflow_add-key g c =
-    let below : c.in-Some.number < 1048576 = found_within 1048576 c.loop-number.key c.args.a.now.entries (c.in-Some.number, c.in-Some.record.now) c.len.ensures.within c.in-Some.ensures in
+    let below : c.in-Some.number < 4294967296 = found_within 4294967296 c.loop-number.key c.args.a.now.entries (c.in-Some.number, c.in-Some.record.now) c.requires c.in-Some.ensures in
     omega arith
 
 pub loop-number-smaller : goal.loop-number-smaller
 loop-number-smaller g c =
-    let below : c.in-Some.number < 1048576 = found_within 1048576 c.loop-number.key c.args.a.now.entries (c.in-Some.number, c.in-Some.record.now) c.len.ensures.within c.in-Some.ensures in
+    let below : c.in-Some.number < 4294967296 = found_within 4294967296 c.loop-number.key c.args.a.now.entries (c.in-Some.number, c.in-Some.record.now) c.requires c.in-Some.ensures in
     let above : c.loop-number.key ≤ c.in-Some.number = found_reaches c.loop-number.key c.args.a.now.entries (c.in-Some.number, c.in-Some.record.now) c.in-Some.ensures in
     omega arith
 
 pub loop-number-preserved : goal.loop-number-preserved
 loop-number-preserved g c =
-    let below : c.in-Some.number < 1048576 = found_within 1048576 c.loop-number.key c.args.a.now.entries (c.in-Some.number, c.in-Some.record.now) c.len.ensures.within c.in-Some.ensures in
+    let below : c.in-Some.number < 4294967296 = found_within 4294967296 c.loop-number.key c.args.a.now.entries (c.in-Some.number, c.in-Some.record.now) c.requires c.in-Some.ensures in
     record {
       within = omega arith;
       same =

@@ -1,0 +1,18 @@
+use Rattle.std.proofs.Common.{◌≡◌, ◌<◌, ◌≤◌, ◌∙◌, ℕ, sym, ap, arith, rules, w32}
+use Rattle.std.proofs.lemmas.Int.{to_z-of_z}
+use Rattle.std.specs.List.{AllByRecursion}
+use Rattle.spec_world.specs.World.{World, Link}
+use Rattle.spec_view.specs.Listings.{connections_of, connected}
+use Rattle.world.proofs.Listed.{logged_in, within}
+use Rattle.world.proofs.draft.Draft.has_connected.Goals as goal
+
+pub is_gathered-requires : goal.is_gathered-requires
+is_gathered-requires c =
+    let keys : AllByRecursion (λ (e : ℕ × Link). e.0 < 1048576) c.self.inside.links.entries = within 1048576 1048576 c.self.inside.links.entries (omega arith) c.len-within.ensures.within in
+    let bound : 1048576 ≤ 4294967296 = omega arith in
+    search (rules, keys, bound)
+
+pub returns : goal.returns
+returns c =
+    let listed = logged_in c.self.inside.links.entries ∙ ap (λ (w : World). connected w) c.self.view_is in
+    (λ h. sym listed ∙ c.is_gathered.ensures.0 h, λ e. c.is_gathered.ensures.1 (listed ∙ e))

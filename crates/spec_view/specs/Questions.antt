@@ -2,24 +2,19 @@
 use Rattle.std.specs.Prelude.{◌≡◌, ℕ, max, min, ℤ, pos, int_le, Bool, ◌&&◌, List, [], ◌∷◌, Option, Some, None, option_map, if◌then◌else◌}
 use Rattle.spec_value.specs.Datum.{Datum, Text, fold_case}
 use Rattle.spec_value.specs.Table.{Numbered, Named, at, with, without, named, with_name, without_name}
-use Rattle.spec_world.specs.World.{World, Header, Object, Slot, Verb, Task, Link, object_at}
+use Rattle.spec_world.specs.World.{World, Header, Object, Slot, Verb, Link, object_at}
 use Rattle.spec_world.specs.Inherit.{slot_at, with_slot}
 use Rattle.spec_world.specs.Families.{change_object}
-use Rattle.spec_view.specs.Listings.{waiting_ids, readers_on, connections_of, connected}
 
 -- ---- questions and answers
 
 -- one facet of a world: of an object its header, its children, its contents, the names of the properties that it defines, a property's slot on it, its verbs;
--- a task that waits, and the ids of them all; a link, the tasks that read on it, the links of a person, and those on which players have logged in;
--- the greatest number of an object so far; whether the server is about to end
+-- a link; the greatest number of an object so far; whether the server is about to end
 pub data Question : Type 0 where
   about_header about_children about_contents about_defines : ℤ → Question
   about_slot : ℤ → Text → Question
   about_verbs : ℤ → Question
-  about_task : ℤ → Question
-  about_waiting : Question
-  about_link about_readers about_connections : ℤ → Question
-  about_connected : Question
+  about_link : ℤ → Question
   about_greatest : Question
   about_ending : Question
 
@@ -30,11 +25,7 @@ pub data Answer : Type 0 where
   the_defines : Option (List Text) → Answer
   the_slot : Option (Option Slot) → Answer
   the_verbs : Option (List Verb) → Answer
-  the_task : Option Task → Answer
-  the_waiting : List ℤ → Answer
   the_link : Option Link → Answer
-  the_readers the_connections : List ℤ → Answer
-  the_connected : List (ℤ × ℤ) → Answer
   the_greatest : ℤ → Answer
   the_ending : Bool → Answer
 
@@ -64,12 +55,7 @@ ask w (about_contents o) = the_contents (contents_at w o)
 ask w (about_defines o) = the_defines (defines_at w o)
 ask w (about_slot o p) = the_slot (slot_on w o p)
 ask w (about_verbs o) = the_verbs (verbs_at w o)
-ask w (about_task i) = the_task (at w.tasks i)
-ask w about_waiting = the_waiting (waiting_ids w)
 ask w (about_link c) = the_link (at w.links c)
-ask w (about_readers c) = the_readers (readers_on w c)
-ask w (about_connections o) = the_connections (connections_of w o)
-ask w about_connected = the_connected (connected w)
 ask w about_greatest = the_greatest w.greatest
 ask w about_ending = the_ending w.ending
 
@@ -129,13 +115,12 @@ put_part a x =
       verbs = put_verbs a x.verbs;
     }
 
--- an object that is there has another part; a slot that is there has another value; an object, a task that waits, and a link, is made, or is another one, or goes;
+-- an object that is there has another part; a slot that is there has another value; an object, and a link, is made, or is another one, or goes;
 -- the greatest number; the ending flag; the next step has at least this number
 pub data Change : Type 0 where
   new_part : ℤ → Part → Change
   new_value : ℤ → Text → Datum → Change
   new_object : ℤ → Option Object → Change
-  new_task : ℤ → Option Task → Change
   new_link : ℤ → Option Link → Change
   new_greatest : ℤ → Change
   new_ending : Bool → Change
@@ -155,11 +140,6 @@ abbrev pub put_record : {X : Type 0} → Numbered X → ℤ → Option X → Num
 put_record m n None = without m n
 put_record m n (Some x) = if is_number n then with m n x else m
 
--- a task may have any id
-abbrev pub put_task : Numbered Task → ℤ → Option Task → Numbered Task
-put_task m i None = without m i
-put_task m i (Some t) = with m i t
-
 -- no step has this number
 abbrev pub last_next : ℕ
 last_next = 33554432
@@ -168,7 +148,6 @@ abbrev pub apply : Change → World → World
 apply (new_part o a) w = change_object w o (put_part a)
 apply (new_value o p v) w = put_value w o p v (slot_at w o p)
 apply (new_object o x) w = record w { objects = put_record w.objects o x }
-apply (new_task i t) w = record w { tasks = put_task w.tasks i t }
 apply (new_link c k) w = record w { links = put_record w.links c k }
 apply (new_greatest o) w = record w { greatest = o }
 apply (new_ending b) w = record w { ending = b }

@@ -1,5 +1,5 @@
 //! Properties that are changed (Programmer's Manual, "Operations on Properties").
-ghost use Rattle.std.specs.Prelude.{◌≡◌, ◌&&◌, [], ◌∷◌, is_some, codes, IfOk};
+ghost use Rattle.std.specs.Prelude.{◌≡◌, ◌&&◌, [], ◌∷◌, is_some, codes, IfOk, OnOk};
 ghost use Rattle.spec_value.specs.Datum.{object as object_of, text as text_value};
 ghost use Rattle.spec_world.specs.World.{object_at};
 ghost use Rattle.spec_world.specs.Permissions.{write_slot};
@@ -7,6 +7,7 @@ ghost use Rattle.spec_moo.specs.Natives.Properties.{are_bits as are_bits_of, set
 ghost use Rattle.moo_value.specs.Answers.{answer_of};
 ghost use Rattle.view.specs.Law.{Goes, Lasts, Tells};
 ghost use Rattle.permissions.specs.Acts.{act_of};
+ghost use Rattle.inherit.specs.Lines.{AreWellFormed};
 ghost use Rattle.builtins_world.specs.Said.{Does};
 ghost use Rattle.builtins_change.specs.Later.{slot_given};
 ghost use Rattle.builtins_change.specs.Listed.{owner_and_bits};
@@ -41,6 +42,7 @@ pub fn set_property_info<V: View>(
     ensures left { IfOk result (λ a. Goes V.holds V.now view.old view.new
         (λ before after. Does (λ s c. set_property_info_row s c (object_of object ∷ text_value name.now ∷ owner_and_bits owner bits.now ∷ []))
         before after programmer (answer_of a))) }
+    ensures well_formed { AreWellFormed V.holds V.now view.old → OnOk result (AreWellFormed V.holds V.now view.new) }
 {
     let Some(slot) = read_slot(view, object, name)? else {
         let error = missing(view, object)?;

@@ -1,0 +1,7 @@
+//! Built-in functions that change an object and all below it (Programmer's Manual, "Operations on Properties").
+//!
+//! Each takes arguments of the right kinds. What it does is right for every world that the view still allows.
+#![tactic(auto)]
+
+mod each;
+pub mod properties;

@@ -6,7 +6,7 @@ ghost use Rattle.moo_code.specs.Paths.{CallsWait, IsFound, IsPlaced};
 ghost use Rattle.moo_code.specs.Rebuilding.{EntriesRebuilt, FramesRebuilt, PiecesComeBack};
 ghost use Rattle.moo_code.specs.Resuming.{FittingCounted, OutersOnly, OutersWait};
 ghost use Rattle.moo_code.specs.Runs.{RunsEnd, RunsStopAsSegments, TasksGoOn, VerbsBegin};
-ghost use Rattle.moo_code.specs.Slots.{CodeNamed, EmptySlots, HandlersNamed, NameHasSlot, NamesOnce, OneSlotForName, OthersHaveNone, SlotIsSet, SlotIsVariable, SlotsStart, VariablesSorted};
+ghost use Rattle.moo_code.specs.Slots.{CodeNamed, EmptySlots, HandlersNamed, NameHasSlot, NamesOnce, OneSlotForName, OthersNamed, OthersSorted, OthersStay, SlotIsSet, SlotIsVariable, SlotsStart, TableIsSplit, VariablesSorted};
 ghost use Rattle.moo_code.specs.Stands.{StepsFollow};
 
 /// One instruction does what some turns of the definition do, for every program: the operands, places and handlers of a
@@ -40,14 +40,18 @@ pub fn lasts()
     ensures falls { StepsFall }
 {}
 
-/// Slots in the order of a list of names stand for a table of variables: reading a slot is looking its name up, writing one
-/// is giving its name the value, other names have none, and slots without values are the empty table. A name has one slot.
+/// Slots in the order of a list of names stand for a table of variables over those that have no slot: reading a slot is
+/// looking its name up, writing one is giving its name the value, other names stay as they are, and slots without values add
+/// nothing. A name has one slot. And each table is that of slots with its values, over what has its other values.
 pub fn slots()
     ensures sorted { VariablesSorted }
     ensures read { SlotIsVariable }
-    ensures others { OthersHaveNone }
+    ensures others { OthersStay }
     ensures written { SlotIsSet }
     ensures empty { EmptySlots }
+    ensures further_sorted { OthersSorted }
+    ensures further_named { OthersNamed }
+    ensures split { TableIsSplit }
     ensures found { NameHasSlot }
     ensures once { OneSlotForName }
 {}

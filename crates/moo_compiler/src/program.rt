@@ -12,9 +12,17 @@ use std::marker::Model;
 use std::sync::Arc;
 
 /// A program: its source tree with its code for each of the two machines, shared by their owners. A clone is a count.
-#[derive(Drop)]
 pub struct Program {
     compiled: Arc<Compiled>,
+}
+
+// Written out, so that letting go of all that a program holds is proved here and not in each crate that lets a program go.
+impl Drop for Program {
+    fn drop(self) {
+        let Program {
+            compiled: _compiled,
+        } = self;
+    }
 }
 
 #[derive(Drop)]

@@ -4,3 +4,4 @@ pub mod Effects
 pub mod Frames
 pub mod Outcomes
 pub mod Performing
+pub mod Variables

@@ -6,6 +6,7 @@ ghost use Rattle.moo_frame.specs.Frames.{kept_of, begun};
 
 use crate::frame::Frame;
 use crate::start::SharedStart;
+use crate::variables::SharedVariables;
 use moo_machine::call::{Call, Start};
 use moo_machine::operands::Operands;
 use moo_machine::verb::State;
@@ -33,6 +34,7 @@ pub fn begin(
         call,
         start,
         program,
+        further: SharedVariables::none(),
         state: State {
             place: 0,
             operands: Operands::new(alloc),

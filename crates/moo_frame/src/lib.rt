@@ -11,3 +11,4 @@ pub mod outers;
 pub mod perform;
 pub mod running;
 pub mod start;
+pub mod variables;

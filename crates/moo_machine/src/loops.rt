@@ -122,8 +122,8 @@ fn bound_a_range(first: &Value, last: &Value) -> bool
 
 #[tactic(auto, using(crate::proofs::Next::next_place, crate::proofs::InSlots::slot_is_given), unfolding(moo_code::specs::Machine::does, moo_code::specs::Performing::performed))]
 impl State {
-    // An error of a `for` or a `fork`: it is raised by the d bit, else the statement is skipped.
-    pub(crate) fn skips(&mut self, call: &Call, end: usize, error: MooError) -> Did
+    /// An error of a `for` or a `fork`: it is raised by the d bit, else the statement is skipped.
+    pub fn skips(&mut self, call: &Call, end: usize, error: MooError) -> Did
         ensures { (a : Around) → fails_of a call.now skipped end (code_of error) self.old ≡ shown a call.now result self.new }
     {
         if call.debug {

@@ -99,7 +99,7 @@ next_less n m = ⊎_elim
     (λ g. le-ltb (suc n) (suc m) (omega arith) ∙ sym (le-ltb n m g))
     (cases_lt n m)
 
-has_is : (names : List Text) (x : Text) → has_name names x ≡ nat_lt (slot_of names x) (length names)
+pub has_is : (names : List Text) (x : Text) → has_name names x ≡ nat_lt (slot_of names x) (length names)
 has_is [] x = refl
 has_is (y ∷ ys) x = go (same_text x y) (has_name ys x) (slot_of ys x) (length ys) (has_is ys x)
   where

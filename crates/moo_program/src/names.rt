@@ -1,6 +1,7 @@
 //! The names of a program's variables, and their slots.
 ghost use Rattle.std.specs.Prelude.{◌≡◌, ℕ, List, [], ◌∷◌, length, map, slice_get, IfSome, IsTrue, OnOk, Some};
 ghost use Rattle.std.specs.Borrow.{Bor};
+ghost use Rattle.spec_world.specs.WellFormed.{has_name};
 ghost use Rattle.moo_code.specs.Names.{with_names, starting_names};
 ghost use Rattle.moo_code.specs.Slots.{slot_of};
 ghost use Rattle.moo_program.specs.Names.{known};
@@ -126,6 +127,38 @@ pub fn count_slots(own: &[Text]) -> usize
     ensures { result ≡ length (known own.now) }
 {
     STARTING_NAMES.len() + own.len()
+}
+
+/// The slot of a variable, where these are the names behind the first ones; or how many slots there are, if it has none.
+#[tactic(auto, using(crate::proofs::Slots::slot_starting, crate::proofs::Slots::slot_own, crate::proofs::Slots::starting_within, crate::proofs::Slots::place_within))]
+pub fn slot_among(own: &[Text], name: &str) -> usize
+    ensures { result ≡ slot_of (known own.now) name.now }
+{
+    let place = starting_place(name);
+    if place < STARTING_NAMES.len() {
+        return place;
+    }
+    place + own_place(own, name)
+}
+
+/// Whether a variable has a slot, where these are the names behind the first ones.
+#[tactic(auto, using(crate::proofs::Slots::has_is))]
+pub fn has_slot_among(own: &[Text], name: &str) -> bool
+    ensures { result ≡ has_name (known own.now) name.now }
+{
+    slot_among(own, name) < count_slots(own)
+}
+
+// The place among a program's own names.
+fn own_place(names: &[Text], name: &str) -> usize
+    ensures { result ≡ slot_of names.now name.now }
+{
+    for (place, known) in names.iter().enumerate() {
+        if name == known.as_str() {
+            return place;
+        }
+    }
+    names.len()
 }
 
 fn is_named(names: &[Text], place: usize, name: &Text) -> bool

@@ -21,11 +21,20 @@ use std::marker::Model;
 use std::sync::Arc;
 
 /// A program: its source tree with its code, shared by their owners, and with them the programs that it forks. A clone is a count.
-#[derive(Drop)]
 pub struct Program {
     compiled: Arc<Compiled>,
     // which of them it is
     place: usize,
+}
+
+// Written out, so that letting go of all that a program holds is proved here and not in each crate that lets a program go.
+impl Drop for Program {
+    fn drop(self) {
+        let Program {
+            compiled: _compiled,
+            place: _,
+        } = self;
+    }
 }
 
 impl Model for Program {

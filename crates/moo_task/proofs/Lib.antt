@@ -1,3 +1,4 @@
+pub mod Further
 pub mod Going
 pub mod Kept
 pub mod Sameness

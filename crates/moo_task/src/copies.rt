@@ -63,6 +63,7 @@ fn copy_frame(alloc: Global, frame: &Frame) -> Result<Frame, AllocError>
         call: copy_call(&frame.call)?,
         start: frame.start.clone()?,
         program: frame.program.clone()?,
+        further: frame.further.clone()?,
         state: State {
             place: state.place,
             operands: copy_operands(alloc, &state.operands)?,
@@ -82,7 +83,8 @@ fn copy_native(alloc: Global, native: &Native) -> Result<Native, AllocError>
     })
 }
 
-fn copy_call(call: &Call) -> Result<Call, AllocError>
+/// A copy of who runs which verb.
+pub fn copy_call(call: &Call) -> Result<Call, AllocError>
     ensures { IfOk result (λ copy. copy ≡ call.now) }
 {
     Ok(Call {

@@ -2,7 +2,7 @@
 //! owners. To contracts a task is the plain task of the definitions, so what it keeps stands for exactly one pending list.
 #![tactic(auto)]
 
-mod copies;
+pub mod copies;
 pub mod laws;
 mod same;
 pub mod task;

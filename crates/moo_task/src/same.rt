@@ -1,17 +1,21 @@
 //! Comparisons of what waits. None takes memory.
-ghost use Rattle.std.specs.Prelude.{◌≡◌, ◌↔◌, map, IsTrue, option_map, slice_get};
-ghost use Rattle.moo_code.specs.Slots.{in_slot};
+ghost use Rattle.std.specs.Prelude.{◌≡◌, ◌↔◌, length, map, IsTrue, option_map};
+ghost use Rattle.moo_program.specs.Names.{known};
 ghost use Rattle.moo_frame.specs.Effects.{waiting_of};
 ghost use Rattle.moo_frame.specs.Frames.{kept_of, native_name_of, native_of, outer_of};
-ghost use Rattle.moo_task.specs.Sameness.{SlotsAgree, StandAlike};
+ghost use Rattle.moo_frame.specs.Variables.{variable_of};
+ghost use Rattle.moo_task.specs.Sameness.{AgreeAt, AgreeOn, FurtherAgree, SlotsAgree, StandAlike};
 
 use moo_frame::effect::Waiting;
-use moo_frame::frame::{Frame, Outer};
+use moo_frame::frame::{Frame, Outer, is_variable_of};
 use moo_frame::native::{Native, NativeName};
 use moo_frame::outers::Outers;
+use moo_frame::variables::{SharedVariables, Variable, value_in};
 use moo_machine::call::{Call, Start};
 use moo_machine::operands::Operands;
+use moo_program::names::has_slot_among;
 use moo_value::compare::equal;
+use moo_value::text::Text;
 use moo_value::value::Value;
 
 /// Whether two tasks wait for the same.
@@ -59,11 +63,13 @@ fn same_outer(a: &Outer, b: &Outer) -> bool
     }
 }
 
-#[tactic(auto, using(crate::proofs::Sameness::frames_same, crate::proofs::Sameness::same_frames, crate::proofs::Sameness::same_frame_slots))]
+#[tactic(auto, using(crate::proofs::Sameness::frames_same, crate::proofs::Sameness::same_frames, crate::proofs::Sameness::same_frame_slots, crate::proofs::Sameness::same_frame_further))]
 fn same_frame(a: &Frame, b: &Frame) -> bool
     ensures { IsTrue result ↔ kept_of a.now ≡ kept_of b.now }
 {
-    stand_alike(a, b) && same_slots(a.names(), &a.state.slots, &b.state.slots)
+    stand_alike(a, b)
+        && same_slots(a.names(), &a.state.slots, &b.state.slots)
+        && same_further(a.program.names(), &a.further, &b.further)
 }
 
 // All but their variables.
@@ -118,15 +124,32 @@ fn same_slots(count: usize, xs: &[Option<Value>], ys: &[Option<Value>]) -> bool
     true
 }
 
-// The value in a slot, which has none where it is not there.
-fn value_in(slots: &[Option<Value>], slot: usize) -> Option<&Value>
-    ensures { option_map (λ v. v.now) result ≡ in_slot (slice_get slots.now slot) }
+// Whether those variables are the same that a program does not name, whose own names these are. Where all are, the time is
+// the product of their count with itself and that of the names.
+#[tactic(auto, using(crate::proofs::Further::further_agree, crate::proofs::Further::agree_on_any))]
+fn same_further(own: &[Text], a: &SharedVariables, b: &SharedVariables) -> bool
+    ensures { IsTrue result ↔ FurtherAgree (known own.now) a.now b.now }
 {
-    if slot < slots.len() {
-        slots[slot].as_ref()
-    } else {
-        None
+    agree_on(own, a.as_slice(), a, b) && agree_on(own, b.as_slice(), a, b)
+}
+
+// Whether the variables of a list have the same values, unless they have slots.
+#[tactic(auto, using(crate::proofs::Further::one_more_agrees, crate::proofs::Further::agrees_there))]
+fn agree_on(own: &[Text], variables: &[Variable], a: &SharedVariables, b: &SharedVariables) -> bool
+    ensures { IsTrue result ↔ AgreeOn (known own.now) a.now b.now (length variables.now) (map variable_of variables.now) }
+{
+    for i in 0..variables.len() {
+        if !agree_at(own, variables[i].name.as_str(), a, b) {
+            return false;
+        }
     }
+    true
+}
+
+fn agree_at(own: &[Text], name: &str, a: &SharedVariables, b: &SharedVariables) -> bool
+    ensures { IsTrue result ↔ AgreeAt (known own.now) a.now b.now name.now }
+{
+    has_slot_among(own, name) || same_value(a.find(name), b.find(name))
 }
 
 fn same_value(a: Option<&Value>, b: Option<&Value>) -> bool

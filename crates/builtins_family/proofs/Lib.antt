@@ -1,1 +1,3 @@
 pub mod OneChange
+pub mod Slots
+pub mod RowsKeep

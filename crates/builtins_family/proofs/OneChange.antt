@@ -16,8 +16,7 @@ use Rattle.spec_view.specs.Questions.{defines_at, apply, new_part, new_defines}
 use Rattle.spec_world.proofs.Trees.{same_or_not, some_same}
 use Rattle.spec_world.proofs.Households.{at_each, each_numbered, change_numbered}
 use Rattle.spec_world.proofs.ObjectChanges.{at_change}
-use Rattle.inherit.specs.Lines.{AreWellFormed}
-use Rattle.view.specs.Law.{Goes, Tells}
+use Rattle.view.specs.Law.{Goes}
 use Rattle.family.specs.Below.{IsFamily}
 use Rattle.family.proofs.Walking.{below_itself}
 use Rattle.builtins_family.specs.InTurn.{in_turn}
@@ -153,18 +152,14 @@ module _ (w : World) (sound : IsWellFormed w) (o : ℤ) (ds : List ℤ) (all : I
 
 -- ---- over a view: the object defines others, and then each is changed
 
-pub family_told : {V A E : Type 0} (holds : V → World → Type 0) (now : V → World → World) (a b c d : V) (r : Result A E) (o : ℤ) (ds : List ℤ) (ts us : List Text) (names : List Text → List Text)
+pub family_told : {V A E : Type 0} (holds : V → World → Type 0) (now : V → World → World) (a b c : V) (r : Result A E) (o : ℤ) (ds : List ℤ) (ts us : List Text) (names : List Text → List Text)
     (f : ℤ → Object → Object) (first : Object → Object) (each : ℤ → Object → Object) → ((d : ℤ) (x : Object) → f d (f d x) ≡ f d x) → ((x : Object) → f o x ≡ first x)
-    → ((d : ℤ) (x : Object) → int_eq d o ≡ false → f d x ≡ each d x) → AreWellFormed holds now a → Tells holds now a b (λ w. IsFamily w o ds) → us ≡ names ts
-    → Goes holds now b c (λ before after. after ≡ apply (new_part o (new_defines us)) before)
-    → OnOk r (Goes holds now c d (λ before after. after ≡ in_turn f ds before))
-    → OnOk r (Goes holds now a d (λ before after. defines_at before o ≡ Some ts → after ≡ family_changed before o names first each))
-family_told holds now a b c d (Err e) o ds ts us names f first each again one other known family so named done = tt
-family_told holds now a b c d (Ok x) o ds ts us names f first each again one other known family so named done = λ w left.
+    → ((d : ℤ) (x : Object) → int_eq d o ≡ false → f d x ≡ each d x) → us ≡ names ts
+    → Goes holds now a b (λ before after. after ≡ apply (new_part o (new_defines us)) before)
+    → OnOk r (Goes holds now b c (λ before after. after ≡ in_turn f ds before))
+    → OnOk r (Goes holds now a c (λ before after. IsWellFormed before → IsFamily before o ds → defines_at before o ≡ Some ts → after ≡ family_changed before o names first each))
+family_told holds now a b c (Err e) o ds ts us names f first each again one other so named done = tt
+family_told holds now a b c (Ok x) o ds ts us names f first each again one other so named done = λ w left.
     let u = done w left in
     let t = named w u.0 in
-    let s = family w t.0 in (
-      s.0,
-      λ is. u.1 ∙ ap (in_turn f ds) (t.1 ∙ ap (apply (new_part o (new_defines us))) s.1.0)
-          ∙ changed_so (now a w) (known w s.0) o ds s.1.1 ts is names f first each again one other us so,
-    )
+    (t.0, λ sound family is. u.1 ∙ ap (in_turn f ds) t.1 ∙ changed_so (now a w) sound o ds family ts is names f first each again one other us so)

@@ -1,2 +1,3 @@
+pub mod Defining
 pub mod InTurn
 pub mod Slots

@@ -12,11 +12,15 @@ use Rattle.spec_view.specs.Questions.{defines_at}
 abbrev pub losing : Text → ℤ → Object → Object
 losing p d x = lose_slot x p
 
--- the object gets that slot, and each other one an heir's
-abbrev pub getting : ℤ → Text → Slot → ℤ → Object → Object
-getting o p s d x = if int_eq d o then with_own_slot x p s else with_own_slot x p (heir_slot x.header.owner s)
+-- the object that defines a property has this slot, and another one with this owner has an heir's
+abbrev pub slot_for : ℤ → Slot → ℤ → ℤ → Slot
+slot_for o s d owner = if int_eq d o then s else heir_slot owner s
 
--- one of these defines a property of the name
+-- each gets its slot
+abbrev pub getting : ℤ → Text → Slot → ℤ → Object → Object
+getting o p s d x = with_own_slot x p (slot_for o s d x.header.owner)
+
+-- whether one of these defines a property of the name
 abbrev pub among_names : Option (List Text) → Text → Bool
 among_names None p = false
 among_names (Some ts) p = has_name (map fold_case ts) (fold_case p)

@@ -1,7 +1,7 @@
 use Rattle.std.proofs.Common.{◌≡◌, drop}
-use Rattle.spec_world.specs.Members.{lose_slot}
 use Rattle.view.specs.Law.{Goes}
 use Rattle.builtins_family.specs.InTurn.{in_turn}
+use Rattle.builtins_family.specs.Slots.{losing}
 use Rattle.builtins_family.proofs.each.lose_slots.Given as goal
 
 abbrev pub invariant-loop-object : goal.invariant-loop-object
@@ -13,5 +13,5 @@ invariant-loop-object g l =
       there : view.holds l.view (view.home l.view);
       left :
           Goes view.holds view.now l.fn.view l.view
-          (λ before after. in_turn (λ x. lose_slot x l.name) (drop l.object-index l.objects) after ≡ in_turn (λ x. lose_slot x l.name) l.objects before);
+          (λ before after. in_turn (losing l.name) (drop l.object-index l.objects) after ≡ in_turn (losing l.name) l.objects before);
     }

@@ -1,6 +1,7 @@
 //! Properties that go (Programmer's Manual, `delete_property()`).
 ghost use Rattle.std.specs.Prelude.{◌≡◌, [], ◌∷◌, filter, not, Some, IfOk, OnOk};
 ghost use Rattle.spec_value.specs.Datum.{object as object_of, text as text_value, fold_case, same_text};
+ghost use Rattle.spec_world.specs.WellFormed.{IsWellFormed};
 ghost use Rattle.spec_world.specs.Members.{property_deleted};
 ghost use Rattle.spec_view.specs.Questions.{defines_at};
 ghost use Rattle.spec_moo.specs.Natives.Properties.{delete_property_row};
@@ -8,6 +9,7 @@ ghost use Rattle.moo_value.specs.Answers.{answer_of};
 ghost use Rattle.inherit.specs.Lines.{AreWellFormed};
 ghost use Rattle.view.specs.Law.{Goes, Lasts};
 ghost use Rattle.builtins_world.specs.Said.{Does};
+ghost use Rattle.family.specs.Below.{IsFamily};
 
 use crate::each::lose_slots;
 use builtins_world::properties::has_name;
@@ -39,6 +41,23 @@ pub fn delete_property<V: View>(
     ensures lasts { Lasts V.holds V.home V.anchor view.old view.new result }
     ensures left { IfOk result (λ a. Goes V.holds V.now view.old view.new
         (λ before after. Does (λ s c. delete_property_row s c (object_of object ∷ text_value name.now ∷ [])) before after programmer (answer_of a))) }
+    ensures well_formed { OnOk result (AreWellFormed V.holds V.now view.new) }
+{
+    delete(alloc, view, programmer, object, name)
+}
+
+fn delete<V: View>(
+    alloc: Global,
+    view: &mut V,
+    programmer: i32,
+    object: i32,
+    name: &Text,
+) -> Result<Answer, AllocError>
+    requires home { V.holds view.old (V.home view.old) }
+    requires well_formed { AreWellFormed V.holds V.now view.old }
+    ensures lasts { Lasts V.holds V.home V.anchor view.old view.new result }
+    ensures left { IfOk result (λ a. Goes V.holds V.now view.old view.new
+        (λ before after. Does (λ s c. delete_property_row s c (object_of object ∷ text_value name.now ∷ [])) before after programmer (answer_of a))) }
 {
     let Some(names) = read_defines(view, object)? else {
         return Ok(Err(MooError::InvalidArgument));
@@ -50,28 +69,28 @@ pub fn delete_property<V: View>(
     if !allowed {
         return Ok(Err(MooError::PermissionDenied));
     }
-    take_out(alloc, view, object, names.as_slice(), name)?;
+    let family = below(alloc, view, object)?;
+    take_out(alloc, view, object, names.as_slice(), family.as_slice(), name)?;
     Ok(Ok(Value::integer(0)))
 }
 
-// A property that an object with these ones defines goes from it, and from each object below.
+// A property goes from an object that defines these ones, and from those below it, which are these.
 fn take_out<V: View>(
     alloc: Global,
     view: &mut V,
     object: i32,
     names: &[Text],
+    family: &[i32],
     name: &Text,
 ) -> Result<(), AllocError>
     requires home { V.holds view.old (V.home view.old) }
-    requires well_formed { AreWellFormed V.holds V.now view.old }
     ensures lasts { Lasts V.holds V.home V.anchor view.old view.new result }
-    ensures left { OnOk result (Goes V.holds V.now view.old view.new
-        (λ before after. defines_at before object ≡ Some names.now → after ≡ property_deleted before object name.now)) }
+    ensures left { OnOk result (Goes V.holds V.now view.old view.new (λ before after.
+        IsWellFormed before → IsFamily before object family.now → defines_at before object ≡ Some names.now → after ≡ property_deleted before object name.now)) }
 {
-    let family = below(alloc, view, object)?;
     let others = without(alloc, names, name)?;
     write_part(view, object, Part::Defines(others))?;
-    lose_slots(view, family.as_slice(), name)
+    lose_slots(view, family, name)
 }
 
 // Names but for one. Case is ignored.

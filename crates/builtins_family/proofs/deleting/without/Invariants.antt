@@ -1,6 +1,6 @@
 use Rattle.std.proofs.Common.{◌≡◌, ◌++◌, drop, filter, not}
 use Rattle.spec_value.specs.Datum.{fold_case, same_text}
-use Rattle.builtins_family.proofs.properties.without.Given as goal
+use Rattle.builtins_family.proofs.deleting.without.Given as goal
 
 abbrev pub invariant-loop-other : goal.invariant-loop-other
 invariant-loop-other l =

@@ -1,3 +1,4 @@
 pub mod OneChange
 pub mod Slots
+pub mod Chains
 pub mod RowsKeep

@@ -154,12 +154,14 @@ fn definable<V: View>(
 {
     let family = below(alloc, view, object)?;
     let is_new = is_new_name(view, object, family.as_slice(), name)?;
-    let is_fit = fits(view, owner, bits)?;
-    if is_new && is_fit {
-        Ok(Some(family))
-    } else {
-        Ok(None)
+    if !is_new {
+        return Ok(None);
     }
+    let is_fit = fits(view, owner, bits)?;
+    if !is_fit {
+        return Ok(None);
+    }
+    Ok(Some(family))
 }
 
 // An object that defines these properties, with these below it, defines one more.

@@ -62,7 +62,8 @@ fn delete<V: View>(
     let Some(names) = read_defines(view, object)? else {
         return Ok(Err(MooError::InvalidArgument));
     };
-    if !has_name(names.as_slice(), name) {
+    let named = has_name(names.as_slice(), name);
+    if !named {
         return Ok(Err(MooError::PropertyNotFound));
     }
     let allowed = may(view, programmer, &Act::ChangeMembers(object))?;

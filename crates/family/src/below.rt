@@ -1,5 +1,5 @@
 //! The objects below one, from parents to children.
-ghost use Rattle.std.specs.Prelude.{◌≡◌, ◌++◌, is_some, IfOk, OnOk, IsTrue};
+ghost use Rattle.std.specs.Prelude.{◌≡◌, ◌<◌, ◌++◌, pos, length, get_or, is_some, IfOk, OnOk, IsTrue};
 ghost use Rattle.spec_world.specs.World.{World, object_at};
 ghost use Rattle.spec_view.specs.Questions.{children_at};
 ghost use Rattle.view.specs.Law.{Lasts, Tells};
@@ -23,7 +23,8 @@ pub fn below<V: View>(alloc: Global, view: &mut V, object: i32) -> Result<Vec<i3
 {
     let header = read_header(view, object)?;
     if header.is_none() {
-        return Ok(Vec::new(alloc));
+        let nobody = Vec::new(alloc);
+        return Ok(nobody);
     }
     walk(alloc, view, object)
 }
@@ -43,17 +44,23 @@ fn walk<V: View>(alloc: Global, view: &mut V, object: i32) -> Result<Vec<i32>, A
         if done >= count {
             return Ok(family);
         }
-        let at = family[done];
-        add_children(view, at, &mut family)?;
+        add_children(view, &mut family, done)?;
     }
     Err(AllocError)
 }
 
-// The children of an object are put behind others.
-fn add_children<V: View>(view: &mut V, object: i32, family: &mut Vec<i32>) -> Result<(), AllocError>
+// The children of the one in a place are put behind all.
+fn add_children<V: View>(
+    view: &mut V,
+    family: &mut Vec<i32>,
+    place: usize,
+) -> Result<(), AllocError>
+    requires { place < length family.old.items }
     ensures lasts { Lasts V.holds V.home V.anchor view.old view.new result }
-    ensures left { OnOk result (Tells V.holds V.now view.old view.new (λ w. family.new.items ≡ family.old.items ++ among (children_at w object))) }
+    ensures left { OnOk result (Tells V.holds V.now view.old view.new
+        (λ w. family.new.items ≡ family.old.items ++ among (children_at w (get_or family.old.items place (pos 0))))) }
 {
+    let object = family[place];
     let children = read_children(view, object)?;
     if let Some(children) = children {
         push_all(family, children.as_slice())?;

@@ -11,9 +11,10 @@ use Rattle.family.proofs.below.below.Goals as goal
 
 pub returns-then-is_none-clause-left : goal.returns-then-is_none-clause-left
 returns-then-is_none-clause-left g c =
-    told_as g.V.View.holds g.V.View.now c.args.view.now c.read_header.new.view (λ w. header_at w c.args.object ≡ c.in_ok-header.header) (λ w. IsFamily w c.args.object [])
+    subst (λ ds. Tells g.V.View.holds g.V.View.now c.args.view.now c.read_header.new.view (λ w. IsFamily w c.args.object ds)) (sym c.new-nobody.ensures.items)
+    (told_as g.V.View.holds g.V.View.now c.args.view.now c.read_header.new.view (λ w. header_at w c.args.object ≡ c.in_ok-header.header) (λ w. IsFamily w c.args.object [])
     c.requires.well_formed (rw (to_z-of_z w32 c.args.object c.ranges.object) at c.in_ok-header.ensures.left)
-    (λ w sound is. no_family w sound c.args.object c.in_ok-header.header is (ap not (c.is_none.ensures ∙ ap not c.if-is_none.true)))
+    (λ w sound is. no_family w sound c.args.object c.in_ok-header.header is (ap not (c.is_none.ensures ∙ ap not c.if-is_none.true))))
 
 pub walk-requires-clause-well_formed : goal.walk-requires-clause-well_formed
 walk-requires-clause-well_formed g c =

@@ -1,4 +1,4 @@
-use Rattle.std.proofs.Common.{◌≡◌, ◌+◌, ◌++◌, get_or, pos, refl, sym, ◌∙◌, subst, rules, arith, w32, to_z, of_z}
+use Rattle.std.proofs.Common.{◌≡◌, ◌+◌, ◌++◌, [], ◌∷◌, get_or, pos, refl, sym, ap, ◌∙◌, subst, arith, w32}
 use Rattle.std.proofs.lemmas.Int.{to_z-of_z}
 use Rattle.spec_view.specs.Questions.{children_at}
 use Rattle.inherit.proofs.Tellings.{known_on, told_as, told_before, told_on}
@@ -16,17 +16,18 @@ loop-done-init g c =
       well_formed = c.requires.well_formed;
       left =
           told_before g.V.View.holds g.V.View.now c.args.view.now (λ w. Walked w c.args.object 0 c.push.new.self.items)
-          (λ w is. subst (Walked (g.V.View.now c.args.view.now w) c.args.object 0) (sym (rw object at c.in_ok-push.ensures.items)) (walk_begins (g.V.View.now c.args.view.now w) (c.requires.well_formed w is) c.args.object (c.requires.there w is)));
+          (λ w is. subst (Walked (g.V.View.now c.args.view.now w) c.args.object 0) (sym ((rw object at c.in_ok-push.ensures.items) ∙ ap (λ xs. xs ++ c.args.object ∷ []) c.new-family.ensures.items)) (walk_begins (g.V.View.now c.args.view.now w) (c.requires.well_formed w is) c.args.object (c.requires.there w is)));
     }
 
 pub returns-then-done-count-clause-left : goal.returns-then-done-count-clause-left
 returns-then-done-count-clause-left g c =
+    let object = to_z-of_z w32 c.args.object c.ranges.object in
     told_as g.V.View.holds g.V.View.now c.args.view.now c.loop-done.view (λ w. Walked w c.args.object c.loop-done.done c.loop-done.family.items) (λ w. IsFamily w c.args.object c.loop-done.family.items)
-    c.requires.well_formed c.loop-done.invariant.left (λ w sound so. walk_ends w sound c.args.object c.loop-done.done c.loop-done.family.items (omega (arith, c.if-done-count.true)) so)
+    c.requires.well_formed (rw object at c.loop-done.invariant.left) (λ w sound so. walk_ends w sound c.args.object c.loop-done.done c.loop-done.family.items (omega (arith, c.if-done-count.true)) so)
 
 pub loop-done-preserved : goal.loop-done-preserved
 loop-done-preserved g c =
-    let item : to_z w32 (of_z w32 (get_or c.loop-done.family.items c.loop-done.done (pos 0))) ≡ get_or c.loop-done.family.items c.loop-done.done (pos 0) = search rules in
+    let object = to_z-of_z w32 c.args.object c.ranges.object in
     record {
       anchor = c.in_ok-add_children.ensures.lasts.anchor_stays ∙ c.loop-done.invariant.anchor;
       home = c.in_ok-add_children.ensures.lasts.home_stays ∙ c.loop-done.invariant.home;
@@ -34,12 +35,12 @@ loop-done-preserved g c =
       well_formed =
           known_on g.V.View.holds g.V.View.now c.loop-done.view c.add_children.new.view
           (λ w. c.add_children.new.family.items ≡ c.loop-done.family.items ++ among (children_at w (get_or c.loop-done.family.items c.loop-done.done (pos 0)))) c.loop-done.invariant.well_formed
-          (rw item at c.in_ok-add_children.ensures.left);
+          c.in_ok-add_children.ensures.left;
       left =
           told_on g.V.View.holds g.V.View.now c.args.view.now c.loop-done.view c.add_children.new.view (λ w. Walked w c.args.object c.loop-done.done c.loop-done.family.items)
           (λ w. c.add_children.new.family.items ≡ c.loop-done.family.items ++ among (children_at w (get_or c.loop-done.family.items c.loop-done.done (pos 0))))
           (λ w. Walked w c.args.object (c.loop-done.done + 1) c.add_children.new.family.items)
-          c.requires.well_formed c.loop-done.invariant.left (rw item at c.in_ok-add_children.ensures.left)
+          c.requires.well_formed (rw object at c.loop-done.invariant.left) c.in_ok-add_children.ensures.left
           (λ w sound so grown. walk_goes_on w sound c.args.object c.loop-done.done c.loop-done.family.items c.add_children.new.family.items (get_or c.loop-done.family.items c.loop-done.done (pos 0))
           (omega (arith, c.if-done-count.false)) refl so grown);
     }

@@ -93,8 +93,8 @@ fn give_slot<V: View>(
     Ok(Ok(Value::integer(0)))
 }
 
-// Whether the bits are those of slots, and the owner is there.
-fn fits<V: View>(view: &mut V, owner: i32, bits: &Text) -> Result<bool, AllocError>
+/// Whether the bits are those of slots, and the owner is there.
+pub fn fits<V: View>(view: &mut V, owner: i32, bits: &Text) -> Result<bool, AllocError>
     requires home { V.holds view.old (V.home view.old) }
     ensures lasts { Lasts V.holds V.home V.anchor view.old view.new result }
     ensures left { IfOk result (λ b. Tells V.holds V.now view.old view.new (λ w. (are_bits_of (codes "rwc") bits.now && is_some (object_at w owner)) ≡ b)) }
@@ -111,8 +111,8 @@ fn owner_of(slot: &Slot) -> i32
     slot.owner
 }
 
-// A slot with another owner and other bits.
-fn with_bits(slot: Slot, owner: i32, bits: &[u8]) -> Slot
+/// A slot with another owner and other bits.
+pub fn with_bits(slot: Slot, owner: i32, bits: &[u8]) -> Slot
     ensures { result ≡ with_slot_bits slot owner bits.now }
 {
     Slot {

@@ -248,7 +248,6 @@ fn add_owned<V: View>(
 
 /// `delete_verb`. `E_INVARG` where the object is not there, `E_VERBNF` where it has no such verb, `E_PERM` where the programmer
 /// may not take from it.
-#[tactic(auto, using(crate::proofs::Changes::within))]
 pub fn delete_verb<V: View>(
     alloc: Global,
     view: &mut V,
@@ -262,6 +261,23 @@ pub fn delete_verb<V: View>(
         (λ before after. Does (λ s c. delete_verb_row s c (object_of object ∷ which.now ∷ []))
         before after programmer (answer_of a))) }
     ensures well_formed { AreWellFormed V.holds V.now view.old → OnOk result (AreWellFormed V.holds V.now view.new) }
+{
+    delete(alloc, view, programmer, object, which)
+}
+
+#[tactic(auto, using(crate::proofs::Changes::within))]
+fn delete<V: View>(
+    alloc: Global,
+    view: &mut V,
+    programmer: i32,
+    object: i32,
+    which: &Value,
+) -> Result<Answer, AllocError>
+    requires home { V.holds view.old (V.home view.old) }
+    ensures lasts { Lasts V.holds V.home V.anchor view.old view.new result }
+    ensures left { IfOk result (λ a. Goes V.holds V.now view.old view.new
+        (λ before after. Does (λ s c. delete_verb_row s c (object_of object ∷ which.now ∷ []))
+        before after programmer (answer_of a))) }
 {
     let Some(verbs) = read_verbs(view, object)? else {
         return Ok(Err(MooError::InvalidArgument));

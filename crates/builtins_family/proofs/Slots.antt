@@ -169,7 +169,7 @@ module _ {V A E : Type 0} (holds : V → World → Type 0) (now : V → World �
 
   pub deleted_told : (r : Result A E) (o : ℤ) (ds : List ℤ) (ts : List Text) (p : Text)
       → OnOk r (Goes holds now old new (λ before after. IsWellFormed before → IsFamily before o ds → defines_at before o ≡ Some ts
-          → after ≡ family_changed before o (filter (λ q. not (same_text (fold_case p) (fold_case q)))) (losing p o) (losing p)))
+      → after ≡ family_changed before o (filter (λ q. not (same_text (fold_case p) (fold_case q)))) (losing p o) (losing p)))
       → OnOk r (Goes holds now old new (λ before after. IsWellFormed before → IsFamily before o ds → defines_at before o ≡ Some ts → after ≡ property_deleted before o p))
   deleted_told r o ds ts p told = as_meant r o ds ts _ (λ w. property_deleted w o p) (λ w. deleted_is w o p) told
 

@@ -71,7 +71,14 @@ fn delete<V: View>(
         return Ok(Err(MooError::PermissionDenied));
     }
     let family = below(alloc, view, object)?;
-    take_out(alloc, view, object, names.as_slice(), family.as_slice(), name)?;
+    take_out(
+        alloc,
+        view,
+        object,
+        names.as_slice(),
+        family.as_slice(),
+        name,
+    )?;
     Ok(Ok(Value::integer(0)))
 }
 

@@ -82,10 +82,14 @@ does_well row w u who a keeps does h =
     subst IsWellFormed (ap world_left (does (some_scene w) some_caller)) (keeps (in_world (some_scene w) w) (with_programmer some_caller who) h)
 
 -- the worlds that a view allows after a call of that row
+pub goes_well : {V : Type 0} (holds : V → World → Type 0) (now : V → World → World) (old new : V) (row : Scene → Caller → NativeEffect) (who : ℤ) (a : Answer)
+    → Keeping row → Goes holds now old new (λ before after. Does row before after who a) → AreWellFormed holds now old → AreWellFormed holds now new
+goes_well holds now old new row who a keeps told known w left = let t = told w left in does_well row (now old w) (now new w) who a keeps t.1 (known w t.0)
+
 pub leaves_well : {V E : Type 0} (holds : V → World → Type 0) (now : V → World → World) (old new : V) (row : Scene → Caller → NativeEffect) (who : ℤ) (r : Result (Result Datum MooError) E)
     → Keeping row → IfOk r (λ a. Goes holds now old new (λ before after. Does row before after who (answer_of a))) → AreWellFormed holds now old → OnOk r (AreWellFormed holds now new)
 leaves_well holds now old new row who (Err e) keeps told known = tt
-leaves_well holds now old new row who (Ok a) keeps told known = λ w left. let t = told w left in does_well row (now old w) (now new w) who (answer_of a) keeps t.1 (known w t.0)
+leaves_well holds now old new row who (Ok a) keeps told known = goes_well holds now old new row who (answer_of a) keeps told known
 
 -- ---- `clear_property`
 

@@ -1,7 +1,7 @@
 -- Calls whose checks have passed, and what is left of them.
 use Rattle.std.proofs.Common.{◌≡◌, ℤ, Bool, true, false, not, ◌&&◌, List, [], ◌∷◌, map, is_none, is_some, Option, Some, None, refl, sym, ap, ◌∙◌, subst, if◌then◌else◌}
 use Rattle.std.specs.Prelude.{option_map, codes}
-use Rattle.spec_value.specs.Datum.{Text, object, text, fold_case, invalid_argument, property_not_found, permission_denied}
+use Rattle.spec_value.specs.Datum.{Datum, Text, object, text, fold_case, invalid_argument, property_not_found, permission_denied}
 use Rattle.spec_value.specs.Answer.{gives}
 use Rattle.spec_world.specs.World.{World, Object, Slot, object_at}
 use Rattle.spec_world.specs.Inherit.{slot_at}
@@ -73,12 +73,12 @@ is_deleted s k o p ts is named allowed =
     found None e = cc
     found (Some x) e = ap (λ us. if has_name (map fold_case us) (fold_case p) then whole else refuses s property_not_found) (some_same e) ∙ ap (λ z. if z then whole else refuses s property_not_found) named
 
-pub deleted_does : {V : Type 0} (holds : V → World → Type 0) (now : V → World → World) (a b c d e : V) (o : ℤ) (p : Text) (ts : List Text) (ds : List ℤ) (who : ℤ)
-    → AreWellFormed holds now a → Tells holds now a b (λ w. defines_at w o ≡ Some ts) → has_name (map fold_case ts) (fold_case p) ≡ true
+pub deleted_does : {V : Type 0} (holds : V → World → Type 0) (now : V → World → World) (a b c d e : V) (o : ℤ) (p : Text) (ts : List Text) (ds : List ℤ) (who : ℤ) (v : Datum)
+    → v ≡ zero_value → AreWellFormed holds now a → Tells holds now a b (λ w. defines_at w o ≡ Some ts) → has_name (map fold_case ts) (fold_case p) ≡ true
     → Tells holds now b c (λ w. may w who (change_members o) ≡ true) → Tells holds now c d (λ w. IsFamily w o ds)
     → Goes holds now d e (λ before after. IsWellFormed before → IsFamily before o ds → defines_at before o ≡ Some ts → after ≡ property_deleted before o p)
-    → Goes holds now a e (λ before after. Does (λ s k. delete_property_row s k (object o ∷ text p ∷ [])) before after who (gives zero_value))
-deleted_does holds now a b c d e o p ts ds who known first named second third done w left =
+    → Goes holds now a e (λ before after. Does (λ s k. delete_property_row s k (object o ∷ text p ∷ [])) before after who (gives v))
+deleted_does holds now a b c d e o p ts ds who v zero known first named second third done w left =
     let u = done w left in
     let t = third w u.0 in
     let s = second w t.0 in
@@ -90,5 +90,5 @@ deleted_does holds now a b c d e o p ts ds who known first named second third do
     let changed : property_deleted (now a w) o p ≡ now e w = sym (after ∙ ap (λ v. property_deleted v o p) same) in (
       r.0,
       λ sc k. is_deleted (in_world sc (now a w)) (with_programmer k who) o p ts r.1.1 named (subst (λ v. may v who (change_members o) ≡ true) r.1.0 s.1.1)
-          ∙ ap (λ v. answers (in_world sc v) (gives zero_value)) changed,
+          ∙ (λ i. answers (in_world sc (changed i)) (gives (sym zero i))),
     )

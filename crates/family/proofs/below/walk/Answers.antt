@@ -15,8 +15,9 @@ loop-done-init g c =
       there = c.requires.home;
       well_formed = c.requires.well_formed;
       left =
-          told_before g.V.View.holds g.V.View.now c.args.view.now (λ w. Walked w c.args.object 0 c.push.new.self.items)
-          (λ w is. subst (Walked (g.V.View.now c.args.view.now w) c.args.object 0) (sym ((rw object at c.in_ok-push.ensures.items) ∙ ap (λ xs. xs ++ c.args.object ∷ []) c.new-family.ensures.items)) (walk_begins (g.V.View.now c.args.view.now w) (c.requires.well_formed w is) c.args.object (c.requires.there w is)));
+          rw object
+          (told_before g.V.View.holds g.V.View.now c.args.view.now (λ w. Walked w c.args.object 0 c.push.new.self.items)
+          (λ w is. subst (Walked (g.V.View.now c.args.view.now w) c.args.object 0) (sym ((rw object at c.in_ok-push.ensures.items) ∙ ap (λ xs. xs ++ c.args.object ∷ []) c.new-family.ensures.items)) (walk_begins (g.V.View.now c.args.view.now w) (c.requires.well_formed w is) c.args.object (c.requires.there w is))));
     }
 
 pub returns-then-done-count-clause-left : goal.returns-then-done-count-clause-left
@@ -37,10 +38,11 @@ loop-done-preserved g c =
           (λ w. c.add_children.new.family.items ≡ c.loop-done.family.items ++ among (children_at w (get_or c.loop-done.family.items c.loop-done.done (pos 0)))) c.loop-done.invariant.well_formed
           c.in_ok-add_children.ensures.left;
       left =
-          told_on g.V.View.holds g.V.View.now c.args.view.now c.loop-done.view c.add_children.new.view (λ w. Walked w c.args.object c.loop-done.done c.loop-done.family.items)
+          rw object
+          (told_on g.V.View.holds g.V.View.now c.args.view.now c.loop-done.view c.add_children.new.view (λ w. Walked w c.args.object c.loop-done.done c.loop-done.family.items)
           (λ w. c.add_children.new.family.items ≡ c.loop-done.family.items ++ among (children_at w (get_or c.loop-done.family.items c.loop-done.done (pos 0))))
           (λ w. Walked w c.args.object (c.loop-done.done + 1) c.add_children.new.family.items)
           c.requires.well_formed (rw object at c.loop-done.invariant.left) c.in_ok-add_children.ensures.left
           (λ w sound so grown. walk_goes_on w sound c.args.object c.loop-done.done c.loop-done.family.items c.add_children.new.family.items (get_or c.loop-done.family.items c.loop-done.done (pos 0))
-          (omega (arith, c.if-done-count.false)) refl so grown);
+          (omega (arith, c.if-done-count.false)) refl so grown));
     }

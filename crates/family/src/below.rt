@@ -10,8 +10,8 @@ use std::alloc::{AllocError, Global};
 use view::law::View;
 use view::readers::{read_children, read_header};
 
-// Objects have numbers from 0 to 999,999.
-const MOST_OBJECTS: usize = 1_000_000;
+// One more than there can be objects, which have numbers from 0 to 999,999.
+const MOST_ROUNDS: usize = 1_000_001;
 
 /// An object and all that are below it, each behind its parent: none where it is not there. `Err(AllocError)` after more than a
 /// million, which no world has.
@@ -39,7 +39,7 @@ fn walk<V: View>(alloc: Global, view: &mut V, object: i32) -> Result<Vec<i32>, A
 {
     let mut family = Vec::new(alloc);
     family.push(object)?;
-    for done in 0..MOST_OBJECTS {
+    for done in 0..MOST_ROUNDS {
         let count = family.len();
         if done >= count {
             return Ok(family);

@@ -1,38 +1,23 @@
 -- A world in which a property was written is as well formed as it was.
-use Rattle.std.proofs.Common.{◌≡◌, ℤ, Bool, true, false, Result, Ok, Err, OnOk, Option, Some, None, refl, sym, ap, ◌∙◌, subst, IsTrue, is_some, if◌then◌else◌}
+use Rattle.std.proofs.Common.{◌≡◌, ℤ, Bool, true, false, Result, Ok, Err, OnOk, Option, Some, None, refl, sym, ap, subst, IsTrue, is_some, if◌then◌else◌}
 use Rattle.std.specs.Prelude.{IfOk}
 use Rattle.spec_value.specs.Datum.{Datum, Text, integer, object, text, error, list, is_true, ErrorCode, permission_denied}
-use Rattle.spec_value.specs.Table.{at}
 use Rattle.spec_world.specs.World.{World, Object, Slot, object_at, with_object}
 use Rattle.spec_world.specs.Inherit.{slot_at, with_slot}
-use Rattle.spec_world.specs.Agreeing.{ObjectsAgree}
 use Rattle.spec_world.specs.WellFormed.{IsWellFormed}
 use Rattle.spec_world.specs.Permissions as act
 use Rattle.spec_world.specs.Permissions.{may}
-use Rattle.spec_world.specs.Families.{change_at, change_object}
+use Rattle.spec_world.specs.Families.{change_at}
 use Rattle.spec_world.specs.ObjectLaws.{SameRelations}
-use Rattle.spec_world.proofs.ObjectsKept.{attributes_keep, content_keeps}
-use Rattle.spec_world.proofs.WorldsKept.{Rest, PlayersStay, change_rest, change_players, slot_rest, slot_players, objects_changed, agrees_of, well_formed_agrees, agrees_is_well_formed}
 use Rattle.spec_moo.specs.Properties.{BuiltInProperty, own_name, own_owner, own_location, own_contents, programmer_flag, wizard_flag, r_bit, w_bit, f_bit, built_in, with_built_in, Written, wrote, refused, write_built_in, write_slot, write_valid, write_object, write, writing}
 use Rattle.moo_value.specs.declared.error.MooError.{MooError}
 use Rattle.view.specs.Law.{Goes}
 use Rattle.inherit.specs.Lines.{AreWellFormed}
+use Rattle.inherit.proofs.Keeping.{changed_so, slot_so}
 use Rattle.access.specs.Writing.{IsWritten}
 
--- where no task, no link and no player goes
-stays_so : (w u : World) → IsWellFormed w → ObjectsAgree u → Rest w u → PlayersStay w u → IsWellFormed u
-stays_so w u h objects rest players =
-    let parts = well_formed_agrees w h in
-    agrees_is_well_formed u (objects_changed w u parts.0 objects rest (λ c k e. players k.person)) (λ i t e. parts.1 i t (ap (λ ts. at ts i) (sym rest.tasks) ∙ e))
-
-changed_so : (w : World) (o : ℤ) (f : Object → Object) → IsWellFormed w → ((x : Object) → SameRelations x (f x)) → ((x : Object) → (f x).header.is_player ≡ x.header.is_player)
-    → IsWellFormed (change_object w o f)
-changed_so w o f h same player =
-    stays_so w (change_object w o f) h (attributes_keep w o f (agrees_of w h).objects same) (change_rest w o f) (change_players w o f player)
-
 filled_so : (w : World) (o : ℤ) (p : Text) (t u : Slot) → IsWellFormed w → slot_at w o p ≡ Some t → IsTrue (is_some u.content) → IsWellFormed (with_slot w o p u)
-filled_so w o p t u h found full =
-    stays_so w (with_slot w o p u) h (content_keeps w o p t u (agrees_of w h).objects found (λ x is defined. full)) (slot_rest w o p u) (slot_players w o p u)
+filled_so w o p t u h found full = slot_so w o p t u h found (λ x is defined. full)
 
 abbrev Keeps : Written → Type 0
 Keeps (wrote u) = IsWellFormed u

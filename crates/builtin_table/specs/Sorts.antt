@@ -1,5 +1,5 @@
 -- Kinds of arguments.
-use Rattle.std.specs.Prelude.{Bool, true, false, ◌&&◌, List, [], ◌∷◌}
+use Rattle.std.specs.Prelude.{◌+◌, ◌≤◌, Bool, true, false, ◌&&◌, List, [], ◌∷◌, length, IsTrue}
 use Rattle.spec_value.specs.Datum.{Datum, object, text}
 use Rattle.spec_moo.specs.Natives.Rows as rows
 use Rattle.builtin_table.specs.declared.sort.Sort.{Sort}
@@ -49,3 +49,10 @@ object_and_text (v ∷ vs) = is_object v && one_text vs
 abbrev pub object_and_texts : List Datum → Bool
 object_and_texts [] = false
 object_and_texts (v ∷ vs) = is_object v && two_texts vs
+
+-- ---- arguments: as many as are wanted, and at most those that are taken besides, each of its sort
+
+pub record Fit (wanted further : List rows.Sort) (args : List Datum) : Type 0 where
+  pub fewest : length wanted ≤ length args
+  pub most : length args ≤ length wanted + length further
+  pub kinds : IsTrue (rows.all_fit wanted further args)

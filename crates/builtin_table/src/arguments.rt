@@ -1,8 +1,8 @@
 //! The arguments of a call.
-ghost use Rattle.std.specs.Prelude.{◌≡◌, [], map};
+ghost use Rattle.std.specs.Prelude.{◌≡◌, [], map, OnOk};
 ghost use Rattle.spec_moo.specs.Natives.Rows.{all_fit};
-ghost use Rattle.builtin_table.specs.Functions.{AreChecked};
-ghost use Rattle.builtin_table.specs.Sorts.{sort_of};
+ghost use Rattle.builtin_table.specs.Functions.{AreChecked, row_of_function};
+ghost use Rattle.builtin_table.specs.Sorts.{Fit, sort_of};
 
 use crate::sort::Sort;
 use crate::world_function::WorldFunction;
@@ -13,7 +13,8 @@ use moo_value::value::Value;
 impl WorldFunction {
     /// Whether it takes these arguments: `E_ARGS` for a wrong count, then `E_TYPE` for wrong kinds.
     pub fn check(self, arguments: &[Value]) -> Result<(), MooError>
-        ensures { AreChecked self arguments.now result }
+        ensures said { AreChecked self arguments.now result }
+        ensures fit { OnOk result (Fit (row_of_function self).wanted (row_of_function self).further arguments.now) }
     {
         let sorts = self.sorts();
         if arguments.len() < self.wanted() || arguments.len() > sorts.len() {

@@ -1,5 +1,5 @@
 //! Properties that are changed (Programmer's Manual, "Operations on Properties").
-ghost use Rattle.std.specs.Prelude.{◌≡◌, ◌&&◌, [], ◌∷◌, is_some, codes, IfOk};
+ghost use Rattle.std.specs.Prelude.{◌≡◌, ◌&&◌, [], ◌∷◌, is_some, codes, IfOk, OnOk};
 ghost use Rattle.spec_value.specs.Datum.{object as object_of, text as text_value};
 ghost use Rattle.spec_world.specs.World.{object_at};
 ghost use Rattle.spec_world.specs.Permissions.{write_slot};
@@ -7,6 +7,7 @@ ghost use Rattle.spec_moo.specs.Natives.Properties.{are_bits as are_bits_of, set
 ghost use Rattle.moo_value.specs.Answers.{answer_of};
 ghost use Rattle.view.specs.Law.{Goes, Lasts, Tells};
 ghost use Rattle.permissions.specs.Acts.{act_of};
+ghost use Rattle.inherit.specs.Lines.{AreWellFormed};
 ghost use Rattle.builtins_world.specs.Said.{Does};
 ghost use Rattle.builtins_change.specs.Later.{slot_given};
 ghost use Rattle.builtins_change.specs.Listed.{owner_and_bits};
@@ -41,6 +42,7 @@ pub fn set_property_info<V: View>(
     ensures left { IfOk result (λ a. Goes V.holds V.now view.old view.new
         (λ before after. Does (λ s c. set_property_info_row s c (object_of object ∷ text_value name.now ∷ owner_and_bits owner bits.now ∷ []))
         before after programmer (answer_of a))) }
+    ensures well_formed { AreWellFormed V.holds V.now view.old → OnOk result (AreWellFormed V.holds V.now view.new) }
 {
     let Some(slot) = read_slot(view, object, name)? else {
         let error = missing(view, object)?;
@@ -91,8 +93,8 @@ fn give_slot<V: View>(
     Ok(Ok(Value::integer(0)))
 }
 
-// Whether the bits are those of slots, and the owner is there.
-fn fits<V: View>(view: &mut V, owner: i32, bits: &Text) -> Result<bool, AllocError>
+/// Whether the bits are those of slots, and the owner is there.
+pub fn fits<V: View>(view: &mut V, owner: i32, bits: &Text) -> Result<bool, AllocError>
     requires home { V.holds view.old (V.home view.old) }
     ensures lasts { Lasts V.holds V.home V.anchor view.old view.new result }
     ensures left { IfOk result (λ b. Tells V.holds V.now view.old view.new (λ w. (are_bits_of (codes "rwc") bits.now && is_some (object_at w owner)) ≡ b)) }
@@ -109,8 +111,8 @@ fn owner_of(slot: &Slot) -> i32
     slot.owner
 }
 
-// A slot with another owner and other bits.
-fn with_bits(slot: Slot, owner: i32, bits: &[u8]) -> Slot
+/// A slot with another owner and other bits.
+pub fn with_bits(slot: Slot, owner: i32, bits: &[u8]) -> Slot
     ensures { result ≡ with_slot_bits slot owner bits.now }
 {
     Slot {

@@ -1,5 +1,5 @@
 //! Verbs that are changed (Programmer's Manual, "Operations Involving Verbs").
-ghost use Rattle.std.specs.Prelude.{◌≡◌, ◌&&◌, [], ◌∷◌, not, is_some, option_map, Some, codes, IfOk};
+ghost use Rattle.std.specs.Prelude.{◌≡◌, ◌&&◌, [], ◌∷◌, not, is_some, option_map, Some, codes, IfOk, OnOk};
 ghost use Rattle.spec_value.specs.Datum.{object as object_of};
 ghost use Rattle.spec_world.specs.World.{object_at};
 ghost use Rattle.spec_world.specs.Permissions.{in_place};
@@ -9,6 +9,7 @@ ghost use Rattle.spec_moo.specs.Natives.Properties.{are_bits as are_bits_of};
 ghost use Rattle.spec_moo.specs.Natives.Verbs.{set_verb_info_row, set_verb_args_row, add_verb_row, delete_verb_row, is_none_named};
 ghost use Rattle.moo_value.specs.Answers.{answer_of};
 ghost use Rattle.view.specs.Law.{Goes, Lasts, Tells};
+ghost use Rattle.inherit.specs.Lines.{AreWellFormed};
 ghost use Rattle.builtins_world.specs.Said.{Does};
 ghost use Rattle.builtins_change.specs.Later.{verb_given, specified, added, added_owned};
 ghost use Rattle.builtins_change.specs.Listed.{info_given, words_given};
@@ -46,6 +47,7 @@ pub fn set_verb_info<V: View>(
     ensures left { IfOk result (λ a. Goes V.holds V.now view.old view.new
         (λ before after. Does (λ s c. set_verb_info_row s c (object_of object ∷ which.now ∷ info_given info.now ∷ []))
         before after programmer (answer_of a))) }
+    ensures well_formed { AreWellFormed V.holds V.now view.old → OnOk result (AreWellFormed V.holds V.now view.new) }
 {
     let Some(verbs) = read_verbs(view, object)? else {
         return Ok(Err(MooError::InvalidArgument));
@@ -116,6 +118,7 @@ pub fn set_verb_args<V: View>(
     ensures left { IfOk result (λ a. Goes V.holds V.now view.old view.new
         (λ before after. Does (λ s c. set_verb_args_row s c (object_of object ∷ which.now ∷ words_given words.now ∷ []))
         before after programmer (answer_of a))) }
+    ensures well_formed { AreWellFormed V.holds V.now view.old → OnOk result (AreWellFormed V.holds V.now view.new) }
 {
     let specifier = read_specifier(words);
     specify(alloc, view, programmer, object, which, specifier)
@@ -175,6 +178,7 @@ pub fn add_verb<V: View>(
     ensures left { IfOk result (λ a. Goes V.holds V.now view.old view.new
         (λ before after. Does (λ s c. add_verb_row s c (object_of object ∷ info_given info.now ∷ words_given words.now ∷ []))
         before after programmer (answer_of a))) }
+    ensures well_formed { AreWellFormed V.holds V.now view.old → OnOk result (AreWellFormed V.holds V.now view.new) }
 {
     let specifier = read_specifier(words);
     add(alloc, view, programmer, object, info, specifier)
@@ -244,8 +248,25 @@ fn add_owned<V: View>(
 
 /// `delete_verb`. `E_INVARG` where the object is not there, `E_VERBNF` where it has no such verb, `E_PERM` where the programmer
 /// may not take from it.
-#[tactic(auto, using(crate::proofs::Changes::within))]
 pub fn delete_verb<V: View>(
+    alloc: Global,
+    view: &mut V,
+    programmer: i32,
+    object: i32,
+    which: &Value,
+) -> Result<Answer, AllocError>
+    requires home { V.holds view.old (V.home view.old) }
+    ensures lasts { Lasts V.holds V.home V.anchor view.old view.new result }
+    ensures left { IfOk result (λ a. Goes V.holds V.now view.old view.new
+        (λ before after. Does (λ s c. delete_verb_row s c (object_of object ∷ which.now ∷ []))
+        before after programmer (answer_of a))) }
+    ensures well_formed { AreWellFormed V.holds V.now view.old → OnOk result (AreWellFormed V.holds V.now view.new) }
+{
+    delete(alloc, view, programmer, object, which)
+}
+
+#[tactic(auto, using(crate::proofs::Changes::within))]
+fn delete<V: View>(
     alloc: Global,
     view: &mut V,
     programmer: i32,

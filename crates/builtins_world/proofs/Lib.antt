@@ -1,3 +1,4 @@
 pub mod Changes
+pub mod Keeping
 pub mod Places
 pub mod Specifiers

@@ -10,6 +10,7 @@ ghost use Rattle.spec_moo.specs.Natives.Properties.{properties_row, property_inf
 ghost use Rattle.moo_value.specs.Answers.{answer_of};
 ghost use Rattle.moo_value.specs.Errors.{code_of};
 ghost use Rattle.footprint.specs.Meanings.{part_of};
+ghost use Rattle.inherit.specs.Lines.{AreWellFormed};
 ghost use Rattle.view.specs.Law.{Goes, Lasts, Tells};
 ghost use Rattle.builtins_world.specs.Missing.{missing_error};
 ghost use Rattle.builtins_world.specs.Said.{Does, Says};
@@ -124,6 +125,21 @@ pub fn clear_property<V: View>(
     ensures lasts { Lasts V.holds V.home V.anchor view.old view.new result }
     ensures left { IfOk result (λ a. Goes V.holds V.now view.old view.new
         (λ before after. Does (λ s c. clear_property_row s c (object_of object ∷ text_value name.now ∷ [])) before after programmer (answer_of a))) }
+    ensures well_formed { AreWellFormed V.holds V.now view.old → OnOk result (AreWellFormed V.holds V.now view.new) }
+{
+    clear(view, programmer, object, name)
+}
+
+fn clear<V: View>(
+    view: &mut V,
+    programmer: i32,
+    object: i32,
+    name: &Text,
+) -> Result<Answer, AllocError>
+    requires home { V.holds view.old (V.home view.old) }
+    ensures lasts { Lasts V.holds V.home V.anchor view.old view.new result }
+    ensures left { IfOk result (λ a. Goes V.holds V.now view.old view.new
+        (λ before after. Does (λ s c. clear_property_row s c (object_of object ∷ text_value name.now ∷ [])) before after programmer (answer_of a))) }
 {
     let Some(slot) = read_slot(view, object, name)? else {
         let error = missing(view, object)?;
@@ -194,8 +210,8 @@ fn defines<V: View>(view: &mut V, object: i32, name: &Text) -> Result<Option<boo
     }
 }
 
-// Whether a name is among others. Case is ignored.
-fn has_name(names: &[Text], name: &Text) -> bool
+/// Whether a name is among others. Case is ignored.
+pub fn has_name(names: &[Text], name: &Text) -> bool
     ensures { result ≡ has_name_of (map fold_case names.now) (fold_case name.now) }
 {
     for other in names {

@@ -1,2 +1,3 @@
 pub mod Walks
 pub mod Tellings
+pub mod Keeping

@@ -10,6 +10,8 @@ use Rattle.builtins_world.specs.Said.{with_programmer}
 use Rattle.builtins_change.specs.Later.{slot_given}
 use Rattle.builtins_change.specs.Listed.{owner_and_bits}
 use Rattle.builtins_change.proofs.Chains.{then_does, slot_is_given}
+use Rattle.builtins_world.proofs.Keeping.{goes_well}
+use Rattle.builtins_change.proofs.RowsKeep.{set_property_info_keeps}
 use Rattle.builtins_change.proofs.properties.set_property_info.Goals as goal
 
 pub returns-clause-left : goal.returns-clause-left
@@ -27,3 +29,8 @@ returns-clause-left g c =
     (rw (programmer, act, c.if-not-allowed.false) at c.in_ok-allowed.ensures.left)
     (λ w l. let u = (rw (object, programmer, owner) at c.in_ok-answer.ensures.left) w l in (u.0, λ h. u.1))
     (λ s k is allowed. slot_is_given s (with_programmer k c.args.programmer) c.args.object c.args.name.now c.in-Some.slot c.args.owner c.args.bits.now is allowed)
+
+pub returns-clause-well_formed : goal.returns-clause-well_formed
+returns-clause-well_formed g c =
+    goes_well g.V.View.holds g.V.View.now c.args.view.now c.give_slot.new.view (λ s k. set_property_info_row s k (object_of c.args.object ∷ text_value c.args.name.now ∷ owner_and_bits c.args.owner c.args.bits.now ∷ []))
+    c.args.programmer (answer_of c.in_ok-answer.answer) (set_property_info_keeps (object_of c.args.object ∷ text_value c.args.name.now ∷ owner_and_bits c.args.owner c.args.bits.now ∷ [])) (returns-clause-left g c)

@@ -9,6 +9,8 @@ use Rattle.builtins_world.specs.Said.{with_programmer}
 use Rattle.builtins_change.specs.Later.{verb_given}
 use Rattle.builtins_change.specs.Listed.{info_given}
 use Rattle.builtins_change.proofs.Chains.{then_does, verb_is_given}
+use Rattle.builtins_world.proofs.Keeping.{goes_well}
+use Rattle.builtins_change.proofs.RowsKeep.{set_verb_info_keeps}
 use Rattle.builtins_change.proofs.verbs.set_verb_info.Goals as goal
 
 pub returns-clause-left : goal.returns-clause-left
@@ -29,3 +31,8 @@ returns-clause-left g c =
     (rw (object, programmer, c.as_slice-2.ensures) at c.in_ok-answer.ensures.left)
     (λ s k is allowed. verb_is_given s (with_programmer k c.args.programmer) c.args.object c.args.which.now c.args.info.now c.in-Some.verbs c.in-Some-own_verb.place c.in-Some-own_verb.verb.now
     is place there allowed)
+
+pub returns-clause-well_formed : goal.returns-clause-well_formed
+returns-clause-well_formed g c =
+    goes_well g.V.View.holds g.V.View.now c.args.view.now c.give_info.new.view (λ s k. set_verb_info_row s k (object_of c.args.object ∷ c.args.which.now ∷ info_given c.args.info.now ∷ []))
+    c.args.programmer (answer_of c.in_ok-answer.answer) (set_verb_info_keeps (object_of c.args.object ∷ c.args.which.now ∷ info_given c.args.info.now ∷ [])) (returns-clause-left g c)

@@ -1,8 +1,9 @@
-use Rattle.std.proofs.Common.{◌≡◌, true, [], ◌∷◌, Some, w32}
+use Rattle.std.proofs.Common.{◌≡◌, ◌∙◌, sym, subst, true, [], ◌∷◌, Some, w32}
 use Rattle.std.proofs.lemmas.Int.{to_z-of_z}
 use Rattle.spec_value.specs.Datum.{object as object_of, text as text_value}
 use Rattle.spec_world.specs.Inherit.{slot_at}
 use Rattle.spec_world.specs.Permissions.{may, write_slot}
+use Rattle.spec_world.specs.WellFormed.{IsWellFormed}
 use Rattle.spec_moo.specs.Natives.Properties.{set_property_info_row}
 use Rattle.moo_value.specs.Answers.{answer_of}
 use Rattle.permissions.specs.Acts.{act_of}
@@ -34,3 +35,16 @@ pub returns-clause-well_formed : goal.returns-clause-well_formed
 returns-clause-well_formed g c =
     goes_well g.V.View.holds g.V.View.now c.args.view.now c.give_slot.new.view (λ s k. set_property_info_row s k (object_of c.args.object ∷ text_value c.args.name.now ∷ owner_and_bits c.args.owner c.args.bits.now ∷ []))
     c.args.programmer (answer_of c.in_ok-answer.answer) (set_property_info_keeps (object_of c.args.object ∷ text_value c.args.name.now ∷ owner_and_bits c.args.owner c.args.bits.now ∷ [])) (returns-clause-left g c)
+
+-- where nothing is changed
+pub returns-in_default-clause-well_formed : goal.returns-in_default-clause-well_formed
+returns-in_default-clause-well_formed g c = λ well w h.
+    let t = c.in_ok-error.ensures.left w h in
+    let u = c.in_ok-slot.ensures.left w t.0 in
+    subst IsWellFormed (sym (t.1.0 ∙ u.1.0)) (well w u.0)
+
+pub returns-then-not-allowed-clause-well_formed : goal.returns-then-not-allowed-clause-well_formed
+returns-then-not-allowed-clause-well_formed g c = λ well w h.
+    let t = c.in_ok-allowed.ensures.left w h in
+    let u = c.in_ok-slot.ensures.left w t.0 in
+    subst IsWellFormed (sym (t.1.0 ∙ u.1.0)) (well w u.0)

@@ -1,3 +1,0 @@
-pub mod Defining
-pub mod InTurn
-pub mod Slots

@@ -26,14 +26,17 @@ use Rattle.spec_moo.specs.Pending.{hand, Pending, Stop, done, raised, out_of_tic
 use Rattle.spec_moo.specs.Segment.{segment}
 use Rattle.spec_moo.specs.Standing.{LooksAt}
 use Rattle.spec_moo.specs.Natives.Properties.{as_texts}
-use Rattle.spec_moo.specs.Steps.Outcomes as outcome
-use Rattle.spec_moo.specs.Steps.Outcomes.{Event, line_of, ready_task, Step, Outcome, ended, opening_scene, comes_to, idle_with}
+use Rattle.spec_step.specs.Step as step
+use Rattle.spec_step.specs.Step.{Event, line_of, ready_task, Step}
+use Rattle.spec_step.specs.Outcome.{Outcome, ended}
+use Rattle.spec_moo.specs.Steps.Outcomes.{opening_scene, comes_to, idle_with}
 use Rattle.spec_moo.specs.Steps.Running.{told_on, waiting_task, put_by, after_stop, Ran, run, begun, system_task, on_system, beginning_of, begun_again, gone_on}
 use Rattle.spec_moo.specs.Steps.Programming.{with_link, programmable, begins, opens, requested, with_line, written, ends_with, ends_at, ends, goes_on, collected}
 use Rattle.spec_moo.specs.Steps.Events.{foreground_ticks, queued_ticks, nothing_runs, words_value, user_task, greeted, logged_in, is_player, is_open_for, may_log_in, login_value, after_login, login_with, login, opened_link, command_call, command_start, command_run, player_line, without_task, resumed, with_own_task, line_for, line_read, line_taken, line_on, told_gone, gone, closed_link, is_due, ready_run, ready_at, event_of, event}
 use Rattle.spec_moo.specs.Steps.Events as events
 use Rattle.spec_moo.specs.Steps.{numbered, play1, play}
-use Rattle.spec_moo.specs.Worlds.{IsUnderWay, IdFits, SceneAgrees, MayWait, StopKeeps, event_in_range, in_range, StepsKeep, ListsKeep, NextFollows, StaysWellFormed, PlayGoesOn}
+use Rattle.spec_step.specs.Step.{event_in_range, in_range}
+use Rattle.spec_moo.specs.Worlds.{IsUnderWay, IdFits, SceneAgrees, MayWait, StopKeeps, StepsKeep, ListsKeep, NextFollows, StaysWellFormed, PlayGoesOn}
 use Rattle.spec_moo.proofs.NativeWorlds.{in_agreeing, closed_scene}
 use Rattle.spec_moo.proofs.PropertyRows.{changed_verb}
 use Rattle.spec_moo.proofs.TaskRows.{id_in_range, taken}
@@ -402,8 +405,8 @@ module _ (fixed : ℕ) where
           (goes_on_standing w t t.waiting _ (b.world.queue.task_waits i t e) (b.world.queue.task_places i t e) (b.world.queue.task_entries i t e))
 
   event_keeps : (w : World) (s : Step) (e : Event) → IsTrue (event_in_range e) → Opens w s → Then (event_of w s e).0
-  event_keeps w s (outcome.open_link c) r b = opened_keeps s w c (at w.links c) refl r b
-  event_keeps w s (outcome.close_link c) r b = closed_keeps s w c (at w.links c) b
+  event_keeps w s (step.open_link c) r b = opened_keeps s w c (at w.links c) refl r b
+  event_keeps w s (step.close_link c) r b = closed_keeps s w c (at w.links c) b
   event_keeps w s (line_of c t) r b = line_on_keeps s w c t (at w.links c) refl b
   event_keeps w s (ready_task i) r b = ready_keeps s w i (at w.tasks i) refl b
 
@@ -414,17 +417,26 @@ unfolding play1
 step_then w s h r =
     go w.ending
   where
-    one : 1 ≤ s.number
-    one = leb-true 1 s.number (first_holds (nat_le 1 s.number) _ r)
-
-    small : s.number ≤ 33554431
-    small = leb-true s.number 33554431 (first_holds (nat_le s.number 33554431) _ (second_holds (nat_le 1 s.number) _ r))
-
-    rest : IsTrue (is_moment s.moment && ((length s.key == 32) && (list_all (λ b. nat_lt b 256) s.key && event_in_range s.event)))
-    rest = second_holds (nat_le s.number 33554431) _ (second_holds (nat_le 1 s.number) _ r)
+    before_event : IsTrue (nat_le 1 s.number && nat_le s.number 33554431 && is_moment s.moment && (length s.key == 32) && list_all (λ b. nat_lt b 256) s.key)
+    before_event = first_holds _ (event_in_range s.event) r
 
     in_event : IsTrue (event_in_range s.event)
-    in_event = second_holds (list_all (λ b. nat_lt b 256) s.key) _ (second_holds (length s.key == 32) _ (second_holds (is_moment s.moment) _ rest))
+    in_event = second_holds _ (event_in_range s.event) r
+
+    with_moment : IsTrue (nat_le 1 s.number && nat_le s.number 33554431 && is_moment s.moment)
+    with_moment = first_holds _ (length s.key == 32) (first_holds _ (list_all (λ b. nat_lt b 256) s.key) before_event)
+
+    in_moment : IsTrue (is_moment s.moment)
+    in_moment = second_holds _ (is_moment s.moment) with_moment
+
+    numbers : IsTrue (nat_le 1 s.number && nat_le s.number 33554431)
+    numbers = first_holds _ (is_moment s.moment) with_moment
+
+    one : 1 ≤ s.number
+    one = leb-true 1 s.number (first_holds _ (nat_le s.number 33554431) numbers)
+
+    small : s.number ≤ 33554431
+    small = leb-true s.number 33554431 (second_holds (nat_le 1 s.number) _ numbers)
 
     limit : w.next ≤ 33554432
     limit = leb-true w.next 33554432 (second_holds (nat_le 1 w.next) _ h.queue.next_in_range)
@@ -435,7 +447,7 @@ step_then w s h r =
     go : (b : Bool)
         → (let r : World × Outcome = if b then (numbered s.number w, idle_with ended) else event (numbered s.number w) s in Agrees (r.0) × ((r.0).next ≡ max (suc s.number) w.next))
     go true = (raised_next, refl)
-    go false = event_keeps (max (suc s.number) w.next) (numbered s.number w) s s.event in_event (record { world = raised_next; number = one; before = omega arith; moment = first_holds (is_moment s.moment) _ rest; next = refl })
+    go false = event_keeps (max (suc s.number) w.next) (numbered s.number w) s s.event in_event (record { world = raised_next; number = one; before = omega arith; moment = in_moment; next = refl })
 
 pub steps_keep : StepsKeep
 steps_keep w s h r = (step_then w s h r).0

@@ -14,7 +14,7 @@ use Rattle.spec_moo.specs.Pending.{Pending, Stop, waiting, Turned, goes_on, halt
 use Rattle.spec_moo.specs.Turn.{turn}
 use Rattle.spec_moo.specs.Standing.{Stands}
 use Rattle.spec_moo.specs.Segment.{segment}
-use Rattle.spec_moo.specs.Steps.Outcomes.{Event, open_link, close_link, line_of, ready_task, Step}
+use Rattle.spec_step.specs.Step.{Step, in_range}
 use Rattle.spec_moo.specs.Steps.{play1, play}
 
 -- ---- a scene: its world agrees and has this next number, which lies above the step's, and the task's id is one of those that were given
@@ -79,18 +79,6 @@ abbrev pub SegmentsKeep : Type 0
 SegmentsKeep = (k t : ℕ) (s : Scene) (p : Pending) → SceneAgrees k s → IsUnderWay p → StopKeeps k (segment t s p).scene (segment t s p).stop
 
 -- ---- steps and lists of steps
-
-abbrev pub event_in_range : Event → Bool
-event_in_range (open_link c) = is_connection c
-event_in_range (close_link c) = is_connection c
-event_in_range (line_of c t) = is_connection c && (nat_le (length t) 4096 && is_text t)
-event_in_range (ready_task i) = in_number_range i
-
--- each field of a step is in its range
-abbrev pub in_range : Step → Bool
-in_range s =
-    nat_le 1 s.number && (nat_le s.number 33554431 && (is_moment s.moment
-    && ((length s.key == 32) && (list_all (λ b. nat_lt b 256) s.key && event_in_range s.event))))
 
 -- of any kind: a connection that opens or ends, a line, a task that is due
 abbrev pub StepsKeep : Type 0

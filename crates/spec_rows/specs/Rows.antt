@@ -11,7 +11,9 @@ use Rattle.spec_value.specs.Table.{with}
 use Rattle.spec_task.specs.Turn.{Pending}
 use Rattle.spec_task.specs.Segment.{segment}
 use Rattle.spec_task.specs.Commands.{command}
-use Rattle.spec_task.specs.Step.{Step, line_of, Outcome, value_of, raised_by, ran_out, none, ended, play1, play, plain, after_segment, in_range, runs_on}
+use Rattle.spec_step.specs.Step.{Step, line_of, in_range, runs_on}
+use Rattle.spec_step.specs.Outcome.{Outcome, value_of, raised_by, ran_out, none, ended}
+use Rattle.spec_task.specs.Step.{play1, play, plain, after_segment}
 use Rattle.spec_rows.specs.Fixture.{fixture, fixture_at, room, plain_verb, returning, count_verb}
 
 abbrev pub line_step : ℕ → ℤ → Text → Step

@@ -14,7 +14,9 @@ use Rattle.spec_task.specs.Turn.{Leaving, returned, failed, Focus, begin, hand, 
 use Rattle.spec_task.specs.Segment.{begins_stage, Settled, charges, begins, ends, settle, settled, carried, free_turn, through, beyond, reached, paid, charged, unpaid, segment}
 use Rattle.spec_world.specs.WellFormed.{IsWellFormed, OfEachTask, id_fits, names_once}
 use Rattle.spec_task.specs.Commands.{command, unspaced, verb_named}
-use Rattle.spec_task.specs.Step.{Step, Event, open_link, close_link, line_of, ready_task, in_range, Outcome, run_verb, run_word, run_person, run_line, run_event, verbs_of, plain, ended, numbered, performed, play1, play}
+use Rattle.spec_step.specs.Step.{Step, Event, open_link, close_link, line_of, ready_task, in_range}
+use Rattle.spec_step.specs.Outcome.{Outcome, ended}
+use Rattle.spec_task.specs.Step.{run_verb, run_word, run_person, run_line, run_event, verbs_of, plain, numbered, performed, play1, play}
 use Rattle.spec_task.specs.Laws.{SegmentKeeps, SegmentChangesObjects, StepKeeps, PlayKeeps}
 use Rattle.spec_value.proofs.Entries.{first_holds, second_holds, both_hold}
 use Rattle.spec_world.proofs.SlotChanges.{world_stays}

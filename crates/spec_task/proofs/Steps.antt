@@ -2,7 +2,9 @@
 use Rattle.std.proofs.Common.{◌≡◌, Bool, true, false, [], ◌∷◌, Some, refl, ap, ◌∙◌, if◌then◌else◌, arith}
 use Rattle.spec_world.specs.World.{World}
 use Rattle.spec_world.proofs.SlotChanges.{world_stays}
-use Rattle.spec_task.specs.Step.{Event, Outcome, plain, ended, run_event, numbered, performed, play1, play}
+use Rattle.spec_step.specs.Step.{Event}
+use Rattle.spec_step.specs.Outcome.{Outcome, ended}
+use Rattle.spec_task.specs.Step.{plain, run_event, numbered, performed, play1, play}
 use Rattle.spec_task.specs.Laws.{NextRises, NextFollows, PlayGoesOn}
 use Rattle.spec_task.proofs.StepKeeps.{event_holds}
 

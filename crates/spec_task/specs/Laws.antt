@@ -6,7 +6,8 @@ use Rattle.spec_world.specs.World.{World, Call, Start}
 use Rattle.spec_task.specs.Turn.{Pending, cost}
 use Rattle.spec_task.specs.Segment.{Settled, charges, begins, ends, begins_stage, settled, reached, Ended, segment, Course, runs, stops, Leads}
 use Rattle.spec_task.specs.Commands.{starting}
-use Rattle.spec_task.specs.Step.{Step, in_range, AllInRange, play1, play}
+use Rattle.spec_step.specs.Step.{Step, in_range, AllInRange}
+use Rattle.spec_task.specs.Step.{play1, play}
 use Rattle.spec_world.specs.WellFormed.{IsWellFormed}
 
 -- ---- segments

@@ -4,7 +4,9 @@ use Rattle.std.proofs.lemmas.List.{take_all}
 use Rattle.std.proofs.lemmas.Option.{slice_get_within}
 use Rattle.spec_world.specs.World.{World}
 use Rattle.spec_view.specs.Questions.{Agrees}
-use Rattle.spec_task.specs.Step.{Step, Outcome, RunsOn, AllInRange, in_range, play1, play}
+use Rattle.spec_step.specs.Step.{Step, RunsOn, AllInRange, in_range}
+use Rattle.spec_step.specs.Outcome.{Outcome}
+use Rattle.spec_task.specs.Step.{play1, play}
 use Rattle.world.specs.Counted.{Counted}
 use Rattle.world.specs.Sound.{IsSound}
 use Rattle.speculate.specs.declared.held.Held.{Held}

@@ -1,6 +1,8 @@
 -- A board as plain data, and when it is honest.
 use Rattle.std.specs.Prelude.{◌≡◌, ℕ, suc, ◌+◌, ◌≤◌, List, [], ◌∷◌, length, take, replicate, Some, slice_get, slice_set}
-use Rattle.spec_task.specs.Step.{Step, Outcome, RunsOn, AllInRange, play}
+use Rattle.spec_step.specs.Step.{Step, RunsOn, AllInRange}
+use Rattle.spec_step.specs.Outcome.{Outcome}
+use Rattle.spec_task.specs.Step.{play}
 use Rattle.world.specs.Counted.{Counted}
 use Rattle.world.specs.Sound.{IsSound}
 use Rattle.speculate.specs.Right.{IsRight}

@@ -5,7 +5,9 @@ use Rattle.spec_value.specs.Datum.{Text}
 use Rattle.spec_world.specs.World.{World, Header, Object, Verb, object_at}
 use Rattle.spec_view.specs.Questions.{header_at, verbs_at}
 use Rattle.spec_task.specs.Commands.{unspaced, verb_named}
-use Rattle.spec_task.specs.Step.{Step, Event, Outcome, performed, plain, none, ended, in_range, event_in_range, run_event, run_person, run_word, run_verb, verbs_of}
+use Rattle.spec_step.specs.Step.{Step, Event, in_range, event_in_range}
+use Rattle.spec_step.specs.Outcome.{Outcome, none, ended}
+use Rattle.spec_task.specs.Step.{performed, plain, run_event, run_person, run_word, run_verb, verbs_of}
 use Rattle.spec_value.proofs.Entries.{second_holds}
 use Rattle.view.specs.Law.{Goes}
 use Rattle.task_run.specs.Performed.{StepsTo}

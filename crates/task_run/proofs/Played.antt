@@ -3,7 +3,8 @@ use Rattle.std.proofs.Common.{◌≡◌, ◌∙◌, sym, ap, ℕ, ℤ, ◌-◌, 
 use Rattle.spec_world.specs.World.{World}
 use Rattle.spec_task.specs.Turn.{Pending}
 use Rattle.spec_task.specs.Segment.{Stop, Ended, segment, stopped}
-use Rattle.spec_task.specs.Step.{Outcome, after_segment}
+use Rattle.spec_step.specs.Outcome.{Outcome}
+use Rattle.spec_task.specs.Step.{after_segment}
 use Rattle.machine.specs.declared.task.Run.{Run}
 use Rattle.view.specs.Law.{Goes}
 use Rattle.task_run.specs.Performed.{StepsTo}

@@ -2,7 +2,9 @@
 use Rattle.std.proofs.Common.{◌≡◌, ℕ, ◌+◌, ◌<◌, ◌≤◌, List, [], ◌∷◌, ◌++◌, length, get_or, take, sym, ap, ◌∙◌, arith, add-one}
 use Rattle.std.proofs.Math.Seq.{take-suc, take-length}
 use Rattle.spec_world.specs.World.{World}
-use Rattle.spec_task.specs.Step.{Step, Outcome, play1, play}
+use Rattle.spec_step.specs.Step.{Step}
+use Rattle.spec_step.specs.Outcome.{Outcome}
+use Rattle.spec_task.specs.Step.{play1, play}
 use Rattle.spec_task.proofs.Steps.{play_goes_on}
 use Rattle.task_run.specs.Performed.{StepsTo}
 

@@ -2,7 +2,9 @@
 use Rattle.std.proofs.Common.{◌≡◌, Result, Ok, Err, sym, subst, IfOk, OnOk}
 use Rattle.spec_world.specs.World.{World}
 use Rattle.spec_view.specs.Questions.{Change, apply}
-use Rattle.spec_task.specs.Step.{Event, Outcome, performed}
+use Rattle.spec_step.specs.Step.{Event}
+use Rattle.spec_step.specs.Outcome.{Outcome}
+use Rattle.spec_task.specs.Step.{performed}
 use Rattle.world.specs.Sound.{IsSound}
 use Rattle.world.proofs.SoundKeeps.{sound_performed}
 use Rattle.view.specs.Law.{Goes, AreSound}

@@ -3,7 +3,9 @@ use Rattle.std.proofs.Common.{◌≡◌, ℕ, suc, ◌+◌, ◌≤◌, Result, O
 use Rattle.std.specs.Prelude.{IfOk, max, min}
 use Rattle.spec_view.specs.Questions.{new_next, apply}
 use Rattle.spec_world.specs.World.{World}
-use Rattle.spec_task.specs.Step.{Step, Outcome, performed, play1}
+use Rattle.spec_step.specs.Step.{Step}
+use Rattle.spec_step.specs.Outcome.{Outcome}
+use Rattle.spec_task.specs.Step.{performed, play1}
 use Rattle.view.specs.Law.{Goes}
 use Rattle.task_run.specs.Performed.{StepsTo}
 

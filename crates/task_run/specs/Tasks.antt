@@ -2,7 +2,8 @@
 use Rattle.std.specs.Prelude.{◌≡◌, ℕ, ℤ}
 use Rattle.spec_task.specs.Turn.{Pending}
 use Rattle.spec_task.specs.Segment.{Stop}
-use Rattle.spec_task.specs.Step.{Outcome, plain, stop_result, stop_lines}
+use Rattle.spec_step.specs.Outcome.{Outcome}
+use Rattle.spec_task.specs.Step.{plain, stop_result, stop_lines}
 use Rattle.machine.specs.declared.task.Run.{Run}
 use Rattle.machine.specs.Stands.{Verb, Standing, StandsFor, pending}
 

@@ -1,6 +1,7 @@
 //! Outcomes of steps that run no task.
 ghost use Rattle.std.specs.Prelude.{◌≡◌, ◌∷◌, [], pos, IfOk, codes};
-ghost use Rattle.spec_task.specs.Step.{plain, none};
+ghost use Rattle.spec_step.specs.Outcome.{none};
+ghost use Rattle.spec_task.specs.Step.{plain};
 ghost use Rattle.task_step.specs.OutcomeView.{result_of, lines_of};
 
 use crate::told::{NOT_UNDERSTOOD, line};

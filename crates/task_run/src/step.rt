@@ -2,7 +2,8 @@
 ghost use Rattle.std.specs.Prelude.{◌≡◌, ◌<◌, ◌^◌, pos, IfOk, OnOk, IsTrue, Some, option_map, length};
 ghost use Rattle.spec_world.specs.World.{object_at};
 ghost use Rattle.spec_value.specs.Table.{at};
-ghost use Rattle.spec_task.specs.Step.{in_range, event_in_range, play1, performed, run_event as event_run, run_line as line_run, run_person as person_run, run_word as word_run, run_verb as verb_run};
+ghost use Rattle.spec_step.specs.Step.{in_range, event_in_range};
+ghost use Rattle.spec_task.specs.Step.{play1, performed, run_event as event_run, run_line as line_run, run_person as person_run, run_word as word_run, run_verb as verb_run};
 ghost use Rattle.task_step.specs.StepView.{event_of};
 ghost use Rattle.view.specs.Law.{Goes, AreSound};
 ghost use Rattle.task_run.specs.Performed.{StepsTo};

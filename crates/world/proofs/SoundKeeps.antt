@@ -11,7 +11,9 @@ use Rattle.spec_world.specs.WellFormed.{IsWellFormed, has_name}
 use Rattle.spec_task.specs.Turn.{is_wizard, wizardly}
 use Rattle.spec_task.specs.Turn.{Pending}
 use Rattle.spec_task.specs.Segment.{segment}
-use Rattle.spec_task.specs.Step.{Event, Step, in_range, Outcome, plain, ended, run_event, numbered, performed, play1}
+use Rattle.spec_step.specs.Step.{Event, Step, in_range}
+use Rattle.spec_step.specs.Outcome.{Outcome, ended}
+use Rattle.spec_task.specs.Step.{plain, run_event, numbered, performed, play1}
 use Rattle.spec_view.specs.Questions.{new_value, new_next, put_value, apply}
 use Rattle.spec_task.proofs.StepKeeps.{segment_holds, event_holds, renumbered, next_small, numbered_keeps}
 use Rattle.spec_world.proofs.SlotChanges.{itself, names_total, object_stays, other_objects_stay}

@@ -13,8 +13,10 @@ use Rattle.spec_moo.specs.Scene.{Scene, in_world, has_ids, next_id, id_taken, en
 use Rattle.spec_moo.specs.Linking.{link_closed}
 use Rattle.spec_moo.specs.Pending.{Pending, Stop, done}
 use Rattle.spec_moo.specs.Natives.Properties.{as_texts}
-use Rattle.spec_moo.specs.Steps.Outcomes as outcome
-use Rattle.spec_moo.specs.Steps.Outcomes.{Event, line_of, ready_task, Step, Result, Outcome, none, absent, early, opening_scene, comes_to, idle_with}
+use Rattle.spec_step.specs.Step as step
+use Rattle.spec_step.specs.Step.{Event, line_of, ready_task, Step}
+use Rattle.spec_step.specs.Outcome.{Result, Outcome, none, absent, early}
+use Rattle.spec_moo.specs.Steps.Outcomes.{opening_scene, comes_to, idle_with}
 use Rattle.spec_moo.specs.Steps.Running.{Ran, run, came_to, told_on, system_task, system, on_system, begun, gone_on}
 use Rattle.spec_moo.specs.Steps.Programming.{says, requested, collected}
 
@@ -170,8 +172,8 @@ ready_at s w i (Some t) = ready_run s w i t (is_due s.moment t.waiting)
 -- ---- any of them
 
 abbrev pub event_of : World → Step → Event → World × Outcome
-event_of w s (outcome.open_link c) = opened_link s w c (at w.links c)
-event_of w s (outcome.close_link c) = closed_link s w c (at w.links c)
+event_of w s (step.open_link c) = opened_link s w c (at w.links c)
+event_of w s (step.close_link c) = closed_link s w c (at w.links c)
 event_of w s (line_of c t) = line_on s w c t (at w.links c)
 event_of w s (ready_task i) = ready_at s w i (at w.tasks i)
 

@@ -1,33 +1,10 @@
--- Steps, and what comes of them.
+-- Outcomes of steps: where nothing was done, and of a scene.
 use Rattle.std.specs.Prelude.{ℕ, ℤ, List, [], Bool, false, None}
 use Rattle.spec_value.specs.Datum.{Datum, Text}
 use Rattle.spec_world.specs.World.{World}
-use Rattle.spec_moo.specs.Scene.{Scene, Queued}
-
-pub data Event : Type 0 where
-  open_link close_link : ℤ → Event
-  line_of : ℤ → Text → Event
-  ready_task : ℤ → Event
-
--- the key is that of the step's random words
-pub record Step : Type 0 where
-  pub number : ℕ
-  pub moment : ℕ
-  pub key : List ℕ
-  pub event : Event
-
-pub data Result : Type 0 where
-  value_of raised_by : Datum → Result
-  suspended reading ran_out killed none absent early ended : Result
-
--- lines go to links
-pub record Outcome : Type 0 where
-  pub result : Result
-  pub ticks_used : ℕ
-  pub output : List (ℤ × Text)
-  pub queued : List Queued
-  pub closed : List ℤ
-  pub checkpoint : Bool
+use Rattle.spec_step.specs.Outcome.{Result, Outcome}
+use Rattle.spec_step.specs.Step.{Step}
+use Rattle.spec_moo.specs.Scene.{Scene}
 
 -- nothing was done
 abbrev pub idle_with : Result → Outcome

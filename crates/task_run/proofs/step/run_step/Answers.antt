@@ -1,6 +1,6 @@
 use Rattle.std.proofs.Common.{◌≡◌, ◌+◌, ap, ◌∙◌}
 use Rattle.spec_view.specs.Questions.{new_next}
-use Rattle.spec_task.specs.Step.{Step}
+use Rattle.spec_step.specs.Step.{Step}
 use Rattle.spec_task.proofs.StepKeeps.{number_small}
 use Rattle.task_step.specs.StepView.{event_of}
 use Rattle.world.proofs.SoundKeeps.{sound_raised}

@@ -1,7 +1,8 @@
 use Rattle.std.proofs.Common.{◌≡◌, ◌∷◌, [], pos, codes, None, ap, ◌∙◌, rules, w32, to_z, of_z}
 use Rattle.spec_view.specs.Questions.{verbs_at}
 use Rattle.spec_task.specs.Commands.{verb_named}
-use Rattle.spec_task.specs.Step.{plain, none, run_word as word_run}
+use Rattle.spec_step.specs.Outcome.{none}
+use Rattle.spec_task.specs.Step.{plain, run_word as word_run}
 use Rattle.task_run.proofs.Stepping.{decided}
 use Rattle.task_run.proofs.LineRules.{no_place, place_goes_on}
 use Rattle.task_run.proofs.step.seek_verb.Goals as goal

@@ -4,7 +4,8 @@ use Rattle.std.specs.Coded.{Coded, code_by, coded×, coded_list, coded_bool, cod
 use Rattle.spec_value.specs.Datum.{Datum, Text, integer}
 use Rattle.spec_value.specs.DatumCode.{datum_code}
 use Rattle.spec_world.specs.WorldCode.{text_code}
-use Rattle.spec_task.specs.Step.{Event, open_link, close_link, line_of, ready_task, Step, Result, value_of, raised_by, suspended, reading, ran_out, killed, none, absent, early, ended, Due, at_moment, never, when_read, Queued, Outcome}
+use Rattle.spec_step.specs.Step.{Event, open_link, close_link, line_of, ready_task, Step}
+use Rattle.spec_step.specs.Outcome.{Result, value_of, raised_by, suspended, reading, ran_out, killed, none, absent, early, ended, Due, at_moment, never, when_read, Queued, Outcome}
 
 -- ---- steps
 

@@ -1,0 +1,3 @@
+pub mod Step
+pub mod Outcome
+pub mod StepCode

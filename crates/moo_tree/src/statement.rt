@@ -105,9 +105,17 @@ impl Model for Statement {
 }
 
 /// The source tree of a program.
-#[derive(Drop)]
 pub struct Tree {
     statements: Vec<Statement>,
+}
+
+// Written out, so that letting go of all statements is proved here and not in each crate that lets a tree go.
+impl Drop for Tree {
+    fn drop(self) {
+        let Tree {
+            statements: _statements,
+        } = self;
+    }
 }
 
 impl Model for Tree {

@@ -1,0 +1,5 @@
+pub mod Controlling
+pub mod Calling
+pub mod Keeps
+pub mod Rows
+pub mod Seeing

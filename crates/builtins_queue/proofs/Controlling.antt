@@ -1,5 +1,5 @@
 -- The programmer of a task.
-use Rattle.std.proofs.Common.{◌≡◌, ℤ, Some, sym, ap}
+use Rattle.std.proofs.Common.{◌≡◌, Some, sym, ap}
 use Rattle.spec_world.specs.World.{Call, Task}
 use Rattle.spec_moo.specs.Natives.Tasks.{innermost, programmer_of, task_programmer}
 

@@ -1,6 +1,5 @@
 -- Built-in functions over tasks that wait leave a well-formed world so.
-use Rattle.std.proofs.Common.{◌≡◌, ◌⊎◌, inl, inr, ℕ, ℤ, pos, Bool, true, false, not, List, [], ◌∷◌, Option, Some, None, Result, Ok, Err, OnOk, refl, sym, ap, ◌∙◌, subst, cond, IsTrue, le-leb, ◌≤◌}
-use Rattle.std.specs.Prelude.{IfOk}
+use Rattle.std.proofs.Common.{◌≡◌, ◌⊎◌, inl, inr, ℕ, ℤ, pos, true, false, not, [], ◌∷◌, Some, refl, sym, ap, ◌∙◌, subst, cond, IsTrue}
 use Rattle.std.specs.Ordering.{int_eq}
 use Rattle.std.specs.List.{list_all}
 use Rattle.spec_value.specs.Datum.{Datum, integer, invalid_argument}
@@ -15,8 +14,7 @@ use Rattle.spec_world.proofs.TablesKept.{at_with, at_left}
 use Rattle.spec_world.proofs.WorldsKept.{task_put, tasks_left, well_formed_agrees, agrees_is_well_formed}
 use Rattle.spec_moo.specs.Scene.{Scene}
 use Rattle.spec_moo.specs.NativeEffect as N
-use Rattle.spec_moo.specs.Natives.Rows.{zero_value}
-use Rattle.spec_moo.specs.Natives.Tasks.{task_programmer, is_suspended, resumes, resume_row, is_own_id, kills, kill_task_row}
+use Rattle.spec_moo.specs.Natives.Tasks.{task_programmer, is_suspended, resumes, is_own_id, kills, kill_task_row}
 use Rattle.moo_frame.specs.Deeds.{scene_of}
 use Rattle.moo_frame.specs.Effects.{effect_of}
 use Rattle.moo_frame.specs.declared.deeds.Deeds.{Deeds}

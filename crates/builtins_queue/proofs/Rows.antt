@@ -1,13 +1,13 @@
 -- Rows of the built-in functions over tasks that wait, check by check.
-use Rattle.std.proofs.Common.{◌≡◌, ℕ, ℤ, Bool, true, false, [], ◌∷◌, Option, Some, None, Result, Ok, Err, refl, sym, ap, ◌∙◌, subst, if◌then◌else◌}
+use Rattle.std.proofs.Common.{◌≡◌, ℤ, Bool, true, false, [], ◌∷◌, Some, None, Result, Ok, Err, sym, ap, ◌∙◌, subst, if◌then◌else◌}
 use Rattle.spec_value.specs.Datum.{Datum, integer, invalid_argument, permission_denied}
-use Rattle.spec_value.specs.Answer.{Answer, gives}
-use Rattle.spec_value.specs.Table.{at, with, without}
+use Rattle.spec_value.specs.Answer.{gives}
+use Rattle.spec_value.specs.Table.{at, with}
 use Rattle.spec_world.specs.World.{World, Task, timed}
 use Rattle.spec_world.specs.Permissions.{may, control_task}
 use Rattle.spec_view.specs.Questions.{apply, new_task}
 use Rattle.spec_moo.specs.Scene.{Scene, in_world}
-use Rattle.spec_moo.specs.NativeEffect.{Caller, NativeEffect, answers, dies, refuses}
+use Rattle.spec_moo.specs.NativeEffect.{Caller, NativeEffect, dies, refuses}
 use Rattle.spec_moo.specs.Natives.Rows.{unless, wants, may_do, if_there, answers_with, zero_value}
 use Rattle.spec_moo.specs.Natives.Tasks.{task_programmer, is_suspended, with_task, without_task, resumes, is_own_id, kills, kill_task_row}
 use Rattle.moo_value.specs.Answers.{answer_of}

@@ -1,5 +1,5 @@
 -- Tasks that are listed id by id are those of the world.
-use Rattle.std.proofs.Common.{◌≡◌, ◌⊎◌, inl, inr, ℕ, suc, ◌<◌, ◌≤◌, ◌+◌, ℤ, Bool, true, false, ◌||◌, List, [], ◌∷◌, ◌++◌, map, length, drop, get_or, Option, Some, None, refl, sym, ap, ◌∙◌, subst, cond, IsTrue, is_some, if◌then◌else◌, arith, append_assoc, append-nil, add-one, drop-cons}
+use Rattle.std.proofs.Common.{◌≡◌, ◌⊎◌, inl, inr, ℕ, ◌<◌, ◌≤◌, ◌+◌, ℤ, Bool, true, false, ◌||◌, List, [], ◌∷◌, ◌++◌, map, length, drop, get_or, Option, Some, None, refl, sym, ap, ◌∙◌, subst, cond, IsTrue, is_some, if◌then◌else◌, append_assoc, append-nil, add-one, drop-cons}
 use Rattle.std.specs.Prelude.{pos}
 use Rattle.std.proofs.lemmas.List.{at_drop_all}
 use Rattle.std.specs.Ordering.{int_eq}
@@ -7,11 +7,11 @@ use Rattle.spec_value.specs.Datum.{Datum}
 use Rattle.spec_value.specs.Answer.{gives}
 use Rattle.spec_value.specs.Table.{Numbered, at, is_numbered}
 use Rattle.spec_value.proofs.Entries.{first_holds, second_holds}
-use Rattle.spec_value.proofs.Same.{same_integer, integer_itself}
+use Rattle.spec_value.proofs.Same.{integer_itself}
 use Rattle.spec_world.specs.World.{World, Task}
 use Rattle.spec_world.specs.WellFormed.{lists}
 use Rattle.spec_world.specs.Permissions.{is_wizard}
-use Rattle.spec_world.proofs.Trees.{same_or_not, either}
+use Rattle.spec_world.proofs.Trees.{same_or_not}
 use Rattle.spec_world.proofs.Recycling.{below_none}
 use Rattle.spec_view.specs.Listings.{waiting_ids}
 use Rattle.spec_moo.specs.Scene.{Scene, in_world}

@@ -1,0 +1,51 @@
+use Rattle.std.proofs.Common.{◌≡◌, ◌∙◌, ◌<◌, ap, sym, subst, arith, suc, ◌-◌}
+use Rattle.std.specs.Prelude.{IfSome}
+use Rattle.spec_value.specs.Datum.{type_mismatch, invalid_argument, limit_exceeded}
+use Rattle.moo_code.specs.Instruction.{skipped}
+use Rattle.moo_machine.specs.Shown.{fails_of}
+use Rattle.moo_machine.proofs.Next.{next_place}
+use Rattle.moo_frame.specs.Deeds.{scene_of}
+use Rattle.moo_forks.specs.Queueing.{IsNextId}
+use Rattle.moo_forks.specs.Forking.{in_scene}
+use Rattle.moo_forks.proofs.Forks.{fork_of_no_integer, fork_in_past, fork_without_id, fork_granted}
+use Rattle.moo_forks.proofs.fork.requested.Goals as goal
+
+pub returns-in_default-seconds_in-clause-shown : goal.returns-in_default-seconds_in-clause-shown
+returns-in_default-seconds_in-clause-shown c a w x body =
+    let s = c.args.state.now in
+    let paid : s.ticks ≡ suc (s.ticks - 1) = omega arith in
+    fork_of_no_integer a c.args.call.now s c.args.deeds.now w x body c.in-Some.value c.pop.new.self (s.ticks - 1) c.in-Some.ensures paid c.in_default-seconds_in.ensures
+    ∙ ap (λ n. fails_of (in_scene a c.args.deeds.now w) c.args.call.now skipped n type_mismatch (record s { operands = c.pop.new.self; ticks = s.ticks - 1 })) (sym (next_place s.place))
+    ∙ c.skips-did.ensures (in_scene a c.args.deeds.now w)
+
+pub returns-then-seconds-lt0-clause-shown : goal.returns-then-seconds-lt0-clause-shown
+returns-then-seconds-lt0-clause-shown c a w x body =
+    let s = c.args.state.now in
+    let paid : s.ticks ≡ suc (s.ticks - 1) = omega arith in
+    fork_in_past a c.args.call.now s c.args.deeds.now w x body c.in-Some.value c.pop.new.self (s.ticks - 1) c.in-Some.ensures paid
+    c.in-Some-seconds_in.seconds c.in-Some-seconds_in.ensures c.if-seconds-lt0.true
+    ∙ ap (λ n. fails_of (in_scene a c.args.deeds.now w) c.args.call.now skipped n invalid_argument (record s { operands = c.pop.new.self; ticks = s.ticks - 1 })) (sym (next_place s.place))
+    ∙ c.skips-did-then-seconds-lt0.ensures (in_scene a c.args.deeds.now w)
+
+pub returns-in_default-2-clause-shown : goal.returns-in_default-2-clause-shown
+returns-in_default-2-clause-shown c a w x body =
+    let s = c.args.state.now in
+    let paid : s.ticks ≡ suc (s.ticks - 1) = omega arith in
+    fork_without_id a c.args.call.now s c.args.deeds.now w x body c.in-Some.value c.pop.new.self (s.ticks - 1) c.in-Some.ensures paid
+    c.in-Some-seconds_in.seconds c.in-Some-seconds_in.ensures c.if-seconds-lt0.false
+    (subst (λ o. IsNextId o (scene_of c.args.deeds.now w (s.ticks - 1))) c.in_default-2.is (c.in_ok-id.ensures.next w (s.ticks - 1)))
+    ∙ ap (λ n. fails_of (in_scene a c.args.deeds.now w) c.args.call.now skipped n limit_exceeded (record s { operands = c.pop.new.self; ticks = s.ticks - 1 })) (sym (next_place s.place))
+    ∙ c.skips-did-in_default-2.ensures (in_scene a c.args.deeds.now w)
+
+pub returns-clause-shown : goal.returns-clause-shown
+returns-clause-shown c a w x body =
+    let s = c.args.state.now in
+    let u = s.ticks - 1 in
+    let paid : s.ticks ≡ suc u = omega arith in
+    let known = subst (λ o. IsNextId o (scene_of c.args.deeds.now w u)) c.in-Some-2.is (c.in_ok-id.ensures.next w u) in
+    fork_granted a c.args.call.now s c.args.deeds.now w x body c.in-Some.value c.pop.new.self u c.in-Some.ensures paid
+    c.in-Some-seconds_in.seconds c.in-Some-2.id c.moment_after-due.result c.in-Some-seconds_in.ensures c.if-seconds-lt0.false
+    known.0 known.1 (c.moment_after-due.ensures w u)
+
+pub returns-clause-id : goal.returns-clause-id
+returns-clause-id c = subst (λ o. IfSome o (λ i. c.args.deeds.now.ids_used < 64)) c.in-Some-2.is c.in_ok-id.ensures.left

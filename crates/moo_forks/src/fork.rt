@@ -56,7 +56,7 @@ pub fn start_fork(
     number: u32,
 ) -> Result<Fork, AllocError>
     requires { task.old.frame.state.place + 1 < 2 ^ 64 }
-    ensures forks { IfOk result (λ f. (w : World)
+    ensures shown { IfOk result (λ f. (w : World)
         → forks (some_name_at (names_of task.old.frame.program) variable) (body_at (forks_in (code_of task.old.frame.program)) number) deeds.old w task.old
         ≡ fork_shown f deeds.new w task.new) }
     ensures player { task.new.player ≡ task.old.player }

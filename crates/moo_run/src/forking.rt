@@ -32,7 +32,7 @@ pub fn fork<V: View>(
     requires well_formed { AreWellFormed V.holds V.now view.old }
     requires place { task.old.frame.state.place + 1 < 2 ^ 64 }
     ensures lasts { Lasts V.holds V.home V.anchor view.old view.new result }
-    ensures forks { IfOk result (λ o. Goes V.holds V.now view.old view.new (λ before after.
+    ensures led { IfOk result (λ o. Goes V.holds V.now view.old view.new (λ before after.
         forks (some_name_at (names_of task.old.frame.program) variable) (body_at (forks_in (code_of task.old.frame.program)) number) deeds.old before task.old
         ≡ led_at o deeds.new after task.new)) }
     ensures player { IfOk result (λ o. task.new.player ≡ task.old.player) }

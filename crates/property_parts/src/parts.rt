@@ -37,8 +37,8 @@ pub fn length_there<V: View>(
         return Ok(Err(MooError::TypeMismatch));
     };
     let whole = read_property(alloc, view, programmer, object, name)?;
-    let length = length_behind(alloc, whole, brackets, inner)?;
-    Ok(length)
+    let answer = length_behind(alloc, whole, brackets, inner)?;
+    Ok(answer)
 }
 
 // The same of a value, if there is one.

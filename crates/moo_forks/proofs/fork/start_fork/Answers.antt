@@ -8,8 +8,8 @@ use Rattle.moo_forks.specs.Forking.{in_scene, around_in, forks, request_shown, H
 use Rattle.moo_forks.proofs.Forks.{fork_starts}
 use Rattle.moo_forks.proofs.fork.start_fork.Goals as goal
 
-pub returns-in-Refused-clause-forks : goal.returns-in-Refused-clause-forks
-returns-in-Refused-clause-forks c w =
+pub returns-in-Refused-clause-shown : goal.returns-in-Refused-clause-shown
+returns-in-Refused-clause-shown c w =
     let r = c.args.task.now in
     let x = some_name_at (names_of r.frame.program) c.args.variable in
     let body = body_at (forks_in (code_of r.frame.program)) c.args.number in
@@ -19,8 +19,8 @@ returns-in-Refused-clause-forks c w =
 pub enqueue-requires : goal.enqueue-requires
 enqueue-requires c = subst (λ q. HasId q c.args.deeds.now) c.in-Granted.is c.in_ok-requested.ensures.id
 
-pub returns-in-Granted-clause-forks : goal.returns-in-Granted-clause-forks
-returns-in-Granted-clause-forks c w =
+pub returns-in-Granted-clause-shown : goal.returns-in-Granted-clause-shown
+returns-in-Granted-clause-shown c w =
     let r = c.args.task.now in
     let x = some_name_at (names_of r.frame.program) c.args.variable in
     let body = body_at (forks_in (code_of r.frame.program)) c.args.number in

@@ -94,6 +94,7 @@ fn store_paid<V: View>(
     requires well_formed { AreWellFormed V.holds V.now view.old }
     requires brackets { 0 < length brackets.now }
     requires count { count ≡ count_in_of brackets.now + 2 }
+    requires room { count + 1 < 2 ^ 64 }
     requires operands { count < length state.old.operands }
     requires ticks { 0 < state.old.ticks }
     ensures lasts { Lasts V.holds V.home V.anchor view.old view.new result }

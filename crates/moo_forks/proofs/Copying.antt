@@ -1,6 +1,7 @@
 -- All variables of a verb, for another program.
-use Rattle.std.proofs.Common.{◌≡◌, ◌∙◌, ap, sym, refl, subst, ℕ, zero, suc, ◌+◌, ◌<◌, ◌⊎◌, inl, inr, ◌||◌, Bool, true, false, cond, List, [], ◌∷◌, ◌++◌, length, map, take, drop, get_or, append_assoc, Bor, Option, Some, None, IsTrue, is_some, arith}
+use Rattle.std.proofs.Common.{◌≡◌, ◌∙◌, ap, sym, refl, subst, ℕ, zero, suc, ◌+◌, ◌<◌, ◌≤◌, ◌⊎◌, inl, inr, ◌||◌, Bool, true, false, cond, List, [], ◌∷◌, ◌++◌, length, map, take, drop, get_or, append_assoc, add-one, Bor, Option, Some, None, IsTrue, is_some, arith}
 use Rattle.std.specs.Prelude.{if◌then◌else◌}
+use Rattle.std.proofs.Math.Seq.{drop-cons}
 use Rattle.std.proofs.lemmas.List.{append-nil, map-append, take_all, take_more}
 use Rattle.std.proofs.lemmas.List.Folds.{list_any-append}
 use Rattle.spec_value.specs.Datum.{Datum, Text, same_text}
@@ -178,16 +179,13 @@ module _ (names : List Text) (table : Named Datum) (n : Text) (rest : List Text)
 
 -- ---- those that are still to come
 
-later : (names : List Text) (i : ℕ) (x : Text) → i < length names → x ≡ get_or names i x → drop i names ≡ x ∷ drop (i + 1) names
-later [] i x small is = absurd (omega arith)
-later (y ∷ names) zero x small is = ap (λ z. z ∷ names) (sym is)
-later (y ∷ names) (suc i) x small is = later names i x (omega arith) is
+module _ {X : Type 0} where
+  later : (xs : List X) (i : ℕ) (x : X) → i < length xs → x ≡ get_or xs i x → drop i xs ≡ x ∷ drop (i + 1) xs
+  later xs i x small is = drop-cons xs i x small ∙ ap (λ z. z ∷ drop (suc i) xs) (sym is) ∙ ap (λ n. x ∷ drop n xs) (sym (add-one i))
 
 later_variable : (vs : List Variable) (i : ℕ) (u : Variable) → i < length vs → u ≡ get_or vs i u
     → keys (map variable_of (drop i vs)) ≡ u.name ∷ keys (map variable_of (drop (i + 1) vs))
-later_variable [] i u small is = absurd (omega arith)
-later_variable (v ∷ vs) zero u small is = ap (λ (z : Variable). z.name ∷ keys (map variable_of vs)) (sym is)
-later_variable (v ∷ vs) (suc i) u small is = later_variable vs i u (omega arith) is
+later_variable vs i u small is = ap (λ us. keys (map variable_of us)) (later vs i u small is)
 
 module _ (names : List Text) (table : Named Datum) (copies : List (Text × Datum)) where
   pub next_name : (own : List Text) (i : ℕ) (x : Text) (more : List Text) → i < length own → x ≡ get_or own i x

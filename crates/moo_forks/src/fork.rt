@@ -1,5 +1,5 @@
 //! The instruction that forks a task.
-ghost use Rattle.std.specs.Prelude.{◌≡◌, ◌<◌, ◌+◌, ◌^◌, [], suc, IfOk, OnOk, MatchOption};
+ghost use Rattle.std.specs.Prelude.{◌≡◌, ◌<◌, ◌+◌, ◌^◌, [], suc, Option, IfOk, OnOk, MatchOption};
 ghost use Rattle.spec_value.specs.Datum.{integer, Text as TextOf};
 ghost use Rattle.spec_program.specs.Tree.{Program as Body};
 ghost use Rattle.spec_world.specs.World.{World};
@@ -63,7 +63,8 @@ pub fn start_fork(
 {
     let names = task.frame.names();
     let body = task.frame.program.body(number as usize)?;
-    match requested(&mut task.frame.state, &task.frame.call, deeds)? {
+    let request = requested(&mut task.frame.state, &task.frame.call, deeds)?;
+    match request {
         Request::Refused(did) => Ok(Fork::NotStarted(did)),
         Request::Granted(id, due) => {
             name_task(&mut task.frame.state, names, variable, id)?;

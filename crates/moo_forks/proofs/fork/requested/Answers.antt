@@ -1,4 +1,7 @@
-use Rattle.std.proofs.Common.{◌≡◌, ◌∙◌, ◌<◌, ap, sym, subst, arith, suc, ◌-◌}
+use mir.Syntax.{w32}
+use mir.Val.{SFits}
+use Rattle.std.proofs.Common.{◌≡◌, ◌∙◌, ◌<◌, ap, sym, subst, arith, rules, suc, ◌-◌, pos, ◌<ℤ◌, ◌≤ℤ◌}
+use Rattle.std.proofs.lemmas.Int.{ints}
 use Rattle.std.specs.Prelude.{IfSome}
 use Rattle.spec_value.specs.Datum.{type_mismatch, invalid_argument, limit_exceeded}
 use Rattle.moo_code.specs.Instruction.{skipped}
@@ -22,8 +25,10 @@ pub returns-then-seconds-lt0-clause-shown : goal.returns-then-seconds-lt0-clause
 returns-then-seconds-lt0-clause-shown c a w x body =
     let s = c.args.state.now in
     let paid : s.ticks ≡ suc (s.ticks - 1) = omega arith in
+    let fits : SFits w32 c.in-Some-seconds_in.seconds = search rules in
+    let past : c.in-Some-seconds_in.seconds <ℤ pos 0 = grind (arith, ints) in
     fork_in_past a c.args.call.now s c.args.deeds.now w x body c.in-Some.value c.pop.new.self (s.ticks - 1) c.in-Some.ensures paid
-    c.in-Some-seconds_in.seconds c.in-Some-seconds_in.ensures c.if-seconds-lt0.true
+    c.in-Some-seconds_in.seconds c.in-Some-seconds_in.ensures past
     ∙ ap (λ n. fails_of (in_scene a c.args.deeds.now w) c.args.call.now skipped n invalid_argument (record s { operands = c.pop.new.self; ticks = s.ticks - 1 })) (sym (next_place s.place))
     ∙ c.skips-did-then-seconds-lt0.ensures (in_scene a c.args.deeds.now w)
 
@@ -31,8 +36,10 @@ pub returns-in_default-2-clause-shown : goal.returns-in_default-2-clause-shown
 returns-in_default-2-clause-shown c a w x body =
     let s = c.args.state.now in
     let paid : s.ticks ≡ suc (s.ticks - 1) = omega arith in
+    let fits : SFits w32 c.in-Some-seconds_in.seconds = search rules in
+    let later : pos 0 ≤ℤ c.in-Some-seconds_in.seconds = grind (arith, ints) in
     fork_without_id a c.args.call.now s c.args.deeds.now w x body c.in-Some.value c.pop.new.self (s.ticks - 1) c.in-Some.ensures paid
-    c.in-Some-seconds_in.seconds c.in-Some-seconds_in.ensures c.if-seconds-lt0.false
+    c.in-Some-seconds_in.seconds c.in-Some-seconds_in.ensures later
     (subst (λ o. IsNextId o (scene_of c.args.deeds.now w (s.ticks - 1))) c.in_default-2.is (c.in_ok-id.ensures.next w (s.ticks - 1)))
     ∙ ap (λ n. fails_of (in_scene a c.args.deeds.now w) c.args.call.now skipped n limit_exceeded (record s { operands = c.pop.new.self; ticks = s.ticks - 1 })) (sym (next_place s.place))
     ∙ c.skips-did-in_default-2.ensures (in_scene a c.args.deeds.now w)
@@ -42,9 +49,11 @@ returns-clause-shown c a w x body =
     let s = c.args.state.now in
     let u = s.ticks - 1 in
     let paid : s.ticks ≡ suc u = omega arith in
+    let fits : SFits w32 c.in-Some-seconds_in.seconds = search rules in
+    let later : pos 0 ≤ℤ c.in-Some-seconds_in.seconds = grind (arith, ints) in
     let known = subst (λ o. IsNextId o (scene_of c.args.deeds.now w u)) c.in-Some-2.is (c.in_ok-id.ensures.next w u) in
     fork_granted a c.args.call.now s c.args.deeds.now w x body c.in-Some.value c.pop.new.self u c.in-Some.ensures paid
-    c.in-Some-seconds_in.seconds c.in-Some-2.id c.moment_after-due.result c.in-Some-seconds_in.ensures c.if-seconds-lt0.false
+    c.in-Some-seconds_in.seconds c.in-Some-2.id c.moment_after-due.result c.in-Some-seconds_in.ensures later
     known.0 known.1 (c.moment_after-due.ensures w u)
 
 pub returns-clause-id : goal.returns-clause-id

@@ -14,21 +14,21 @@ returns-in-Refused-clause-shown c w =
     let x = some_name_at (names_of r.frame.program) c.args.variable in
     let body = body_at (forks_in (code_of r.frame.program)) c.args.number in
     subst (λ q. forks x body c.args.deeds.now w r ≡ request_shown q (in_scene (around_in r c.args.deeds.now w) c.args.deeds.now w) r.frame.call x body c.requested.new.state)
-    c.in-Refused.is (c.in_ok-requested.ensures.shown (around_in r c.args.deeds.now w) w x body)
+    c.in-Refused.is (c.in_ok-request.ensures.shown (around_in r c.args.deeds.now w) w x body)
 
 pub enqueue-requires : goal.enqueue-requires
-enqueue-requires c = subst (λ q. HasId q c.args.deeds.now) c.in-Granted.is c.in_ok-requested.ensures.id
+enqueue-requires c = subst (λ q. HasId q c.args.deeds.now) c.in-Granted.is c.in_ok-request.ensures.id
 
-pub returns-in-Granted-clause-shown : goal.returns-in-Granted-clause-shown
-returns-in-Granted-clause-shown c w =
+pub returns-in_ok-enqueue-in-Granted-clause-shown : goal.returns-in_ok-enqueue-in-Granted-clause-shown
+returns-in_ok-enqueue-in-Granted-clause-shown c w =
     let r = c.args.task.now in
     let x = some_name_at (names_of r.frame.program) c.args.variable in
     let body = body_at (forks_in (code_of r.frame.program)) c.args.number in
-    let stays = subst (λ q. StaysAt q r.frame.state.place c.requested.new.state) c.in-Granted.is c.in_ok-requested.ensures.place in
+    let stays = subst (λ q. StaysAt q r.frame.state.place c.requested.new.state) c.in-Granted.is c.in_ok-request.ensures.place in
     let place = ap (λ (z : State). z.place) c.in_ok-name_task.ensures.same in
     fork_starts r c.requested.new.state c.name_task.new.state c.args.deeds.now c.enqueue.new.deeds w x body c.in-Granted.id c.in-Granted.due _ c.in_ok-started.started
     (subst (λ q. forks x body c.args.deeds.now w r ≡ request_shown q (in_scene (around_in r c.args.deeds.now w) c.args.deeds.now w) r.frame.call x body c.requested.new.state)
-    c.in-Granted.is (c.in_ok-requested.ensures.shown (around_in r c.args.deeds.now w) w x body))
+    c.in-Granted.is (c.in_ok-request.ensures.shown (around_in r c.args.deeds.now w) w x body))
     (c.in_ok-name_task.ensures.named (around_in r c.args.deeds.now w) c.names-names.ensures)
     c.in_ok-name_task.ensures.same (omega (arith, place))
     (c.in_ok-started.ensures ∙ rw c.in_ok-body.ensures refl)

@@ -1,9 +1,10 @@
 use mir.Syntax.{w32}
-use mir.Val.{SFits}
+use mir.Val.{SFits, to_z, of_z}
 use Rattle.std.proofs.Common.{◌≡◌, ◌∙◌, ◌<◌, ap, sym, subst, arith, rules, suc, ◌-◌, pos, ◌<ℤ◌, ◌≤ℤ◌}
-use Rattle.std.proofs.lemmas.Int.{ints}
-use Rattle.std.specs.Prelude.{IfSome}
+use Rattle.std.proofs.lemmas.Int.{ints, to_z-of_z}
+use Rattle.std.specs.Prelude.{IfSome, unsigned_abs}
 use Rattle.spec_value.specs.Datum.{type_mismatch, invalid_argument, limit_exceeded}
+use Rattle.spec_moo.specs.Scene.{moment_after}
 use Rattle.moo_code.specs.Instruction.{skipped}
 use Rattle.moo_machine.specs.Shown.{fails_of}
 use Rattle.moo_machine.proofs.Next.{next_place}
@@ -51,10 +52,13 @@ returns-clause-shown c a w x body =
     let paid : s.ticks ≡ suc u = omega arith in
     let fits : SFits w32 c.in-Some-seconds_in.seconds = search rules in
     let later : pos 0 ≤ℤ c.in-Some-seconds_in.seconds = grind (arith, ints) in
+    let distance : c.unsigned_abs.result ≡ unsigned_abs c.in-Some-seconds_in.seconds = grind (arith, to_z-of_z) in
     let known = subst (λ o. IsNextId o (scene_of c.args.deeds.now w u)) c.in-Some-2.is (c.in_ok-id.ensures.next w u) in
-    fork_granted a c.args.call.now s c.args.deeds.now w x body c.in-Some.value c.pop.new.self u c.in-Some.ensures paid
+    let whole : to_z w32 (of_z w32 c.in-Some-2.id) ≡ c.in-Some-2.id = search rules in
+    rw whole
+    (fork_granted a c.args.call.now s c.args.deeds.now w x body c.in-Some.value c.pop.new.self u c.in-Some.ensures paid
     c.in-Some-seconds_in.seconds c.in-Some-2.id c.moment_after-due.result c.in-Some-seconds_in.ensures later
-    known.0 known.1 (c.moment_after-due.ensures w u)
+    known.0 known.1 (c.moment_after-due.ensures w u ∙ ap (moment_after (scene_of c.args.deeds.now w u)) distance))
 
 pub returns-clause-id : goal.returns-clause-id
 returns-clause-id c = subst (λ o. IfSome o (λ i. c.args.deeds.now.ids_used < 64)) c.in-Some-2.is c.in_ok-id.ensures.left

@@ -5,4 +5,3 @@ pub mod Out
 pub mod Running
 pub mod Steps
 pub mod Traces
-pub mod Whole

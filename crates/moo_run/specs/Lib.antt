@@ -2,4 +2,3 @@ pub mod Calls
 pub mod Scenes
 pub mod Steps
 pub mod Stopping
-pub mod Whole

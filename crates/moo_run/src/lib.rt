@@ -2,7 +2,6 @@
 #![tactic(auto)]
 
 pub mod calling;
-mod forking;
 pub mod leaving;
 pub mod natives;
 mod parts;

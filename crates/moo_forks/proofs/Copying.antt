@@ -1,5 +1,5 @@
 -- All variables of a verb, for another program.
-use Rattle.std.proofs.Common.{◌≡◌, ◌∙◌, ap, sym, refl, subst, ℕ, zero, suc, ◌+◌, ◌<◌, ◌≤◌, ◌⊎◌, inl, inr, ◌||◌, Bool, true, false, cond, List, [], ◌∷◌, ◌++◌, length, map, take, drop, get_or, append_assoc, add-one, Bor, Option, Some, None, IsTrue, is_some, arith}
+use Rattle.std.proofs.Common.{◌≡◌, ◌∙◌, ap, sym, refl, subst, ℕ, suc, ◌+◌, ◌<◌, ◌≤◌, ◌⊎◌, inl, inr, ◌||◌, Bool, true, false, cond, List, [], ◌∷◌, ◌++◌, length, map, take, drop, get_or, append_assoc, add-one, Bor, Option, Some, None, IsTrue, is_some}
 use Rattle.std.specs.Prelude.{if◌then◌else◌}
 use Rattle.std.proofs.Math.Seq.{drop-cons}
 use Rattle.std.proofs.lemmas.List.{append-nil, map-append, take_all, take_more}
@@ -11,7 +11,6 @@ use Rattle.spec_program.specs.Tree.{Program}
 use Rattle.spec_world.specs.World.{Call, Start}
 use Rattle.spec_world.specs.WellFormed.{has_name}
 use Rattle.spec_world.proofs.SlotTables.{key_there, sought}
-use Rattle.moo_code.specs.Machine.{Kept}
 use Rattle.moo_code.specs.Names.{starting_names, names_of}
 use Rattle.moo_code.specs.Slots.{others, variables_with}
 use Rattle.moo_code.proofs.Slots.{others_named, others_sorted, others_stay, table_is_split, variables_sorted}

@@ -1,8 +1,6 @@
 -- Forks: who is refused, and the task that is queued.
 use Rattle.std.proofs.Common.{◌≡◌, ◌∙◌, ap, sym, refl, arith, cond, ℕ, suc, ◌<◌, ℤ, pos, negsuc, ◌≤ℤ◌, ◌<ℤ◌, true, false, List, [], ◌∷◌, length, Option, Some, None}
 use Rattle.std.specs.Prelude.{slice_set, unsigned_abs}
-use Rattle.std.specs.declared.vec.Vec.{Vec}
-use Rattle.std.specs.declared.alloc.Global.{Global}
 use Rattle.std.proofs.lemmas.Int.{ints}
 use Rattle.spec_value.specs.Datum.{Datum, integer, object, text, error, list, Text, ErrorCode, type_mismatch, invalid_argument, limit_exceeded}
 use Rattle.spec_value.specs.Table.{Named}

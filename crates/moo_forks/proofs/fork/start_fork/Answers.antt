@@ -1,6 +1,6 @@
 use mir.Syntax.{w32}
 use mir.Val.{to_z, of_z}
-use Rattle.std.proofs.Common.{◌≡◌, ◌∙◌, ◌<◌, ap, sym, subst, arith, rules, suc, refl}
+use Rattle.std.proofs.Common.{◌≡◌, ◌∙◌, ap, subst, arith, rules, refl}
 use Rattle.moo_code.specs.Layout.{code_of}
 use Rattle.moo_code.specs.Names.{names_of}
 use Rattle.moo_program.specs.Gathering.{forks_in}

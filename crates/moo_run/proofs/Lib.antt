@@ -5,3 +5,4 @@ pub mod Out
 pub mod Running
 pub mod Steps
 pub mod Traces
+pub mod Whole

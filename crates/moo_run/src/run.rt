@@ -2,8 +2,12 @@
 ghost use Rattle.std.specs.Prelude.{◌≡◌, IfOk, OnOk};
 ghost use Rattle.inherit.specs.Lines.{AreWellFormed};
 ghost use Rattle.view.specs.Law.{Goes, Lasts};
+ghost use Rattle.spec_world.specs.World.{World};
 ghost use Rattle.moo_frame.specs.Outcomes.{running_kept};
-ghost use Rattle.moo_run.specs.Stopping.{IsUnderWay, StopsAsSegment, stopped_at};
+ghost use Rattle.moo_task.specs.UnderWay.{IsUnderWay};
+ghost use Rattle.moo_run.specs.Scenes.{scene_at};
+ghost use Rattle.moo_run.specs.Stopping.{StopsAsSegment, stopped_at};
+ghost use Rattle.moo_run.specs.Whole.{StandsWhole};
 
 use crate::natives::Natives;
 use crate::step::step;
@@ -15,7 +19,8 @@ use moo_frame::running::Running;
 use std::alloc::{AllocError, Global};
 use view::law::View;
 
-/// Runs a task, which begins or goes on behind a call, until it stops.
+/// Runs a task, which begins or goes on behind a call, until it stops. A fork puts a task into the world, so what is under way is to
+/// hold what fits its programs.
 pub fn run<V: View, N: Natives>(
     alloc: Global,
     view: &mut V,
@@ -26,6 +31,7 @@ pub fn run<V: View, N: Natives>(
     requires home { V.holds view.old (V.home view.old) }
     requires well_formed { AreWellFormed V.holds V.now view.old }
     requires under_way { IsUnderWay (running_kept task) task.outer }
+    requires whole { (w : World) → V.holds view.old w → StandsWhole (scene_at deeds (V.now view.old w) task) task.player (running_kept task) task.outer }
     ensures lasts { Lasts V.holds V.home V.anchor view.old view.new result }
     ensures stopped { IfOk result (λ s. Goes V.holds V.now view.old view.new
         (λ before after. StopsAsSegment deeds before task (stopped_at s after))) }

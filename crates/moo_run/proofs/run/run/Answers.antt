@@ -7,9 +7,11 @@ use Rattle.moo_code.specs.Lasting.{lasting}
 use Rattle.moo_code.specs.Runs.{ran, IsOver}
 use Rattle.moo_frame.specs.Outcomes.{ticks_of, running_kept}
 use Rattle.moo_frame.specs.declared.outcome.Outcome.{Outcome}
-use Rattle.moo_run.specs.Scenes.{scene_at, led_at}
+use Rattle.inherit.specs.Lines.{AreWellFormed}
+use Rattle.moo_run.specs.Scenes.{scene_at, led_at, UnlessOn}
 use Rattle.moo_run.specs.Stopping.{bound_of, begun_at, stopped_at}
 use Rattle.moo_run.proofs.Running.{comes_on, comes_first, falls_on, over_on, operands_there, over_first, stops, step_to}
+use Rattle.moo_run.proofs.Whole.{world_whole, step_whole}
 use Rattle.moo_run.proofs.run.run.Goals as goal
 
 pub instructions-init : goal.instructions-init
@@ -19,6 +21,7 @@ instructions-init g c =
       home = refl;
       held = c.requires.home;
       well_formed = c.requires.well_formed;
+      whole = c.requires.whole;
       player = refl;
       over = over_first c.args.task.player (scene_at c.args.deeds (g.V.View.now c.args.view.now (g.V.View.home c.args.view.now)) c.args.task) (running_kept c.args.task) c.args.task.outer
           (ticks_of c.args.task) c.requires.under_way;
@@ -50,11 +53,16 @@ instructions-preserved g c =
     step_to c.args.task.player c.instructions.task c.step.new.task c.instructions.deeds c.step.new.deeds (view.now c.instructions.view w) (view.now c.step.new.view w) c.in_ok-outcome.outcome
     (begun_at c.step.new.deeds (view.now c.step.new.view w) c.step.new.task) c.instructions.invariant.player (c.in_ok-outcome.ensures.step w h).1
     (ap (λ (o : Outcome). led_at o c.step.new.deeds (view.now c.step.new.view w) c.step.new.task) c.in-On.is) in
+    let whole = λ (w : World) (h : view.holds c.step.new.view w).
+    step_whole c.args.task.player (scene_at c.instructions.deeds (view.now c.instructions.view w) c.instructions.task) (scene_at c.step.new.deeds (view.now c.step.new.view w) c.step.new.task)
+    (running_kept c.instructions.task) (running_kept c.step.new.task) c.instructions.task.outer c.step.new.task.outer (ticks_of c.instructions.task) (ticks_of c.step.new.task)
+    (c.instructions.invariant.whole w (c.in_ok-outcome.ensures.step w h).0) (on_then w h) in
     record {
       anchor = c.in_ok-outcome.ensures.lasts.anchor_stays ∙ c.instructions.invariant.anchor;
       home = c.in_ok-outcome.ensures.lasts.home_stays ∙ c.instructions.invariant.home;
       held = c.in_ok-outcome.ensures.lasts.home_is_left;
-      well_formed = c.in_ok-outcome.ensures.well_formed;
+      well_formed = λ w h. let left = whole w h in world_whole (scene_at c.step.new.deeds (view.now c.step.new.view w) c.step.new.task) left.pending left.whole;
+      whole = whole;
       player = c.in_ok-outcome.ensures.player ∙ c.instructions.invariant.player;
       over = subst (λ (x : World). IsOver (ran c.args.task.player b (begun_at c.step.new.deeds (view.now c.step.new.view x) c.step.new.task))) (sym c.in_ok-outcome.ensures.lasts.home_stays)
           (over_on c.args.task.player b (scene_at c.instructions.deeds (view.now c.instructions.view home) c.instructions.task) (running_kept c.instructions.task) c.instructions.task.outer
@@ -125,3 +133,15 @@ unreachable-requires-in-LacksOperand g c =
     (step_to c.args.task.player c.instructions.task c.step.new.task c.instructions.deeds c.step.new.deeds (view.now c.instructions.view home) (view.now c.step.new.view home) c.in_ok-outcome.outcome
     lacks_operand c.instructions.invariant.player (c.in_ok-outcome.ensures.step home held).1
     (ap (λ (o : Outcome). led_at o c.step.new.deeds (view.now c.step.new.view home) c.step.new.task) c.in-LacksOperand.is))
+
+pub returns-in-Ends-clause-well_formed : goal.returns-in-Ends-clause-well_formed
+returns-in-Ends-clause-well_formed g c =
+    subst (λ (o : Outcome). UnlessOn o (AreWellFormed g.V.View.holds g.V.View.now c.step.new.view)) c.in-Ends.is c.in_ok-outcome.ensures.well_formed
+
+pub returns-in-RanOut-clause-well_formed : goal.returns-in-RanOut-clause-well_formed
+returns-in-RanOut-clause-well_formed g c =
+    subst (λ (o : Outcome). UnlessOn o (AreWellFormed g.V.View.holds g.V.View.now c.step.new.view)) c.in-RanOut.is c.in_ok-outcome.ensures.well_formed
+
+pub returns-in-Waits-clause-well_formed : goal.returns-in-Waits-clause-well_formed
+returns-in-Waits-clause-well_formed g c =
+    subst (λ (o : Outcome). UnlessOn o (AreWellFormed g.V.View.holds g.V.View.now c.step.new.view)) c.in-Waits.is c.in_ok-outcome.ensures.well_formed

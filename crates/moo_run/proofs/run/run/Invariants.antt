@@ -3,6 +3,9 @@ use Rattle.spec_world.specs.World.{World}
 use Rattle.inherit.specs.Lines.{AreWellFormed}
 use Rattle.moo_code.specs.Runs.{ran, IsOver}
 use Rattle.moo_code.specs.Lasting.{lasting}
+use Rattle.moo_frame.specs.Outcomes.{running_kept}
+use Rattle.moo_run.specs.Scenes.{scene_at}
+use Rattle.moo_run.specs.Whole.{StandsWhole}
 use Rattle.moo_run.specs.Stopping.{bound_of, begun_at, Comes}
 use Rattle.moo_run.proofs.run.run.Given as goal
 
@@ -12,6 +15,7 @@ invariant-instructions g l = let view = g.V.View in record {
   home : view.home l.view ≡ view.home l.fn.view;
   held : view.holds l.view (view.home l.view);
   well_formed : AreWellFormed view.holds view.now l.view;
+  whole : (w : World) → view.holds l.view w → StandsWhole (scene_at l.deeds (view.now l.view w) l.task) l.fn.task.player (running_kept l.task) l.task.outer;
   player : l.task.player ≡ l.fn.task.player;
   over : IsOver (ran l.fn.task.player (bound_of l.fn.deeds (view.now l.fn.view (view.home l.fn.view)) l.fn.task) (begun_at l.deeds (view.now l.view (view.home l.view)) l.task));
   comes : (w : World) → view.holds l.view w

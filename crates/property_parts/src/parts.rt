@@ -2,7 +2,7 @@
 ghost use Rattle.std.specs.Prelude.{◌≡◌, ◌<◌, length, IfOk, OnOk};
 ghost use Rattle.spec_moo.specs.Effects.Lists.{length_in};
 ghost use Rattle.moo_value.specs.Answers.{answer_of};
-ghost use Rattle.moo_targets.specs.Targets.{part_answer};
+ghost use Rattle.moo_targets.specs.Targets.{part_answer, whole_answer};
 ghost use Rattle.inherit.specs.Lines.{AreWellFormed};
 ghost use Rattle.view.specs.Law.{Goes, Lasts, Tells};
 ghost use Rattle.access.specs.Writing.{IsWritten};
@@ -10,7 +10,7 @@ ghost use Rattle.property_parts.specs.Parts.{part_there, part_written};
 
 use access::reading::read_property;
 use access::writing::write_property;
-use moo_machine::lengths::length;
+use moo_machine::lengths::length as length_of;
 use moo_program::instruction::Bracket;
 use moo_targets::parts::{part, put};
 use moo_value::answer::Answer;
@@ -53,7 +53,7 @@ fn length_behind(
 {
     match whole {
         Ok(whole) => match part(alloc, &whole, brackets, values)? {
-            Ok(value) => Ok(length(&value)),
+            Ok(value) => Ok(length_of(&value)),
             Err(error) => Ok(Err(error)),
         },
         Err(error) => Ok(Err(error)),
@@ -80,13 +80,35 @@ pub fn write_part<V: View>(
     let [object, name, inner @ ..] = values else {
         return Ok(Err(MooError::TypeMismatch));
     };
-    let mut whole = match read_property(alloc, view, programmer, object, name)? {
+    let whole = read_property(alloc, view, programmer, object, name)?;
+    let changed = whole_with(alloc, whole, brackets, inner, value)?;
+    match changed {
+        Ok(whole) => {
+            let written = write_property(alloc, view, programmer, object, name, whole)?;
+            Ok(written)
+        }
+        Err(error) => Ok(Err(error)),
+    }
+}
+
+// A value, if there is one, with another part behind brackets.
+#[tactic(auto, using(crate::proofs::Writing::none_whole))]
+fn whole_with(
+    alloc: Global,
+    whole: Answer,
+    brackets: &[Bracket],
+    values: &[Value],
+    value: Value,
+) -> Result<Answer, AllocError>
+    requires { 0 < length brackets.now }
+    ensures { IfOk result (λ a. whole_answer (answer_of whole) brackets.now values.now value ≡ answer_of a) }
+{
+    let mut whole = match whole {
         Ok(whole) => whole,
         Err(error) => return Ok(Err(error)),
     };
-    if let Err(error) = put(alloc, &mut whole, brackets, inner, value)? {
-        return Ok(Err(error));
+    match put(alloc, &mut whole, brackets, values, value)? {
+        Ok(()) => Ok(Ok(whole)),
+        Err(error) => Ok(Err(error)),
     }
-    let written = write_property(alloc, view, programmer, object, name, whole)?;
-    Ok(written)
 }

@@ -1,4 +1,4 @@
-use Rattle.std.proofs.Common.{◌≡◌, ◌∙◌, ◌<◌, ap, sym, suc, ◌+◌, ◌-◌, ◌∷◌, arith, rules, w32, to_z, of_z, length, drop, take, reverse, get_or}
+use Rattle.std.proofs.Common.{◌≡◌, ◌∙◌, ◌<◌, ap, sym, suc, ◌+◌, ◌-◌, arith, rules, w32, to_z, of_z, length, drop, take, reverse, get_or}
 use Rattle.std.proofs.lemmas.List.{length-reverse, length-take}
 use Rattle.spec_world.specs.World.{Call}
 use Rattle.moo_code.specs.Instruction as code

@@ -1,7 +1,6 @@
-use Rattle.std.proofs.Common.{◌≡◌, ◌∙◌, ◌<◌, suc, arith, length}
+use Rattle.std.proofs.Common.{arith}
 use Rattle.moo_code.specs.Instruction as code
 use Rattle.moo_machine.specs.declared.verb.Did.TheVariants.{RanOut, LacksOperand}
-use Rattle.moo_targets.specs.Targets.{count_in}
 use Rattle.moo_objects.proofs.Asking.{still}
 use Rattle.property_parts.proofs.Storing.{shape, store_unpaid, store_lacks}
 use Rattle.property_parts.proofs.instructions.store_part.Goals as goal

@@ -1,4 +1,4 @@
-use Rattle.std.proofs.Common.{◌≡◌, ◌∙◌, ◌∷◌, ap, sym, subst, arith, rules, ◌-◌, length, take, drop, List, w32, to_z, of_z}
+use Rattle.std.proofs.Common.{◌≡◌, ◌∷◌, sym, subst, arith, rules, ◌-◌, length, take, drop, List, w32, to_z, of_z}
 use Rattle.spec_value.specs.Datum.{Datum}
 use Rattle.spec_moo.specs.Effects.Lists.{length_in}
 use Rattle.moo_value.specs.Answers.{answer_of}

@@ -38,7 +38,8 @@ pub fn fork<V: View>(
     ensures player { IfOk result (λ o. task.new.player ≡ task.old.player) }
     ensures well_formed { IfOk result (λ o. UnlessOn o (AreWellFormed V.holds V.now view.new)) }
 {
-    match start_fork(alloc, task, deeds, variable, number)? {
+    let forked = start_fork(alloc, task, deeds, variable, number)?;
+    match forked {
         Fork::NotStarted(did) => {
             let outcome = led_by(alloc, task, did)?;
             Ok(outcome)

@@ -1,4 +1,4 @@
-use Rattle.std.proofs.Common.{◌≡◌, ◌∙◌, ap, sym}
+use Rattle.std.proofs.Common.{◌≡◌, ◌∙◌, ap, sym, rules, w32, to_z, of_z}
 use Rattle.spec_world.specs.World.{World}
 use Rattle.inherit.specs.Lines.{AreWellFormed}
 use Rattle.moo_forks.specs.Forking.{fork_shown}
@@ -8,22 +8,23 @@ use Rattle.moo_run.specs.Scenes.{scene_at, led_at}
 use Rattle.moo_run.proofs.Oks.{whichever}
 use Rattle.moo_run.proofs.forking.fork.Goals as goal
 
-pub returns-in-NotStarted-clause-led : goal.returns-in-NotStarted-clause-led
-returns-in-NotStarted-clause-led g c w h =
+pub returns-in_ok-outcome-in-NotStarted-clause-led : goal.returns-in_ok-outcome-in-NotStarted-clause-led
+returns-in_ok-outcome-in-NotStarted-clause-led g c w h =
     let u : World = g.V.View.now c.args.view.now w in (
       h,
-      c.in_ok-start_fork.ensures.shown u ∙ ap (λ (f : Fork). fork_shown f c.start_fork.new.deeds u c.start_fork.new.task) c.in-NotStarted.is
-          ∙ c.in_ok-outcome.ensures (scene_at c.start_fork.new.deeds u c.start_fork.new.task),
+      c.in_ok-forked.ensures.shown u ∙ ap (λ (f : Fork). fork_shown f c.start_fork.new.deeds u c.start_fork.new.task) c.in-NotStarted.is
+          ∙ c.in_ok-outcome-in-NotStarted.ensures (scene_at c.start_fork.new.deeds u c.start_fork.new.task),
     )
 
-pub returns-in-NotStarted-clause-well_formed : goal.returns-in-NotStarted-clause-well_formed
-returns-in-NotStarted-clause-well_formed g c = whichever (AreWellFormed g.V.View.holds g.V.View.now c.args.view.now) c.in_ok-outcome.outcome c.requires.well_formed
+pub returns-in_ok-outcome-in-NotStarted-clause-well_formed : goal.returns-in_ok-outcome-in-NotStarted-clause-well_formed
+returns-in_ok-outcome-in-NotStarted-clause-well_formed g c = whichever (AreWellFormed g.V.View.holds g.V.View.now c.args.view.now) c.in_ok-outcome-in-NotStarted.outcome c.requires.well_formed
 
-pub returns-in-Started-clause-led : goal.returns-in-Started-clause-led
-returns-in-Started-clause-led g c w h =
-    let put = c.in_ok-write_task.ensures.left w h in
+pub returns-in_ok-write_task-in-Started-clause-led : goal.returns-in_ok-write_task-in-Started-clause-led
+returns-in_ok-write_task-in-Started-clause-led g c w h =
+    let put = c.in_ok-write_task-in-Started.ensures.left w h in
+    let whole : to_z w32 (of_z w32 c.in-Started.id) ≡ c.in-Started.id = search rules in
     let u : World = g.V.View.now c.args.view.now w in (
       put.0,
-      c.in_ok-start_fork.ensures.shown u ∙ ap (λ (f : Fork). fork_shown f c.start_fork.new.deeds u c.start_fork.new.task) c.in-Started.is
-          ∙ ap (λ (v : World). led_at On c.start_fork.new.deeds v c.start_fork.new.task) (sym put.1),
+      c.in_ok-forked.ensures.shown u ∙ ap (λ (f : Fork). fork_shown f c.start_fork.new.deeds u c.start_fork.new.task) c.in-Started.is
+          ∙ ap (λ (v : World). led_at On c.start_fork.new.deeds v c.start_fork.new.task) (sym (rw whole at put.1)),
     )

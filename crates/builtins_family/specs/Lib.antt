@@ -1,0 +1,3 @@
+pub mod Defining
+pub mod InTurn
+pub mod Slots

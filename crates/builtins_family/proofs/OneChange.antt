@@ -19,58 +19,8 @@ use Rattle.spec_world.proofs.ObjectChanges.{at_change}
 use Rattle.view.specs.Law.{Goes}
 use Rattle.family.specs.Below.{IsFamily}
 use Rattle.family.proofs.Walking.{below_itself}
-use Rattle.builtins_family.specs.InTurn.{in_turn}
-
--- ---- one after the other
-
-at_in_turn : (f : ℤ → Object → Object) → ((d : ℤ) (x : Object) → f d (f d x) ≡ f d x) → (ds : List ℤ) (w : World) (q : ℤ)
-    → object_at (in_turn f ds w) q ≡ option_map (λ x. cond (lists ds q) (f q x) x) (object_at w q)
-at_in_turn f again [] w q = go (object_at w q)
-  where
-    go : (m : Option Object) → m ≡ option_map (λ x. x) m
-    go None = refl
-    go (Some x) = refl
-at_in_turn f again (d ∷ ds) w q =
-    at_in_turn f again ds (change_object w d (f d)) q ∙ ap (option_map (λ x. cond (lists ds q) (f q x) x)) (at_change w d q (f d)) ∙ go (object_at w q) (same_or_not q d)
-  where
-    both : (b : Bool) (m : Option Object) → option_map (λ x. cond b (f q x) x) (option_map (λ y. f q y) m) ≡ option_map (λ x. f q x) m
-    both b None = refl
-    both true (Some y) = ap Some (again q y)
-    both false (Some y) = refl
-
-    alone : (b : Bool) (m : Option Object) → option_map (λ x. cond b (f q x) x) (option_map (λ y. y) m) ≡ option_map (λ x. cond b (f q x) x) m
-    alone b None = refl
-    alone b (Some y) = refl
-
-    go : (m : Option Object) → (q ≡ d) ⊎ (int_eq q d ≡ false)
-        → option_map (λ x. cond (lists ds q) (f q x) x) (option_map (λ y. cond (int_eq q d) (f d y) y) m) ≡ option_map (λ x. cond (int_eq q d || lists ds q) (f q x) x) m
-    go m (inl e) =
-        let here : int_eq q d ≡ true = subst (λ z. int_eq q z ≡ true) e (integer_itself q) in
-        ap (λ b. option_map (λ x. cond (lists ds q) (f q x) x) (option_map (λ y. cond b (f d y) y) m)) here
-        ∙ ap (λ z. option_map (λ x. cond (lists ds q) (f q x) x) (option_map (λ y. f z y) m)) (sym e)
-        ∙ both (lists ds q) m ∙ ap (λ b. option_map (λ x. cond (b || lists ds q) (f q x) x) m) (sym here)
-    go m (inr e) =
-        ap (λ b. option_map (λ x. cond (lists ds q) (f q x) x) (option_map (λ y. cond b (f d y) y) m)) e
-        ∙ alone (lists ds q) m ∙ ap (λ b. option_map (λ x. cond (b || lists ds q) (f q x) x) m) (sym e)
-
-in_turn_numbered : (f : ℤ → Object → Object) (ds : List ℤ) (w : World) → IsTrue (is_numbered w.objects) → IsTrue (is_numbered (in_turn f ds w).objects)
-in_turn_numbered f [] w h = h
-in_turn_numbered f (d ∷ ds) w h = in_turn_numbered f ds (change_object w d (f d)) (change_numbered w d (f d) h)
-
-one_alone : (w : World) (d : ℤ) (f : Object → Object) → change_object w d f ≡ record w { objects = (change_object w d f).objects }
-one_alone w d f = go (object_at w d)
-  where
-    go : (m : Option Object) → change_at w d f m ≡ record w { objects = (change_at w d f m).objects }
-    go None = refl
-    go (Some x) = refl
-
-objects_alone : (f : ℤ → Object → Object) (ds : List ℤ) (w : World) → in_turn f ds w ≡ record w { objects = (in_turn f ds w).objects }
-objects_alone f [] w = refl
-objects_alone f (d ∷ ds) w =
-    objects_alone f ds (change_object w d (f d)) ∙ ap (λ (u : World). record u { objects = (in_turn f ds (change_object w d (f d))).objects }) (one_alone w d (f d))
-
-same_tables : (es fs : Numbered Object) → IsTrue (is_numbered es) → IsTrue (is_numbered fs) → ((q : ℤ) → at es q ≡ at fs q) → es ≡ fs
-same_tables es fs g h is = same_entries int_cmp int_cmp_total int_cmp-IsAntisymmetric es fs (as_type _ g) (as_type _ h) is
+use Rattle.family.specs.InTurn.{in_turn}
+use Rattle.family.proofs.OneByOne.{at_in_turn, in_turn_numbered, one_alone, objects_alone, same_tables}
 
 -- ---- an object defines other properties, and it and each below it are changed
 

@@ -1,3 +1,2 @@
 pub mod Defining
-pub mod InTurn
 pub mod Slots

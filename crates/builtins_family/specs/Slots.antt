@@ -1,16 +1,12 @@
--- What objects get and lose with a property.
+-- What objects get with a property.
 use Rattle.std.specs.Prelude.{ℤ, Bool, false, ◌||◌, List, [], ◌∷◌, map, if◌then◌else◌, Option, Some, None}
 use Rattle.std.specs.Ordering.{int_eq}
 use Rattle.spec_value.specs.Datum.{Text, fold_case}
 use Rattle.spec_world.specs.World.{World, Object, Slot}
 use Rattle.spec_world.specs.WellFormed.{has_name}
 use Rattle.spec_world.specs.Families.{heir_slot}
-use Rattle.spec_world.specs.Members.{with_own_slot, lose_slot}
+use Rattle.spec_world.specs.Members.{with_own_slot}
 use Rattle.spec_view.specs.Questions.{defines_at}
-
--- each loses its slot
-abbrev pub losing : Text → ℤ → Object → Object
-losing p d x = lose_slot x p
 
 -- the object that defines a property has this slot, and another one with this owner has an heir's
 abbrev pub slot_for : ℤ → Slot → ℤ → ℤ → Slot

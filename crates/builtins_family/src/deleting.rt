@@ -11,9 +11,9 @@ ghost use Rattle.view.specs.Law.{Goes, Lasts};
 ghost use Rattle.builtins_world.specs.Said.{Does};
 ghost use Rattle.family.specs.Below.{IsFamily};
 
-use crate::each::lose_slots;
 use builtins_world::properties::has_name;
 use family::below::below;
+use family::losing::lose_slots;
 use footprint::lists::Names;
 use footprint::part::Part;
 use moo_value::answer::Answer;

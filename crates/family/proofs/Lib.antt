@@ -1,1 +1,3 @@
 pub mod Walking
+pub mod Anyone
+pub mod OneByOne

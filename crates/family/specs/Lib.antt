@@ -1,1 +1,3 @@
 pub mod Below
+pub mod InTurn
+pub mod Losing

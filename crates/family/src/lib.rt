@@ -4,3 +4,4 @@
 #![tactic(auto)]
 
 pub mod below;
+pub mod losing;

@@ -1,8 +1,8 @@
 use Rattle.std.proofs.Common.{w32, to_z, of_z}
 use Rattle.std.proofs.lemmas.Int.{to_z-of_z}
 use Rattle.footprint.specs.Meanings.{part_of}
-use Rattle.builtins_family.proofs.Slots.{lost_told}
-use Rattle.builtins_family.proofs.each.lose_slot.Goals as goal
+use Rattle.family.proofs.OneByOne.{lost_told}
+use Rattle.family.proofs.losing.lose_slot.Goals as goal
 
 pub returns-clause-left : goal.returns-clause-left
 returns-clause-left g c =

@@ -1,8 +1,8 @@
 use Rattle.std.proofs.Common.{◌≡◌, drop}
 use Rattle.view.specs.Law.{Goes}
-use Rattle.builtins_family.specs.InTurn.{in_turn}
-use Rattle.builtins_family.specs.Slots.{losing}
-use Rattle.builtins_family.proofs.each.lose_slots.Given as goal
+use Rattle.family.specs.InTurn.{in_turn}
+use Rattle.family.specs.Losing.{losing}
+use Rattle.family.proofs.losing.lose_slots.Given as goal
 
 abbrev pub invariant-loop-object : goal.invariant-loop-object
 invariant-loop-object g l =

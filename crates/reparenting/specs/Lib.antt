@@ -1,0 +1,3 @@
+pub mod Along
+pub mod Heirs
+pub mod Clashes

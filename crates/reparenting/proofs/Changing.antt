@@ -1,8 +1,7 @@
 -- What several calls in a row do to the world.
-use Rattle.std.proofs.Common.{◌≡◌, ℤ, List, Result, Ok, Err, OnOk, refl, sym, ap, ◌∙◌, subst}
+use Rattle.std.proofs.Common.{◌≡◌, ℤ, List, Result, Ok, Err, OnOk, sym, ap, ◌∙◌}
 use Rattle.spec_value.specs.Datum.{Text}
 use Rattle.spec_world.specs.World.{World, Slot, object_at}
-use Rattle.spec_world.specs.WellFormed.{IsWellFormed}
 use Rattle.spec_world.specs.Families.{parent_of, put_below, with_heirs, reparented}
 use Rattle.inherit.specs.Lines.{AreWellFormed}
 use Rattle.family.specs.Below.{IsFamily}

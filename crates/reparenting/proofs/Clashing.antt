@@ -1,5 +1,5 @@
 -- A property that one of a family defines, and that the next parent has, is a clash.
-use Rattle.std.proofs.Common.{◌≡◌, ℤ, Bool, false, ◌||◌, List, [], ◌∷◌, map, Option, Some, None, refl, sym, ap, ◌∙◌, is_some}
+use Rattle.std.proofs.Common.{◌≡◌, ℤ, Bool, ◌||◌, List, [], ◌∷◌, map, Option, Some, None, refl, sym, ap, ◌∙◌, is_some}
 use Rattle.std.specs.Prelude.{option_map}
 use Rattle.std.specs.List.{list_any}
 use Rattle.spec_value.specs.Datum.{Text, fold_case}

@@ -1,5 +1,5 @@
 -- An object that inherits a slot, over a view.
-use Rattle.std.proofs.Common.{◌≡◌, ℤ, true, Option, Some, None, Result, Ok, Err, OnOk, refl, sym, ap, ◌∙◌, subst, is_some, is_none}
+use Rattle.std.proofs.Common.{◌≡◌, ℤ, true, Option, Some, None, Result, Ok, Err, OnOk, refl, sym, ap, ◌∙◌, is_some, is_none}
 use Rattle.std.specs.Prelude.{option_map}
 use Rattle.spec_value.specs.Datum.{Text}
 use Rattle.spec_world.specs.World.{World, Header, Object, Slot, object_at, with_object}

@@ -1,4 +1,4 @@
-use Rattle.std.proofs.Common.{◌≡◌, ◌+◌, false, drop, get_or, pos, ap, ◌∙◌, rules, w32, to_z, of_z}
+use Rattle.std.proofs.Common.{◌≡◌, ◌+◌, false, drop, get_or, pos, ◌∙◌, rules, w32, to_z, of_z}
 use Rattle.std.proofs.lemmas.Int.{to_z-of_z}
 use Rattle.spec_view.specs.Questions.{defines_at}
 use Rattle.reparenting.specs.Clashes.{any_slot, any_clashes}

@@ -4,7 +4,7 @@ use Rattle.spec_world.specs.World.{Header}
 use Rattle.spec_world.specs.Inherit.{with_slot}
 use Rattle.spec_world.specs.Families.{heir_slot}
 use Rattle.view.specs.Law.{Goes}
-use Rattle.reparenting.proofs.OneHeir.{had_told, gone_told, heir_told}
+use Rattle.reparenting.proofs.OneHeir.{heir_told}
 use Rattle.reparenting.proofs.heirs.inherit_slot.Goals as goal
 
 pub returns-clause-left : goal.returns-clause-left

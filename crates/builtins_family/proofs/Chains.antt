@@ -2,7 +2,7 @@
 use Rattle.std.proofs.Common.{◌≡◌, ℤ, Bool, true, false, not, ◌&&◌, List, [], ◌∷◌, map, is_none, is_some, Option, Some, None, refl, sym, ap, ◌∙◌, subst, if◌then◌else◌}
 use Rattle.std.specs.Prelude.{option_map, codes}
 use Rattle.spec_value.specs.Datum.{Datum, Text, object, text, fold_case, invalid_argument, property_not_found, permission_denied}
-use Rattle.spec_value.specs.Answer.{gives}
+use Rattle.spec_value.specs.Answer.{gives, raises}
 use Rattle.spec_world.specs.World.{World, Object, Slot, object_at}
 use Rattle.spec_world.specs.Inherit.{slot_at}
 use Rattle.spec_world.specs.WellFormed.{IsWellFormed, has_name}
@@ -56,10 +56,10 @@ is_given s k o p t owner b ts is allowed =
 
 -- ---- a property that is there and may be taken out
 
-is_deleted : (s : Scene) (k : Caller) (o : ℤ) (p : Text) (ts : List Text) → defines_at s.world o ≡ Some ts → has_name (map fold_case ts) (fold_case p) ≡ true
-    → may s.world k.call.programmer (change_members o) ≡ true
-    → delete_property_row s k (object o ∷ text p ∷ []) ≡ answers_with (in_world s (property_deleted s.world o p)) zero_value
-is_deleted s k o p ts is named allowed =
+is_decided : (s : Scene) (k : Caller) (o : ℤ) (p : Text) (ts : List Text) (b : Bool) → defines_at s.world o ≡ Some ts → has_name (map fold_case ts) (fold_case p) ≡ true
+    → may s.world k.call.programmer (change_members o) ≡ b
+    → delete_property_row s k (object o ∷ text p ∷ []) ≡ (if b then answers_with (in_world s (property_deleted s.world o p)) zero_value else refuses s permission_denied)
+is_decided s k o p ts b is named allowed =
     found (object_at s.world o) is ∙ ap (λ z. if z then done else refuses s permission_denied) allowed
   where
     done : NativeEffect
@@ -72,6 +72,17 @@ is_deleted s k o p ts is named allowed =
         → if_there s invalid_argument y (λ x. if defines_it x p then whole else refuses s property_not_found) ≡ whole
     found None e = cc
     found (Some x) e = ap (λ us. if has_name (map fold_case us) (fold_case p) then whole else refuses s property_not_found) (some_same e) ∙ ap (λ z. if z then whole else refuses s property_not_found) named
+
+pub refused_does : {V : Type 0} (holds : V → World → Type 0) (now : V → World → World) (a b c : V) (o : ℤ) (p : Text) (ts : List Text) (who : ℤ)
+    → Tells holds now a b (λ w. defines_at w o ≡ Some ts) → has_name (map fold_case ts) (fold_case p) ≡ true → Tells holds now b c (λ w. may w who (change_members o) ≡ false)
+    → Goes holds now a c (λ before after. Does (λ s k. delete_property_row s k (object o ∷ text p ∷ [])) before after who (raises permission_denied))
+refused_does holds now a b c o p ts who first named second w left =
+    let s = second w left in
+    let r = first w s.0 in (
+      r.0,
+      λ sc k. is_decided (in_world sc (now a w)) (with_programmer k who) o p ts false r.1.1 named (subst (λ v. may v who (change_members o) ≡ false) r.1.0 s.1.1)
+          ∙ ap (λ v. refuses (in_world sc v) permission_denied) (sym (s.1.0 ∙ r.1.0)),
+    )
 
 pub deleted_does : {V : Type 0} (holds : V → World → Type 0) (now : V → World → World) (a b c d e : V) (o : ℤ) (p : Text) (ts : List Text) (ds : List ℤ) (who : ℤ) (v : Datum)
     → v ≡ zero_value → AreWellFormed holds now a → Tells holds now a b (λ w. defines_at w o ≡ Some ts) → has_name (map fold_case ts) (fold_case p) ≡ true
@@ -89,6 +100,6 @@ deleted_does holds now a b c d e o p ts ds who v zero known first named second t
     in
     let changed : property_deleted (now a w) o p ≡ now e w = sym (after ∙ ap (λ v. property_deleted v o p) same) in (
       r.0,
-      λ sc k. is_deleted (in_world sc (now a w)) (with_programmer k who) o p ts r.1.1 named (subst (λ v. may v who (change_members o) ≡ true) r.1.0 s.1.1)
+      λ sc k. is_decided (in_world sc (now a w)) (with_programmer k who) o p ts true r.1.1 named (subst (λ v. may v who (change_members o) ≡ true) r.1.0 s.1.1)
           ∙ (λ i. answers (in_world sc (changed i)) (gives (sym zero i))),
     )

@@ -1,11 +1,12 @@
 -- `chparent`, call by call.
-use Rattle.std.proofs.Common.{◌≡◌, ℤ, Bool, true, false, not, ◌&&◌, List, [], ◌∷◌, Option, Some, None, Result, Ok, Err, OnOk, refl, sym, ap, ◌∙◌, subst, if◌then◌else◌}
+use Rattle.std.proofs.Common.{◌≡◌, ◌≢◌, ◌⊎◌, inl, inr, ℤ, Bool, true, false, not, ◌&&◌, List, [], ◌∷◌, Option, Some, None, Result, Ok, Err, OnOk, refl, sym, ap, ◌∙◌, subst, if◌then◌else◌}
 use Rattle.std.specs.Ordering.{int_eq}
 use Rattle.spec_value.specs.Datum.{Datum, object, invalid_argument, ErrorCode}
 use Rattle.spec_value.specs.Answer.{gives, raises}
 use Rattle.spec_world.specs.World.{World, object_at}
 use Rattle.spec_world.specs.WellFormed.{IsWellFormed}
 use Rattle.spec_world.specs.Families.{parent_of, is_below, clashes, reparented}
+use Rattle.spec_world.proofs.Trees.{same_or_not}
 use Rattle.spec_moo.specs.Scene.{Scene, in_world}
 use Rattle.spec_moo.specs.NativeEffect.{Caller, NativeEffect, answers, refuses}
 use Rattle.spec_moo.specs.Natives.Rows.{unless, wants, answers_with, zero_value}
@@ -84,6 +85,13 @@ module _ {V : Type 0} (holds : V → World → Type 0) (now : V → World → Wo
             ∙ ap (λ b. if not b then done o p (in_world s (now a w)) else refuses (in_world s (now a w)) invalid_argument) clash
             ∙ done_is (now a w) o p s ∙ (λ i. answers (in_world s (after i)) (gives (sym zero i))),
       )
+
+pub unlike : (a b : ℤ) → a ≢ b → int_eq a b ≡ false
+unlike a b other = go (same_or_not a b)
+  where
+    go : (a ≡ b) ⊎ (int_eq a b ≡ false) → int_eq a b ≡ false
+    go (inl e) = absurd (other e)
+    go (inr h) = h
 
 pub stays_told : {V A E : Type 0} (holds : V → World → Type 0) (now : V → World → World) (o p : ℤ) (a b c : V) (ds : List ℤ) (before : ℤ) (r : Result A E) → Tells holds now a b (λ w. parent_of (object_at w o) ≡ before) → int_eq before p ≡ false
     → OnOk r (Goes holds now b c (λ was is. IsFamily was o ds → parent_of (object_at was o) ≡ before → is ≡ reparented was o p))

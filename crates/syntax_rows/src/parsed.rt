@@ -1,12 +1,13 @@
-use moo_syntax::parse::parse;
+use moo_parse::parse::parse;
 use moo_tree::expression::{Expression, ExpressionNode, TargetNode};
 use moo_tree::statement::StatementNode;
+use moo_value::operator::BinaryOperator;
 use moo_value::value::Shown;
 use std::alloc::{AllocError, Global};
 use std::test::Fail;
 use syntax_fault::fault::FaultKind;
 
-// Each expression in brackets: a sum as (a + b), a property as [o p], an assignment as {o p = e}.
+// Each expression in brackets: a sum as (a + b), a property as [o p], an assignment as {a = e} or {o p = e}.
 fn show(alloc: Global, out: &mut String, expression: &Expression) -> Result<(), AllocError> {
     match &expression.node {
         ExpressionNode::Literal(value) => match value.shown() {
@@ -17,10 +18,14 @@ fn show(alloc: Global, out: &mut String, expression: &Expression) -> Result<(), 
             Shown::List(_) => out.push_str("list")?,
         },
         ExpressionNode::Variable(name) => out.push_str(name.as_str())?,
-        ExpressionNode::Binary(_, left, right) => {
+        ExpressionNode::Binary(operator, left, right) => {
             out.push_str("(")?;
             show(alloc, out, left)?;
-            out.push_str(" + ")?;
+            out.push_str(match operator {
+                BinaryOperator::Plus => " + ",
+                BinaryOperator::Equals => " == ",
+                _ => " other ",
+            })?;
             show(alloc, out, right)?;
             out.push_str(")")?;
         }
@@ -33,10 +38,14 @@ fn show(alloc: Global, out: &mut String, expression: &Expression) -> Result<(), 
         }
         ExpressionNode::Assignment(target, value) => {
             out.push_str("{")?;
-            if let TargetNode::Property(object, name) = &target.node {
-                show(alloc, out, object)?;
-                out.push_str(" ")?;
-                show(alloc, out, name)?;
+            match &target.node {
+                TargetNode::Variable(name) => out.push_str(name.as_str())?,
+                TargetNode::Property(object, name) => {
+                    show(alloc, out, object)?;
+                    out.push_str(" ")?;
+                    show(alloc, out, name)?;
+                }
+                _ => out.push_str("other")?,
             }
             out.push_str(" = ")?;
             show(alloc, out, value)?;
@@ -105,6 +114,7 @@ const ANSWERS: [(&str, &str); 100] = [
     ("((1));", "1;"),
     ("(1)+((a));", "(1 + a);"),
     ("a\n+\nb;", "(a + b);"),
+    ("o.p==1;", "([o 'p'] == 1);"),
     // properties
     ("o.p;", "[o 'p'];"),
     ("o.P;", "[o 'P'];"),
@@ -122,6 +132,7 @@ const ANSWERS: [(&str, &str); 100] = [
     ("a+b.c;", "(a + [b 'c']);"),
     ("\"s\".length;", "['s' 'length'];"),
     // assignments
+    ("a=1;", "{a = 1};"),
     ("o.p=1;", "{o 'p' = 1};"),
     ("o.(a)=1+2;", "{o a = (1 + 2)};"),
     ("$n=$n+1;", "{#0 'n' = ([#0 'n'] + 1)};"),
@@ -136,6 +147,8 @@ const ANSWERS: [(&str, &str); 100] = [
     ("return o.p=1;", "return {o 'p' = 1};"),
     ("return(1);2;", "return 1;2;"),
     ("1;2;;3;", "1;2;3;"),
+    // other statements
+    ("if (1) endif", "other;"),
     // a token with which no program goes on
     ("1", "Token 1"),
     ("1\n\n", "Token 1"),
@@ -148,11 +161,9 @@ const ANSWERS: [(&str, &str); 100] = [
     ("(1;", "Token 1"),
     ("1);", "Token 1"),
     ("();", "Token 1"),
-    ("a=1;", "Token 1"),
     ("(o.p)=1;", "Token 1"),
     ("1+o.p=1;", "Token 1"),
     ("o.p+1=2;", "Token 1"),
-    ("o.p==1;", "Token 1"),
     ("o.p=\n=1;", "Token 2"),
     ("o.;", "Token 1"),
     ("o.\nif;", "Token 2"),
@@ -162,7 +173,6 @@ const ANSWERS: [(&str, &str); 100] = [
     ("$;", "Token 1"),
     ("$1;", "Token 1"),
     ("return return;", "Token 1"),
-    ("if (1) endif", "Token 1"),
     (")2147483649;", "Token 1"),
     ("1 2147483649;", "Number 1"),
     // what is no token

@@ -2,7 +2,7 @@
 use crate::jobs::{Job, Place, done_in_turns};
 use bench_report::report::{Mode, Subject};
 use moo_compiler::program::Program;
-use moo_syntax::parse::parse;
+use moo_parse::parse::parse;
 use std::alloc::Global;
 use std::io;
 use std::rt::Clock;

@@ -7,7 +7,7 @@ use machine::run::run;
 use machine::stop::Stop;
 use machine::task::Run;
 use moo_compiler::program::Program;
-use moo_syntax::parse::parse;
+use moo_parse::parse::parse;
 use moo_value::text::Text;
 use moo_value::value::Value;
 use moo_value::write::to_literal;

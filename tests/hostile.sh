@@ -1,6 +1,6 @@
 #!/bin/sh
-# Texts of 10 MB that are long, deep or wrong at their end are answered in seconds by whatever reads them: scripts by `moo-play`, programs and literals
-# by the benchmarks' program, which reads them at full size. A reader that takes time by the square of its text would take hours.
+# Texts that are long, deep or wrong at their end are answered in seconds by whatever reads them: scripts of 10 MB by `moo-play`, programs of 1 MB and
+# literals of 10 MB by the benchmarks' program, which reads them at full size. A reader that takes time by the square of its text would take hours.
 set -u
 root=$(cd "$(dirname -- "$0")/.." && pwd) || exit 2
 work=$(mktemp -d) || exit 2

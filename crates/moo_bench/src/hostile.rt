@@ -1,4 +1,4 @@
-//! Hostile texts of 10 MB: programs and literals that are long, deep or wrong at their end. Each is read once, and what was read is dropped.
+//! Hostile texts, programs of 1 MB and literals of 10 MB, that are long, deep or wrong at their end. Each is read once, and what was read is dropped.
 use bench_report::report::{Mode, Subject, since, tell};
 use moo_compiler::program::Program;
 use moo_parse::parse::parse;
@@ -8,8 +8,11 @@ use std::io;
 use std::rt::Clock;
 use std::time::Instant;
 
-/// How many bytes each text has, and a few more.
-const BYTES: usize = 10_000_000;
+/// How many bytes a program has, and a few more: the reader holds up to 2.4 KB for each of them.
+const PROGRAM_BYTES: usize = 1_000_000;
+
+/// How many bytes a literal has, and a few more.
+const LITERAL_BYTES: usize = 10_000_000;
 
 /// What reads a text.
 #[derive(Clone, Copy)]
@@ -67,14 +70,15 @@ const TEXTS: [Hostile; 33] = [
 
 /// Prints the lines of the group. A text that should be refused and is not, or the other way round, shows in the checksum.
 pub fn run<R: Print + Clock + AllocGlobal>(rt: &R, mode: Mode) -> io::Result<()> {
-    let bytes = mode.count(BYTES);
+    let programs = mode.count(PROGRAM_BYTES);
+    let literals = mode.count(LITERAL_BYTES);
     let alloc = rt.alloc();
     for (name, reader, before, middle, after) in &TEXTS {
-        let text = repeated(alloc, before, middle, after, bytes)?;
-        let kind = match reader {
-            Reader::Program => "program",
-            Reader::Literal => "literal",
+        let (kind, bytes) = match reader {
+            Reader::Program => ("program", programs),
+            Reader::Literal => ("literal", literals),
         };
+        let text = repeated(alloc, before, middle, after, bytes)?;
         let name = format!(in alloc; "hostile {kind}: {name}")?;
         line(rt, mode, name.as_str(), *reader, text.as_str())?;
     }
@@ -83,14 +87,14 @@ pub fn run<R: Print + Clock + AllocGlobal>(rt: &R, mode: Mode) -> io::Result<()>
         mode,
         "hostile program: names",
         Reader::Program,
-        names(alloc, bytes)?.as_str(),
+        names(alloc, programs)?.as_str(),
     )?;
     line(
         rt,
         mode,
         "hostile literal: a list",
         Reader::Literal,
-        list(alloc, bytes)?.as_str(),
+        list(alloc, literals)?.as_str(),
     )
 }
 

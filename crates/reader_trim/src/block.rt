@@ -23,6 +23,7 @@ pub fn trimmed_statement(
     } = statement;
     let few = kept(alloc, &nodes)?;
     let tree = shallow_statement(tree, &nodes);
+    let strays = shallow_list(alloc, strays, &nodes);
     Ok(FoundStatement {
         tree,
         nodes: few,
@@ -41,6 +42,7 @@ pub fn trimmed_block(alloc: Global, block: Block) -> Result<Block, AllocError>
     } = block;
     let few = kept(alloc, &nodes)?;
     let reversed = shallow_list(alloc, reversed, &nodes);
+    let strays = shallow_list(alloc, strays, &nodes);
     Ok(Block {
         reversed,
         nodes: few,
@@ -61,6 +63,7 @@ pub fn trimmed_branches(alloc: Global, branches: Branches) -> Result<Branches, A
     let few = kept(alloc, &nodes)?;
     let reversed = shallow_list(alloc, reversed, &nodes);
     let otherwise = shallow_otherwise(otherwise, &nodes);
+    let strays = shallow_list(alloc, strays, &nodes);
     Ok(Branches {
         reversed,
         otherwise,
@@ -80,6 +83,7 @@ pub fn trimmed_arms(alloc: Global, arms: Arms) -> Result<Arms, AllocError>
     } = arms;
     let few = kept(alloc, &nodes)?;
     let reversed = shallow_list(alloc, reversed, &nodes);
+    let strays = shallow_list(alloc, strays, &nodes);
     Ok(Arms {
         reversed,
         nodes: few,

@@ -18,28 +18,25 @@ use Rattle.spec_program.proofs.SimilarReaders.{found_like, operand_like, codes_l
 
 -- ---- statements and blocks
 
-strays_both : {a b c d : List Stray} → a ≡ b → c ≡ d → a ++ c ≡ b ++ d
-strays_both {a} {b} {c} {d} e g = ap (λ z. z ++ c) e ∙ ap (λ z. b ++ z) g
-
 block_similar : {s r : FoundStatement} {p q : FoundBlock} → SimilarStatement s r → SimilarBlock p q
     → SimilarBlock (in_programs.and_block s p) (in_programs.and_block r q)
-block_similar h k = record { parts = of_two seq h.parts k.parts; strays = strays_both h.strays k.strays }
+block_similar h k = record { parts = of_two seq h.parts k.parts; strays = of_two (λ a b. a ++ b) h.strays k.strays }
 
 block_like : (p : FoundBlock) → SimilarBlock p p
-block_like p = record { parts = like p.nodes p.tree; strays = refl }
+block_like p = record { parts = like p.nodes p.tree; strays = like p.nodes p.strays }
 
 branches_like : (b : FoundBranches) → SimilarBranches b b
-branches_like b = record { branches = like b.nodes b.branches; otherwise = like b.nodes b.otherwise; strays = refl }
+branches_like b = record { branches = like b.nodes b.branches; otherwise = like b.nodes b.otherwise; strays = like b.nodes b.strays }
 
 arms_like : (a : FoundArms) → SimilarArms a a
-arms_like a = record { parts = like a.nodes a.tree; strays = refl }
+arms_like a = record { parts = like a.nodes a.tree; strays = like a.nodes a.strays }
 
 branch_similar : {c d : Found} {p q : FoundBlock} {x y : FoundBranches} → SimilarFound c d → SimilarBlock p q → SimilarBranches x y
     → SimilarBranches (in_programs.with_branch c p x) (in_programs.with_branch d q y)
 branch_similar h k l = record {
   branches = of_three on h.parts k.parts l.branches;
   otherwise = of_three (λ x y z. z) h.parts k.parts l.otherwise;
-  strays = strays_both k.strays l.strays;
+  strays = of_three (λ x y z. y ++ z) h.parts k.strays l.strays;
 }
 
 and_branches_similar : (n : ℕ) {c d : Found} {p q : FoundBlock} → SimilarFound c d → SimilarBlock p q → (ts : List Placed)
@@ -54,7 +51,7 @@ arm_similar : (x : Option Text) {c d : by.FoundCodes} {p q : FoundBlock} {a b : 
     → SimilarArms (in_programs.with_arm x c p a) (in_programs.with_arm x d q b)
 arm_similar x h k l = record {
   parts = of_three (except x) h.parts k.parts l.parts;
-  strays = strays_both k.strays l.strays;
+  strays = of_three (λ x y z. y ++ z) h.parts k.strays l.strays;
 }
 
 and_arms_similar : (n : ℕ) (x : Option Text) {c d : by.FoundCodes} {p q : FoundBlock} → SimilarCodes c d → SimilarBlock p q → (ts : List Placed)
@@ -80,19 +77,19 @@ with_body_similar : (line : ℕ) {b c : Body} {p q : FoundBlock} → SimilarBody
     → SimilarStatement (f.with_body line b p) (f.with_body line c q)
 with_body_similar line (list x e d h) k = record {
   parts = around refl (of_two (for_each x) h.parts k.parts);
-  strays = ap (λ z. out_of_loop (Some x) z) k.strays;
+  strays = around refl (of_two (λ y z. out_of_loop (Some x) z) h.parts k.strays);
 }
 with_body_similar line (range x a c e d h l) k = record {
   parts = around refl (of_two_and (for_range x) h.parts l.parts k.parts);
-  strays = ap (λ z. out_of_loop (Some x) z) k.strays;
+  strays = around refl (of_two_and (λ v y z. out_of_loop (Some x) z) h.parts l.parts k.strays);
 }
 with_body_similar line (while x e d h) k = record {
   parts = around refl (of_two (repeat x) h.parts k.parts);
-  strays = ap (λ z. out_of_loop x z) k.strays;
+  strays = around refl (of_two (λ y z. out_of_loop x z) h.parts k.strays);
 }
 with_body_similar line (forked x e d h) k = record {
   parts = around refl (of_two (fork x) h.parts k.parts);
-  strays = ap (λ z. map cut z) k.strays;
+  strays = around refl (of_two (λ y z. map cut z) h.parts k.strays);
 }
 
 body_similar : (n line : ℕ) {b c : Body} → SimilarBody b c → (ts : List Placed)
@@ -116,11 +113,17 @@ body_like (f.fork_body x e) = forked x e e (found_like e)
 
 finished_similar : (line : ℕ) {p q c d : FoundBlock} → SimilarBlock p q → SimilarBlock c d
     → SimilarStatement (in_programs.finished_of line p c) (in_programs.finished_of line q d)
-finished_similar line h k = record { parts = around refl (of_two finished h.parts k.parts); strays = strays_both h.strays k.strays }
+finished_similar line h k = record {
+  parts = around refl (of_two finished h.parts k.parts);
+  strays = around refl (of_two (λ a b. a ++ b) h.strays k.strays);
+}
 
 guarded_similar : (line : ℕ) {p q : FoundBlock} {a b : FoundArms} → SimilarBlock p q → SimilarArms a b
     → SimilarStatement (in_programs.guarded_of line p a) (in_programs.guarded_of line q b)
-guarded_similar line h k = record { parts = around refl (of_two guarded h.parts k.parts); strays = strays_both h.strays k.strays }
+guarded_similar line h k = record {
+  parts = around refl (of_two guarded h.parts k.parts);
+  strays = around refl (of_two (λ a b. a ++ b) h.strays k.strays);
+}
 
 -- ---- behind each frame
 
@@ -180,16 +183,16 @@ resumed n (f.caught_codes b line e) c d ts h =
 resumed n f.as_codes es ds ts h = both_got _ _ ts (record { parts = mapped codes_in h.parts })
 resumed n (f.caught_instead line e c) x y ts h =
     past t.quote ts (λ zs. both_got _ _ zs (caught_similar line (found_like e) (codes_like c) (mapped instead h.parts)))
-resumed n (f.statement_before s) p q ts h = both_got _ _ ts (block_similar (record { parts = like s.nodes s.tree; strays = refl }) h)
+resumed n (f.statement_before s) p q ts h = both_got _ _ ts (block_similar (record { parts = like s.nodes s.tree; strays = like s.nodes s.strays }) h)
 resumed n f.block_behind s r ts h = onward (block n ts) (λ p us. both_got _ _ us (block_similar h (block_like p)))
 resumed n (f.to_word k) p q ts h = past_word k ts (λ us. both_got p q us h)
 resumed n f.in_head e d ts h = past t.close_parenthesis ts (λ us. both_got e d us h)
 resumed n (f.evaluated line) e d ts h =
-    past t.semicolon ts (λ us. both_got _ _ us (record { parts = around refl (mapped evaluate h.parts); strays = refl }))
+    past t.semicolon ts (λ us. both_got _ _ us (record { parts = around refl (mapped evaluate h.parts); strays = around refl (mapped (λ z. []) h.parts) }))
 resumed n (f.returned line) e d ts h =
-    past t.semicolon ts (λ us. both_got _ _ us (record { parts = around refl (mapped give h.parts); strays = refl }))
+    past t.semicolon ts (λ us. both_got _ _ us (record { parts = around refl (mapped give h.parts); strays = around refl (mapped (λ z. []) h.parts) }))
 resumed n (f.branches_of line) b c ts h =
-    both_got _ _ ts (record { parts = around refl (mapped_both branch h.branches h.otherwise); strays = h.strays })
+    both_got _ _ ts (record { parts = around refl (mapped_both branch h.branches h.otherwise); strays = around refl h.strays })
 resumed n f.condition e d ts h = onward (block n ts) (λ p us. and_branches_similar n h (block_like p) us)
 resumed n (f.block_of_branch c) p q ts h = and_branches_similar n (found_like c) h ts
 resumed n (f.branch_before c p) b d ts h = both_got _ _ ts (branch_similar (found_like c) (block_like p) h)
@@ -223,10 +226,10 @@ last_loops : (p q : FoundBlock) (rs : List Stray) → p.tree ≡ q.tree → test
 last_loops p q [] k = ap in_programs.program k
 last_loops p q (s ∷ rs) k = refl
 
-tested_alike : (p q : FoundBlock) (o : Option ℕ) → too_deep p.nodes ≡ o → p.strays ≡ q.strays → (too_deep p.nodes ≡ None → p.tree ≡ q.tree)
-    → tested p o ≡ tested q o
+tested_alike : (p q : FoundBlock) (o : Option ℕ) → too_deep p.nodes ≡ o → (too_deep p.nodes ≡ None → p.strays ≡ q.strays)
+    → (too_deep p.nodes ≡ None → p.tree ≡ q.tree) → tested p o ≡ tested q o
 tested_alike p q (Some line) e g h = refl
-tested_alike p q None e g h = ap (λ z. tested_loops p z) g ∙ last_loops p q q.strays (h e)
+tested_alike p q None e g h = ap (λ z. tested_loops p z) (g e) ∙ last_loops p q q.strays (h e)
 
 depths_alike : (p q : FoundBlock) → SimilarBlock p q → too_deep p.nodes ≡ too_deep q.nodes
 depths_alike p q h = sym (kept_tells_depth p.nodes) ∙ ap too_deep h.parts.nodes ∙ kept_tells_depth q.nodes
@@ -234,7 +237,7 @@ depths_alike p q h = sym (kept_tells_depth p.nodes) ∙ ap too_deep h.parts.node
 parsed_alike : (all : List Placed) (r s : Read FoundBlock) → SimilarRead SimilarBlock r s → parsed_by all r ≡ parsed_by all s
 parsed_alike all _ _ (both_stuck ts) = refl
 parsed_alike all _ _ (both_got p q [] h) =
-    tested_alike p q (too_deep p.nodes) refl h.strays h.parts.same ∙ ap (tested q) (depths_alike p q h)
+    tested_alike p q (too_deep p.nodes) refl h.strays.same h.parts.same ∙ ap (tested q) (depths_alike p q h)
 parsed_alike all _ _ (both_got p q (x ∷ ts) h) = refl
 
 pub interchange : Interchange

@@ -46,20 +46,20 @@ pub record SimilarCodes (c d : FoundCodes) : Type 0 where
 
 pub record SimilarStatement (s r : FoundStatement) : Type 0 where
   pub parts : Similar s.nodes r.nodes s.tree r.tree
-  pub strays : s.strays ≡ r.strays
+  pub strays : Similar s.nodes r.nodes s.strays r.strays
 
 pub record SimilarBlock (p q : FoundBlock) : Type 0 where
   pub parts : Similar p.nodes q.nodes p.tree q.tree
-  pub strays : p.strays ≡ q.strays
+  pub strays : Similar p.nodes q.nodes p.strays q.strays
 
 pub record SimilarBranches (b c : FoundBranches) : Type 0 where
   pub branches : Similar b.nodes c.nodes b.branches c.branches
   pub otherwise : Similar b.nodes c.nodes b.otherwise c.otherwise
-  pub strays : b.strays ≡ c.strays
+  pub strays : Similar b.nodes c.nodes b.strays c.strays
 
 pub record SimilarArms (a b : FoundArms) : Type 0 where
   pub parts : Similar a.nodes b.nodes a.tree b.tree
-  pub strays : a.strays ≡ b.strays
+  pub strays : Similar a.nodes b.nodes a.strays b.strays
 
 abbrev pub SimilarOf : (a : Kind) → Of a → Of a → Type 0
 SimilarOf an_expression e d = SimilarFound e d

@@ -1,6 +1,6 @@
-use Rattle.std.proofs.Common.{refl}
 use Rattle.moo_tree.specs.StatementView.{branches_of}
-use Rattle.reader_trim.proofs.Few.{few_nodes, few_reversed}
+use Rattle.moo_reader.specs.BlockViews.{strays_of}
+use Rattle.reader_trim.proofs.Few.{few_items, few_nodes, few_reversed}
 use Rattle.reader_trim.proofs.block.trimmed_branches.Goals as goal
 
 pub returns : goal.returns
@@ -8,5 +8,5 @@ returns c =
     record {
       branches = few_reversed branches_of _ _ _ _ _ _ c.deref.ensures.value c.deref-2.ensures.value c.in_ok-few.ensures c.shallow_list-reversed.ensures;
       otherwise = few_nodes _ _ _ _ _ _ c.deref.ensures.value c.deref-3.ensures.value c.in_ok-few.ensures c.shallow_otherwise-otherwise.ensures;
-      strays = refl;
+      strays = few_items strays_of _ _ _ _ _ _ c.deref.ensures.value c.deref-4.ensures.value c.in_ok-few.ensures c.shallow_list-strays.ensures;
     }

@@ -1,0 +1,117 @@
+//! Lines of connections.
+ghost use Rattle.std.specs.Prelude.{◌≡◌, Some, IfOk, IsTrue};
+ghost use Rattle.spec_value.specs.Table.{at};
+ghost use Rattle.spec_world.specs.World.{World};
+ghost use Rattle.spec_world.specs.Links.{reader_of as reader_of_link};
+ghost use Rattle.spec_world.specs.WellFormed.{is_connection};
+ghost use Rattle.spec_step.specs.Step.{Step as StepOf};
+ghost use Rattle.spec_moo.specs.Steps.Events.{line_on, line_taken, line_read, line_for as line_for_of, words_value as words_value_of, foreground_ticks};
+ghost use Rattle.spec_value.specs.Datum.{list};
+ghost use Rattle.moo_frame.specs.Deeds.{scene_of};
+ghost use Rattle.view.specs.Law.{Goes, Lasts, Tells};
+ghost use Rattle.step_tasks.specs.Performed.{StepsTo};
+ghost use Rattle.step_tasks.specs.Ready.{AreReady};
+ghost use Rattle.step_events.specs.Opens.{IsOpening};
+
+use footprint::link::Link;
+use moo_frame::deeds::Deeds;
+use moo_run::natives::Natives;
+use moo_value::text::Text;
+use moo_value::value::Value;
+use std::alloc::{AllocError, Global};
+use task_step::outcome::Outcome;
+use view::law::View;
+
+/// A connection sends a line. Nothing happens where it is not open.
+pub fn line<V: View, N: Natives>(
+    alloc: Global,
+    view: &mut V,
+    natives: &mut N,
+    deeds: Deeds,
+    connection: i32,
+    text: &Text,
+) -> Result<Outcome, AllocError>
+    requires home { V.holds view.old (V.home view.old) }
+    requires ready { AreReady V.holds V.now view.old deeds }
+    ensures lasts { Lasts V.holds V.home V.anchor view.old view.new result }
+    ensures played { IfOk result (λ o. Goes V.holds V.now view.old view.new (λ before after. (s : StepOf) → IsOpening s deeds
+        → StepsTo (line_on s before connection text.now (at before.links connection)) after o)) }
+{
+    Err(AllocError)
+}
+
+// A line of a link: it is collected, or else read by a task, or else a login or a command.
+fn take_line<V: View, N: Natives>(
+    alloc: Global,
+    view: &mut V,
+    natives: &mut N,
+    deeds: Deeds,
+    connection: i32,
+    link: &Link,
+    text: &Text,
+) -> Result<Outcome, AllocError>
+    requires home { V.holds view.old (V.home view.old) }
+    requires ready { AreReady V.holds V.now view.old deeds }
+    requires link { (w : World) → V.holds view.old w → at (V.now view.old w).links connection ≡ Some link.now }
+    ensures lasts { Lasts V.holds V.home V.anchor view.old view.new result }
+    ensures played { IfOk result (λ o. Goes V.holds V.now view.old view.new (λ before after.
+        StepsTo (line_taken (scene_of deeds before foreground_ticks) connection link.now text.now link.now.programming) after o)) }
+{
+    Err(AllocError)
+}
+
+// A line that no program collects.
+fn read_line<V: View, N: Natives>(
+    alloc: Global,
+    view: &mut V,
+    natives: &mut N,
+    deeds: Deeds,
+    connection: i32,
+    link: &Link,
+    text: &Text,
+) -> Result<Outcome, AllocError>
+    requires home { V.holds view.old (V.home view.old) }
+    requires ready { AreReady V.holds V.now view.old deeds }
+    requires link { (w : World) → V.holds view.old w → at (V.now view.old w).links connection ≡ Some link.now }
+    ensures lasts { Lasts V.holds V.home V.anchor view.old view.new result }
+    ensures played { IfOk result (λ o. Goes V.holds V.now view.old view.new (λ before after.
+        StepsTo (line_read (scene_of deeds before foreground_ticks) connection link.now text.now (reader_of_link before connection)) after o)) }
+{
+    Err(AllocError)
+}
+
+// A line that no task reads.
+fn line_for<V: View, N: Natives>(
+    alloc: Global,
+    view: &mut V,
+    natives: &mut N,
+    deeds: Deeds,
+    connection: i32,
+    link: &Link,
+    text: &Text,
+) -> Result<Outcome, AllocError>
+    requires home { V.holds view.old (V.home view.old) }
+    requires ready { AreReady V.holds V.now view.old deeds }
+    requires link { (w : World) → V.holds view.old w → at (V.now view.old w).links connection ≡ Some link.now }
+    ensures lasts { Lasts V.holds V.home V.anchor view.old view.new result }
+    ensures played { IfOk result (λ o. Goes V.holds V.now view.old view.new (λ before after.
+        StepsTo (line_for_of (scene_of deeds before foreground_ticks) connection link.now text.now) after o)) }
+{
+    Err(AllocError)
+}
+
+// The task that reads on a connection.
+fn reader_of<V: View>(view: &mut V, connection: i32) -> Result<Option<i32>, AllocError>
+    requires home { V.holds view.old (V.home view.old) }
+    ensures lasts { Lasts V.holds V.home V.anchor view.old view.new result }
+    ensures left { IfOk result (λ i. Tells V.holds V.now view.old view.new (λ w. reader_of_link w connection ≡ i)) }
+{
+    Err(AllocError)
+}
+
+// The words of a line, as a list.
+fn words_value(alloc: Global, text: &Text) -> Result<Value, AllocError>
+    ensures { IfOk result (λ v. v ≡ list (words_value_of text.now)) }
+{
+    Err(AllocError)
+}

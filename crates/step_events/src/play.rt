@@ -1,0 +1,53 @@
+//! Steps over a view of a world.
+ghost use Rattle.std.specs.Prelude.{◌≡◌, IfOk, OnOk, IsTrue};
+ghost use Rattle.spec_step.specs.Step.{Step as StepOf, in_range, event_in_range};
+ghost use Rattle.spec_moo.specs.Steps.{play1};
+ghost use Rattle.spec_moo.specs.Steps.Events.{event_of as event_of_step};
+ghost use Rattle.task_step.specs.StepView.{event_of};
+ghost use Rattle.view.specs.Law.{Goes, Lasts};
+ghost use Rattle.step_tasks.specs.Performed.{StepsTo};
+ghost use Rattle.step_tasks.specs.Ready.{AreReady};
+ghost use Rattle.step_events.specs.Opens.{IsOpening};
+ghost use Rattle.step_events.specs.Wholes.{AreWhole};
+
+use moo_frame::deeds::Deeds;
+use moo_run::natives::Natives;
+use std::alloc::{AllocError, Global};
+use task_step::outcome::Outcome;
+use task_step::step::{Event, Step};
+use view::law::View;
+
+/// Plays a step over the view. After an error the view is only to be dropped or undone.
+pub fn play_step<V: View, N: Natives>(
+    alloc: Global,
+    view: &mut V,
+    natives: &mut N,
+    step: &Step,
+) -> Result<Outcome, AllocError>
+    requires range { IsTrue (in_range step.now) }
+    requires home { V.holds view.old (V.home view.old) }
+    requires whole { AreWhole V.holds V.now view.old }
+    ensures lasts { Lasts V.holds V.home V.anchor view.old view.new result }
+    ensures played { IfOk result (λ o. Goes V.holds V.now view.old view.new (λ before after. StepsTo (play1 before step.now) after o)) }
+    ensures whole { OnOk result (AreWhole V.holds V.now view.new) }
+{
+    Err(AllocError)
+}
+
+// What happens in a step, unless the server is about to end.
+fn perform<V: View, N: Natives>(
+    alloc: Global,
+    view: &mut V,
+    natives: &mut N,
+    deeds: Deeds,
+    event: &Event,
+) -> Result<Outcome, AllocError>
+    requires range { IsTrue (event_in_range (event_of event.now)) }
+    requires home { V.holds view.old (V.home view.old) }
+    requires ready { AreReady V.holds V.now view.old deeds }
+    ensures lasts { Lasts V.holds V.home V.anchor view.old view.new result }
+    ensures played { IfOk result (λ o. Goes V.holds V.now view.old view.new (λ before after. (s : StepOf) → IsOpening s deeds
+        → StepsTo (event_of_step before s (event_of event.now)) after o)) }
+{
+    Err(AllocError)
+}

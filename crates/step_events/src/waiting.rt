@@ -1,0 +1,86 @@
+//! Tasks that waited and go on.
+ghost use Rattle.std.specs.Prelude.{◌≡◌, ℕ, Some, IfOk};
+ghost use Rattle.spec_value.specs.Table.{at};
+ghost use Rattle.spec_world.specs.World.{World};
+ghost use Rattle.spec_step.specs.Step.{Step as StepOf};
+ghost use Rattle.spec_moo.specs.Steps.Running.{gone_on};
+ghost use Rattle.spec_moo.specs.Steps.Events.{resumed, with_own_task, read_by as read_by_of, ready_at, is_due as is_due_of, foreground_ticks};
+ghost use Rattle.moo_frame.specs.Deeds.{scene_of};
+ghost use Rattle.view.specs.Law.{Goes, Lasts};
+ghost use Rattle.step_tasks.specs.Performed.{StepsTo};
+ghost use Rattle.step_tasks.specs.Ready.{AreReady};
+ghost use Rattle.step_events.specs.Opens.{IsOpening};
+
+use moo_frame::deeds::Deeds;
+use moo_run::natives::Natives;
+use moo_task::task::Task;
+use moo_value::value::Value;
+use std::alloc::{AllocError, Global};
+use task_step::outcome::Outcome;
+use view::law::View;
+
+/// A task that is due goes on. Nothing happens where it is not there, or not due.
+pub fn ready<V: View, N: Natives>(
+    alloc: Global,
+    view: &mut V,
+    natives: &mut N,
+    deeds: Deeds,
+    id: i32,
+) -> Result<Outcome, AllocError>
+    requires home { V.holds view.old (V.home view.old) }
+    requires ready { AreReady V.holds V.now view.old deeds }
+    ensures lasts { Lasts V.holds V.home V.anchor view.old view.new result }
+    ensures played { IfOk result (λ o. Goes V.holds V.now view.old view.new (λ before after. (s : StepOf) → IsOpening s deeds
+        → StepsTo (ready_at s before id (at before.tasks id)) after o)) }
+{
+    Err(AllocError)
+}
+
+/// The task that reads on a connection has a line's value.
+pub fn read_by<V: View, N: Natives>(
+    alloc: Global,
+    view: &mut V,
+    natives: &mut N,
+    deeds: Deeds,
+    id: i32,
+    value: Value,
+) -> Result<Outcome, AllocError>
+    requires home { V.holds view.old (V.home view.old) }
+    requires ready { AreReady V.holds V.now view.old deeds }
+    ensures lasts { Lasts V.holds V.home V.anchor view.old view.new result }
+    ensures played { IfOk result (λ o. Goes V.holds V.now view.old view.new
+        (λ before after. StepsTo (read_by_of (scene_of deeds before foreground_ticks) id value (at before.tasks id)) after o)) }
+{
+    Err(AllocError)
+}
+
+// A task goes on with a value and so many ticks, and is in the queue no more.
+fn resume<V: View, N: Natives>(
+    alloc: Global,
+    view: &mut V,
+    natives: &mut N,
+    deeds: Deeds,
+    id: i32,
+    task: &Task,
+    value: Value,
+    ticks: u32,
+) -> Result<Outcome, AllocError>
+    requires home { V.holds view.old (V.home view.old) }
+    requires ready { AreReady V.holds V.now view.old deeds }
+    requires there { (w : World) → V.holds view.old w → at (V.now view.old w).tasks id ≡ Some task.now }
+    ensures lasts { Lasts V.holds V.home V.anchor view.old view.new result }
+    ensures played { IfOk result (λ o. Goes V.holds V.now view.old view.new (λ before after.
+        StepsTo (resumed (with_own_task (scene_of deeds before ticks) id) (gone_on task.now task.now.waiting value)) after o)) }
+{
+    Err(AllocError)
+}
+
+// Whether a task is due at a moment.
+fn is_due(task: &Task, moment: u32) -> bool
+    ensures { result ≡ is_due_of moment task.now.waiting }
+{
+    match task.due() {
+        Some(due) => due <= moment,
+        None => false,
+    }
+}

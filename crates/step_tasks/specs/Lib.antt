@@ -1,0 +1,4 @@
+pub mod Performed
+pub mod Ready
+pub mod Stops
+pub mod Tasks

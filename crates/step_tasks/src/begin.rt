@@ -1,0 +1,59 @@
+//! Verbs that begin a task.
+ghost use Rattle.std.specs.Prelude.{◌≡◌, IfOk};
+ghost use Rattle.spec_value.specs.Datum.{Data, list};
+ghost use Rattle.spec_moo.specs.Steps.Running.{begun};
+ghost use Rattle.moo_frame.specs.Outcomes.{ticks_of};
+ghost use Rattle.step_tasks.specs.Tasks.{MayRun};
+
+use inherit::verb::FoundVerb;
+use moo_frame::running::Running;
+use moo_frame::start::SharedStart;
+use moo_machine::call::{Call, Start};
+use moo_program::program::Program;
+use moo_value::text::Text;
+use moo_value::value::Value;
+use std::alloc::{AllocError, Global};
+
+/// A task that begins with a verb, whose variable `verb` holds a word.
+pub fn begin(
+    alloc: Global,
+    player: i32,
+    call: Call,
+    word: Text,
+    start: Start,
+    arguments: Value,
+    program: Program,
+    ticks: u32,
+) -> Result<Running, AllocError>
+    ensures runs { IfOk result (λ r. (args : Data) → arguments ≡ list args → MayRun r (begun player call word start args program)) }
+    ensures ticks { IfOk result (λ r. ticks_of r ≡ ticks) }
+{
+    let Call {
+        this,
+        caller,
+        definer,
+        programmer,
+        verb,
+        debug,
+    } = call;
+    let called = Call {
+        this,
+        caller,
+        definer,
+        programmer,
+        verb: word,
+        debug,
+    };
+    let start = SharedStart::new(alloc, start)?;
+    let mut task = Running::start(alloc, player, start, called, program, arguments, ticks)?;
+    task.frame.call.verb = verb;
+    Ok(task)
+}
+
+/// The program of a verb that was found.
+pub fn program_of(found: &FoundVerb) -> Result<Program, AllocError>
+    ensures { IfOk result (λ p. p ≡ (found.now.verb).program) }
+{
+    let verb = found.verb();
+    verb.program.whole().clone()
+}

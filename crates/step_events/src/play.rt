@@ -1,5 +1,5 @@
 //! Steps over a view of a world.
-ghost use Rattle.std.specs.Prelude.{◌≡◌, IfOk, OnOk, IsTrue};
+ghost use Rattle.std.specs.Prelude.{◌≡◌, ◌≤◌, pos, IfOk, OnOk, IsTrue};
 ghost use Rattle.spec_step.specs.Step.{Step as StepOf, in_range, event_in_range};
 ghost use Rattle.spec_moo.specs.Steps.{play1};
 ghost use Rattle.spec_moo.specs.Steps.Events.{event_of as event_of_step};
@@ -10,12 +10,18 @@ ghost use Rattle.step_tasks.specs.Ready.{AreReady};
 ghost use Rattle.step_events.specs.Opens.{IsOpening};
 ghost use Rattle.step_events.specs.Wholes.{AreWhole};
 
+use crate::connections::{close, open};
+use crate::lines::line;
+use crate::opening::opening;
+use crate::waiting::ready;
 use moo_frame::deeds::Deeds;
 use moo_run::natives::Natives;
 use std::alloc::{AllocError, Global};
-use task_step::outcome::Outcome;
+use step_tasks::outcome::idle;
+use task_step::outcome::{Ending, Outcome};
 use task_step::step::{Event, Step};
 use view::law::View;
+use view::readers::{raise_next, read_ending};
 
 /// Plays a step over the view. After an error the view is only to be dropped or undone.
 pub fn play_step<V: View, N: Natives>(
@@ -31,7 +37,14 @@ pub fn play_step<V: View, N: Natives>(
     ensures played { IfOk result (λ o. Goes V.holds V.now view.old view.new (λ before after. StepsTo (play1 before step.now) after o)) }
     ensures whole { OnOk result (AreWhole V.holds V.now view.new) }
 {
-    Err(AllocError)
+    raise_next(view, u64::from(step.number) + 1)?;
+    let ending = read_ending(view)?;
+    if ending {
+        return Ok(idle(alloc, Ending::Ended));
+    }
+    let deeds = opening(alloc, step);
+    let outcome = perform(alloc, view, natives, deeds, &step.event)?;
+    Ok(outcome)
 }
 
 // What happens in a step, unless the server is about to end.
@@ -46,8 +59,36 @@ fn perform<V: View, N: Natives>(
     requires home { V.holds view.old (V.home view.old) }
     requires ready { AreReady V.holds V.now view.old deeds }
     ensures lasts { Lasts V.holds V.home V.anchor view.old view.new result }
-    ensures played { IfOk result (λ o. Goes V.holds V.now view.old view.new (λ before after. (s : StepOf) → IsOpening s deeds
-        → StepsTo (event_of_step before s (event_of event.now)) after o)) }
+    ensures played { IfOk result (λ o. (s : StepOf) → IsOpening s deeds → Goes V.holds V.now view.old view.new
+        (λ before after. StepsTo (event_of_step before s (event_of event.now)) after o)) }
 {
-    Err(AllocError)
+    match event {
+        Event::Open(connection) => {
+            let number = number_of(*connection);
+            let outcome = open(alloc, view, natives, deeds, number)?;
+            Ok(outcome)
+        }
+        Event::Close(connection) => {
+            let number = number_of(*connection);
+            let outcome = close(alloc, view, natives, deeds, number)?;
+            Ok(outcome)
+        }
+        Event::Line(connection, text) => {
+            let number = number_of(*connection);
+            let outcome = line(alloc, view, natives, deeds, number, text)?;
+            Ok(outcome)
+        }
+        Event::Ready(id) => {
+            let outcome = ready(alloc, view, natives, deeds, *id)?;
+            Ok(outcome)
+        }
+    }
+}
+
+// The number of a connection.
+fn number_of(connection: u32) -> i32
+    requires { connection ≤ 999999 }
+    ensures { result ≡ pos connection }
+{
+    connection as i32
 }

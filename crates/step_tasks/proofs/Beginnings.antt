@@ -1,0 +1,65 @@
+-- A task that begins with a verb, and one that goes on, may run.
+use Rattle.std.proofs.Common.{◌≡◌, ◌∙◌, ap, sym, refl, subst, ℤ, List, [], Option, Some, None}
+use Rattle.spec_value.specs.Datum.{Data, Text}
+use Rattle.spec_program.specs.Tree.{Program}
+use Rattle.spec_program.specs.Construct.{of_program}
+use Rattle.spec_world.specs.World.{Call, Start}
+use Rattle.spec_moo.specs.Calling.{starting}
+use Rattle.spec_moo.specs.Pending as pending
+use Rattle.spec_moo.specs.Pending.{begin}
+use Rattle.spec_moo.specs.Steps.Running.{begun}
+use Rattle.spec_moo.specs.Worlds as worlds
+use Rattle.spec_ready.proofs.GoingOn.{beginnings_stand}
+use Rattle.moo_code.specs.Machine.{Kept, Outer}
+use Rattle.moo_code.specs.Stands.{AllWait, Verb, Stands}
+use Rattle.moo_code.proofs.Runs.{verbs_begin}
+use Rattle.moo_frame.specs.Frames as frames
+use Rattle.moo_frame.specs.Outcomes.{running_kept}
+use Rattle.moo_frame.specs.declared.running.Running.{Running}
+use Rattle.moo_run.specs.Stopping.{IsUnderWay, begins, resumes}
+use Rattle.moo_task.specs.UnderWay as task
+use Rattle.moo_task.specs.UnderWay.{GoesOn, verb_of}
+use Rattle.step_tasks.specs.Tasks.{MayRun}
+
+-- a verb at its beginning
+abbrev first_kept : ℤ → Call → Text → Start → Data → Program → Kept
+first_kept player c word s args body =
+    record { call = c; start = s; program = body; variables = starting player c word s args; place = 0; operands = [] }
+
+-- that was called by the word, and has its own name again
+abbrev renamed : Kept → Text → Kept
+renamed k name = record k { call = record (k.call) { verb = name } }
+
+pub may_begin : (player : ℤ) (c : Call) (word : Text) (s : Start) (args : Data) (body : Program) (r : Running) (k : Kept)
+    → k ≡ frames.begun player s (record c { verb = word }) body args → running_kept r ≡ renamed k c.verb → r.player ≡ player → r.outer ≡ []
+    → MayRun r (begun player c word s args body)
+may_begin player c word s args body r k started named players alone =
+    let p : pending.Pending = begun player c word s args body in
+    let is : running_kept r ≡ first_kept player c word s args body = named ∙ ap (λ (x : Kept). renamed x c.verb) started in
+    let stands : Stands (verb_of p) p.frame.variables p.focus p.frame.pieces (first_kept player c word s args body) [] = verbs_begin (verb_of p) p.frame.variables [] tt in
+    record {
+      pending = record {
+        player_is = sym players;
+        stands = subst (λ (z : Kept). Stands (verb_of p) p.frame.variables p.focus p.frame.pieces z r.outer) (sym is)
+            (subst (λ (z : List Outer). Stands (verb_of p) p.frame.variables p.focus p.frame.pieces (first_kept player c word s args body) z) (sym alone) stands);
+      };
+      under_way = begins (record {
+        entries = [];
+        waiting = subst (λ (z : List Outer). AllWait [] z) (sym alone) tt;
+        standing = tt;
+        place = ap (λ (z : Kept). z.place) is;
+        operands = ap (λ (z : Kept). z.operands) is;
+      });
+      keeps = beginnings_stand player c word s args body;
+    }
+
+-- a task that goes on is under way for the machine's loop
+pub under_way : (k : Kept) (ks : List Outer) → task.IsUnderWay k ks → IsUnderWay k ks
+under_way k ks (task.begins h) = begins (record { entries = h.entries; waiting = h.waiting; standing = h.standing; place = h.place; operands = h.operands })
+under_way k ks (task.resumes h) =
+    resumes (record { frame = h.frame; entries = h.entries; at_call = h.at_call; value = h.value; waiting = h.waiting; standing = h.standing; is = h.is })
+
+pub may_go_on : (o : Option pending.Pending) (r : Running) → GoesOn o r.player (running_kept r) r.outer → task.IsUnderWay (running_kept r) r.outer
+    → ((p : pending.Pending) → o ≡ Some p → worlds.IsUnderWay p) → (p : pending.Pending) × ((o ≡ Some p) × MayRun r p)
+may_go_on None r g u keeps = absurd g
+may_go_on (Some p) r g u keeps = (p, (refl, record { pending = g; under_way = under_way (running_kept r) r.outer u; keeps = keeps p refl }))

@@ -2,7 +2,7 @@
 use Rattle.std.proofs.Common.{◌≡◌, ◌∙◌, sym, ap, ℕ, zero, suc, ◌+◌, ◌<◌, ◌≤◌, List, [], ◌∷◌, ◌++◌, length, get_or, drop, refl, arith, add-one, append_assoc, codes}
 use Rattle.spec_value.specs.Datum.{Text}
 use Rattle.spec_moo.specs.Leaving.{Traced}
-use Rattle.spec_moo.specs.Telling.{called_from, verb_spelled}
+use Rattle.spec_moo.specs.Telling.{called_from, told, verb_spelled}
 
 -- the line of a verb that called another
 abbrev pub caller_line : Traced → Text
@@ -30,3 +30,20 @@ one_caller told before after ts i t l e line h =
 -- and no more
 pub last_caller : (told lines : List Text) (ts : List Traced) (i : ℕ) → length ts ≤ i → lines ++ called_from (drop i ts) ≡ told → lines ++ called_from [] ≡ told
 last_caller told lines ts i l h = ap (λ (xs : List Text). lines ++ xs) (sym (callers_none ts i l)) ∙ h
+
+-- the innermost verb, those that called it, and the end
+pub told_whole : (whole between first : List Text) (end line why : Text) (vs : List Traced) (t : Traced) (ts : List Traced) → whole ≡ between ++ end ∷ []
+    → end ≡ codes "(End of traceback)" → between ++ called_from [] ≡ first ++ called_from ts → first ≡ line ∷ [] → line ≡ verb_spelled t ++ codes ": " ++ why → vs ≡ t ∷ ts
+    → whole ≡ told why vs
+told_whole whole between first end line why vs t ts last end_is callers alone line_is verbs =
+    last ∙ ap (λ (x : Text). between ++ x ∷ []) end_is ∙ callers ∙ ap (λ (xs : List Text). xs ++ called_from ts) alone ∙ ap (λ (x : Text). x ∷ called_from ts) line_is ∙ ap (told why) (sym verbs)
+
+no_verbs : (vs : List Traced) → length vs ≡ 0 → vs ≡ []
+no_verbs [] e = refl
+no_verbs (t ∷ ts) e = absurd (omega (arith, e))
+
+-- the end alone
+pub told_none : (whole between : List Text) (end why : Text) (vs : List Traced) → whole ≡ between ++ end ∷ [] → end ≡ codes "(End of traceback)" → between ≡ []
+    → length vs ≡ 0 → whole ≡ told why vs
+told_none whole between end why vs last end_is none verbs =
+    last ∙ ap (λ (xs : List Text). xs ++ end ∷ []) none ∙ ap (λ (x : Text). x ∷ []) end_is ∙ ap (told why) (sym (no_verbs vs verbs))

@@ -1,17 +1,18 @@
--- What the lines spell are texts.
-use Rattle.std.proofs.Common.{◌≡◌, ◌++◌, ℤ, List, ℕ, codes, refl, IsTrue}
+-- A verb as it is spelled in a line.
+use Rattle.std.proofs.Common.{◌≡◌, ◌++◌, ◌∙◌, ℤ, List, ℕ, codes, sym, ap, append_assoc, Result, Ok, Err}
+use Rattle.std.specs.Prelude.{IfOk}
 use Rattle.std.specs.Fmt.{signed_decimal}
-use Rattle.spec_value.specs.Datum.{is_text, in_number_range, integer}
-use Rattle.moo_value.proofs.Characters.{is_text-append}
-use Rattle.moo_value.proofs.Written.{text_shown}
+use Rattle.spec_value.specs.Datum.{object}
+use Rattle.spec_value.specs.Literal.{to_text}
+use Rattle.spec_moo.specs.Leaving.{Traced}
+use Rattle.spec_moo.specs.Telling.{verb_spelled}
 
-spelled_text : (z : ℤ) (verb : List ℕ) → IsTrue (in_number_range z) → IsTrue (is_text verb) → IsTrue (is_text (codes "#" ++ signed_decimal z ++ codes ":" ++ verb))
-spelled_text z verb h k = is_text-append (signed_decimal z) (codes ":" ++ verb) (text_shown (integer z) h) k
+-- what is one thing is what that is
+pub then_is : {T E : Type 0} (r : Result T E) (x y : T) → IfOk r (λ t. t ≡ x) → x ≡ y → IfOk r (λ t. t ≡ y)
+then_is (Ok t) x y h e = h ∙ e
+then_is (Err f) x y h e = tt
 
-pub caller_text : (z : ℤ) (verb : List ℕ) → IsTrue (in_number_range z) → IsTrue (is_text verb)
-    → IsTrue (is_text (codes "called from " ++ codes "#" ++ signed_decimal z ++ codes ":" ++ verb))
-caller_text z verb h k = spelled_text z verb h k
-
-pub stopped_text : (z : ℤ) (verb why : List ℕ) → IsTrue (in_number_range z) → IsTrue (is_text verb) → IsTrue (is_text why)
-    → IsTrue (is_text ((codes "#" ++ signed_decimal z ++ codes ":" ++ verb) ++ codes ": " ++ why))
-stopped_text z verb why h k l = is_text-append (codes "#" ++ signed_decimal z ++ codes ":" ++ verb) (codes ": " ++ why) (spelled_text z verb h k) l
+pub spelled_is : (t : Traced) (number name : List ℕ) → number ≡ to_text (object t.definer) → name ≡ t.verb → number ++ (codes ":" ++ name) ≡ verb_spelled t
+spelled_is t number name n v =
+    ap (λ (x : List ℕ). x ++ (codes ":" ++ name)) n ∙ ap (λ (x : List ℕ). to_text (object t.definer) ++ (codes ":" ++ x)) v
+    ∙ sym (append_assoc (to_text (object t.definer)) (codes ":") t.verb)

@@ -7,6 +7,8 @@ ghost use Rattle.moo_machine.specs.Meant.{failure_meant};
 
 use moo_machine::leaving::{Failure, Traced};
 use moo_value::text::Text;
+use moo_value::value::Value;
+use moo_value::write::to_str;
 use std::alloc::{AllocError, Global};
 
 /// Why a task stopped that had no tick left.
@@ -58,25 +60,31 @@ fn push_callers(alloc: Global, lines: &mut Vec<Text>, verbs: &[Traced]) -> Resul
     Ok(())
 }
 
-#[tactic(auto, using(crate::proofs::Spelled::stopped_text))]
+// The innermost verb, and why it stopped.
 fn stopped_line(alloc: Global, verb: &Traced, why: &str) -> Result<Text, AllocError>
     requires { IsTrue (is_text why.now) }
     ensures { IfOk result (λ t. t ≡ verb_spelled verb.now ++ codes ": " ++ why.now) }
 {
-    verb.verb.know();
-    let definer = verb.definer;
-    let name = verb.verb.as_str();
-    let text = format!(in alloc; "#{definer}:{name}: {why}")?;
-    Text::from_string(text)
+    let spelled = spelled(alloc, verb)?;
+    spelled.know();
+    Text::joined(alloc, spelled.as_str(), ": ", why)
 }
 
-#[tactic(auto, using(crate::proofs::Spelled::caller_text))]
+// A verb that called another.
 fn caller_line(alloc: Global, verb: &Traced) -> Result<Text, AllocError>
     ensures { IfOk result (λ t. t ≡ codes "called from " ++ verb_spelled verb.now) }
 {
+    let spelled = spelled(alloc, verb)?;
+    spelled.know();
+    Text::joined(alloc, "called from ", spelled.as_str(), "")
+}
+
+fn spelled(alloc: Global, verb: &Traced) -> Result<Text, AllocError>
+    ensures { IfOk result (λ t. t ≡ verb_spelled verb.now) }
+{
+    let definer = Value::object(verb.definer);
+    definer.know();
+    let number = to_str(alloc, &definer)?;
     verb.verb.know();
-    let definer = verb.definer;
-    let name = verb.verb.as_str();
-    let text = format!(in alloc; "called from #{definer}:{name}")?;
-    Text::from_string(text)
+    Text::joined(alloc, number.as_str(), ":", verb.verb.as_str())
 }

@@ -1,5 +1,5 @@
 -- A task that begins with a verb, and one that goes on, may run.
-use Rattle.std.proofs.Common.{◌≡◌, ◌∙◌, ap, sym, refl, subst, ℤ, List, [], Option, Some, None}
+use Rattle.std.proofs.Common.{◌≡◌, ◌∙◌, ◌+◌, ap, sym, refl, subst, ℤ, List, [], Option, Some, None, arith}
 use Rattle.spec_value.specs.Datum.{Data, Text}
 use Rattle.spec_program.specs.Tree.{Program}
 use Rattle.spec_program.specs.Construct.{of_program}
@@ -11,7 +11,7 @@ use Rattle.spec_moo.specs.Steps.Running.{begun}
 use Rattle.spec_moo.specs.Worlds as worlds
 use Rattle.spec_ready.proofs.GoingOn.{beginnings_stand}
 use Rattle.moo_code.specs.Machine.{Kept, Outer}
-use Rattle.moo_code.specs.Stands.{AllWait, Verb, Stands}
+use Rattle.moo_code.specs.Stands.{AllWait, Verb, Stands, first_size}
 use Rattle.moo_code.proofs.Runs.{verbs_begin}
 use Rattle.moo_frame.specs.Frames as frames
 use Rattle.moo_frame.specs.Outcomes.{running_kept}
@@ -22,7 +22,7 @@ use Rattle.moo_task.specs.UnderWay.{GoesOn, verb_of}
 use Rattle.step_tasks.specs.Tasks.{MayRun}
 
 -- a verb at its beginning
-abbrev first_kept : ℤ → Call → Text → Start → Data → Program → Kept
+abbrev pub first_kept : ℤ → Call → Text → Start → Data → Program → Kept
 first_kept player c word s args body =
     record { call = c; start = s; program = body; variables = starting player c word s args; place = 0; operands = [] }
 
@@ -63,3 +63,12 @@ pub may_go_on : (o : Option pending.Pending) (r : Running) → GoesOn o r.player
     → ((p : pending.Pending) → o ≡ Some p → worlds.IsUnderWay p) → (p : pending.Pending) × ((o ≡ Some p) × MayRun r p)
 may_go_on None r g u keeps = absurd g
 may_go_on (Some p) r g u keeps = (p, (refl, record { pending = g; under_way = under_way (running_kept r) r.outer u; keeps = keeps p refl }))
+
+-- how the machine stands at a verb's beginning
+pub begun_kept : (player : ℤ) (c : Call) (word : Text) (s : Start) (args : Data) (body : Program) (r : Running) → MayRun r (begun player c word s args body)
+    → running_kept r ≡ first_kept player c word s args body
+begun_kept player c word s args body r h =
+    let stands = h.pending.stands in
+    let front : stands.place + first_size (of_program body) ≡ 0 = stands.means.place in
+    let place : stands.place ≡ 0 = omega (arith, front) in
+    stands.is ∙ (λ i. record { call = c; start = s; program = body; variables = starting player c word s args; place = place i; operands = stands.means.stack i })

@@ -10,11 +10,25 @@ use Rattle.spec_moo.specs.Pending.{Stop, done, raised, out_of_ticks, waiting, ki
 use Rattle.spec_moo.specs.Telling.{stop_lines}
 use Rattle.spec_moo.specs.Steps.Running.{told, told_on, after_stop, stopped_as, waiting_result, waiting_task, put_by}
 use Rattle.spec_step.specs.Outcome.{Result, value_of}
+use Rattle.std.specs.declared.vec.Vec.{Vec}
+use Rattle.std.specs.declared.alloc.Global.{Global}
+use Rattle.spec_world.specs.WellFormed.{FramesStand}
+use Rattle.spec_moo.specs.Leaving.{Traced}
+use Rattle.moo_code.specs.Machine.{Outer, verb}
+use Rattle.moo_code.specs.Stands.{AllWait}
 use Rattle.moo_frame.specs.Deeds.{scene_of}
+use Rattle.moo_frame.specs.Effects.{waiting_of}
+use Rattle.moo_frame.specs.Frames.{kept_of}
+use Rattle.moo_frame.specs.Outcomes.{end_of}
+use Rattle.moo_frame.specs.declared.effect.Waiting.{Waiting as WaitingOf}
+use Rattle.moo_frame.specs.declared.frame.Frame.{Frame}
+use Rattle.moo_frame.specs.declared.outcome.End.{End}
+use Rattle.moo_run.specs.declared.stopped.Stop.{Stop as MachineStop}
+use Rattle.moo_run.specs.declared.stopped.Stop.TheVariants.{Ends, OutOfTicks, Waits}
 use Rattle.moo_frame.specs.declared.deeds.Deeds.{Deeds}
 use Rattle.task_step.specs.OutcomeView.{result_of}
 use Rattle.task_step.specs.declared.outcome.Ending.{Ending}
-use Rattle.step_tasks.specs.Stops.{SettlesAs}
+use Rattle.step_tasks.specs.Stops.{SettlesAs, Settles, StopIs}
 
 -- no lines
 on_link : (s : Scene) (c : Option ℤ) → told_on s c [] ≡ s
@@ -84,3 +98,21 @@ no_value_else (waiting (forked m) es) v e = cc
 no_value_else (waiting (timed m u) es) v e = cc
 no_value_else (waiting idle es) v e = cc
 no_value_else (waiting (reading_on c) es) v e = cc
+
+-- ---- what the stop of a machine does
+
+module _ (player : ℤ) (e : Ending) (d f : Deeds) (before after : World) where
+  pub ends_settles : (stop : MachineStop) (end : End) → stop ≡ Ends end → SettlesAs player (end_of end) e d before f after → Settles player stop e d before f after
+  ends_settles stop end is h why s =
+      let same : why ≡ end_of end = subst (StopIs why) is s in subst (λ (x : Stop). SettlesAs player x e d before f after) (sym same) h
+
+  pub ticks_settle : (stop : MachineStop) (ts : Vec Traced Global) → stop ≡ OutOfTicks ts → SettlesAs player (out_of_ticks ts.items) e d before f after
+      → Settles player stop e d before f after
+  ticks_settle stop ts is h why s =
+      let same : why ≡ out_of_ticks ts.items = subst (StopIs why) is s in subst (λ (x : Stop). SettlesAs player x e d before f after) (sym same) h
+
+  pub waits_settle : (stop : MachineStop) (u : WaitingOf) (k : Frame) (ks : List Outer) → stop ≡ Waits u k ks
+      → ((es : List Entry) → AllWait es (verb (kept_of k) ∷ ks) → FramesStand es → SettlesAs player (waiting (waiting_of u) es) e d before f after)
+      → Settles player stop e d before f after
+  waits_settle stop u k ks is h why s =
+      let there = subst (StopIs why) is s in subst (λ (x : Stop). SettlesAs player x e d before f after) (sym there.1) (h there.0 there.2 there.3)

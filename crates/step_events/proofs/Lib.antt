@@ -1,0 +1,3 @@
+pub mod Logins
+pub mod Playing
+pub mod Relinks

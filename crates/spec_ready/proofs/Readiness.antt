@@ -39,19 +39,36 @@ ready_of k s h holds =
 
 -- ---- at the beginning
 
-pub opens_ready : OpensReady
-opens_ready w s t h r =
+-- what is said of a step's number and moment
+record Numbers (s : Step) : Type 0 where
+  one : 1 ≤ s.number
+  small : s.number ≤ 33554431
+  moment : IsTrue (is_moment s.moment)
+
+numbers_of : (s : Step) → IsTrue (in_range s) → Numbers s
+numbers_of s r =
     let before_event : IsTrue (nat_le 1 s.number && nat_le s.number 33554431 && is_moment s.moment && (length s.key == 32) && list_all (λ b. nat_lt b 256) s.key) = first_holds _ (event_in_range s.event) r in
     let with_moment : IsTrue (nat_le 1 s.number && nat_le s.number 33554431 && is_moment s.moment) = first_holds _ (length s.key == 32) (first_holds _ (list_all (λ b. nat_lt b 256) s.key) before_event) in
     let numbers : IsTrue (nat_le 1 s.number && nat_le s.number 33554431) = first_holds _ (is_moment s.moment) with_moment in
-    let one : 1 ≤ s.number = leb-true 1 s.number (first_holds _ (nat_le s.number 33554431) numbers) in
-    let small : s.number ≤ 33554431 = leb-true s.number 33554431 (second_holds (nat_le 1 s.number) _ numbers) in
+    record {
+      one = leb-true 1 s.number (first_holds _ (nat_le s.number 33554431) numbers);
+      small = leb-true s.number 33554431 (second_holds (nat_le 1 s.number) _ numbers);
+      moment = second_holds _ (is_moment s.moment) with_moment;
+    }
+
+pub number_small : (s : Step) → IsTrue (in_range s) → s.number ≤ 33554431
+number_small s r = (numbers_of s r).small
+
+pub opens_ready : OpensReady
+opens_ready w s t h r =
+    let n = numbers_of s r in
+    let one : 1 ≤ s.number = n.one in
+    let small : s.number ≤ 33554431 = n.small in
     let agrees = agrees_of w h in
     let limit : w.next ≤ 33554432 = leb-true w.next 33554432 (second_holds (nat_le 1 w.next) _ agrees.queue.next_in_range) in
     let raised : Agrees (numbered s.number w) = next_raised w (max (suc s.number) w.next) (omega arith) (omega arith) agrees in
     ready_of (max (suc s.number) w.next) (opening_scene (numbered s.number w) s t)
-    (record { world = raised; number = one; before = omega arith; moment = second_holds _ (is_moment s.moment) with_moment; ids = omega arith; own = tt; next = refl })
-    (waiting_holds w h)
+    (record { world = raised; number = one; before = omega arith; moment = n.moment; ids = omega arith; own = tt; next = refl }) (waiting_holds w h)
 
 pub ticks_aside : TicksAside
 ticks_aside s t h =

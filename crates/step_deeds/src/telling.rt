@@ -5,7 +5,7 @@ ghost use Rattle.spec_moo.specs.Steps.Running.{told, told_on};
 ghost use Rattle.moo_frame.specs.Deeds.{scene_of};
 ghost use Rattle.view.specs.Law.{Lasts, Tells};
 
-use moo_frame::deeds::{Deeds};
+use moo_frame::deeds::Deeds;
 use moo_value::text::Text;
 use std::alloc::AllocError;
 use view::law::View;

@@ -1,3 +1,4 @@
 pub mod Logins
 pub mod Playing
 pub mod Relinks
+pub mod Steps

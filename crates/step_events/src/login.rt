@@ -56,7 +56,9 @@ pub fn login<V: View, N: Natives>(
     let found = on_system(view, "do_login_command")?;
     match found {
         Some(found) => {
-            let outcome = log_in(alloc, view, natives, deeds, connection, argstr, arguments, &found)?;
+            let outcome = log_in(
+                alloc, view, natives, deeds, connection, argstr, arguments, &found,
+            )?;
             Ok(outcome)
         }
         None => {
@@ -82,7 +84,7 @@ fn log_in<V: View, N: Natives>(
     ensures lasts { Lasts V.holds V.home V.anchor view.old view.new result }
     ensures played { IfOk result (λ o. (args : Data) → arguments ≡ list args → Goes V.holds V.now view.old view.new
         (λ before after. StepsTo (after_login connection (run_of (scene_of deeds before foreground_ticks)
-            (system_task_of (connection_object_of connection) (codes "do_login_command") argstr args found.now))) after o)) }
+        (system_task_of (connection_object_of connection) (codes "do_login_command") argstr args found.now))) after o)) }
 {
     let object = connection_object(connection)?;
     let task = system_task(
@@ -260,12 +262,7 @@ fn queue_greeting<V: View>(
 }
 
 // The task that greets a player, due at a moment.
-fn greeting(
-    alloc: Global,
-    moment: u32,
-    player: i32,
-    found: &FoundVerb,
-) -> Result<Task, AllocError>
+fn greeting(alloc: Global, moment: u32, player: i32, found: &FoundVerb) -> Result<Task, AllocError>
     ensures { IfOk result (λ task. (s : Scene) → s.moment ≡ moment → task ≡ user_task s player found.now) }
 {
     let argstr = Text::from_str(alloc, "")?;

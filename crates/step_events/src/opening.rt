@@ -50,12 +50,7 @@ pub fn nothing(alloc: Global, deeds: &Deeds) -> Result<Outcome, AllocError>
 }
 
 /// A link is told a line, and nothing runs.
-pub fn says(
-    alloc: Global,
-    deeds: Deeds,
-    connection: i32,
-    line: &str,
-) -> Result<Outcome, AllocError>
+pub fn says(alloc: Global, deeds: Deeds, connection: i32, line: &str) -> Result<Outcome, AllocError>
     requires { IsTrue (is_text line.now) }
     ensures { IfOk result (λ o. (w : World) (t : ℕ) → says_to (scene_of deeds w t) connection line.now ≡ (w, o)) }
 {

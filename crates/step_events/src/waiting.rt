@@ -90,8 +90,16 @@ pub fn read_by<V: View, N: Natives>(
     let task = read_task(view, id)?;
     match task {
         Some(task) => {
-            let outcome =
-                resume(alloc, view, natives, deeds, id, &task, value, FOREGROUND_TICKS)?;
+            let outcome = resume(
+                alloc,
+                view,
+                natives,
+                deeds,
+                id,
+                &task,
+                value,
+                FOREGROUND_TICKS,
+            )?;
             Ok(outcome)
         }
         None => {

@@ -51,12 +51,19 @@ pub fn system_task(
     let name = Text::from_str(alloc, word)?;
     let start = unnamed(alloc, argstr)?;
     let program = program_of(found)?;
-    let task = begin(alloc, caller, called, name, start, arguments, program, ticks)?;
+    let task = begin(
+        alloc, caller, called, name, start, arguments, program, ticks,
+    )?;
     Ok(task)
 }
 
 // Who runs a verb of `#0`.
-fn system_called(alloc: Global, caller: i32, word: &str, found: &FoundVerb) -> Result<Call, AllocError>
+fn system_called(
+    alloc: Global,
+    caller: i32,
+    word: &str,
+    found: &FoundVerb,
+) -> Result<Call, AllocError>
     requires { IsTrue (is_text word.now) }
     ensures { IfOk result (λ c. c ≡ system_call caller word.now found.now) }
 {

@@ -1,17 +1,16 @@
 -- A task that waited in a world whose tasks agree is under way when it goes on.
-use Rattle.std.proofs.Common.{◌≡◌, ℤ, ◌&&◌, List, [], ◌∷◌, Option, Some, None, IsTrue, refl, sym, subst, arith}
-use Rattle.spec_value.specs.Datum.{Datum, Data, Text}
+use Rattle.std.proofs.Common.{◌≡◌, ℤ, List, [], ◌∷◌, Option, Some, None, IsTrue, refl, sym, subst, arith}
+use Rattle.spec_value.specs.Datum.{Datum}
 use Rattle.spec_value.specs.Table.{at}
 use Rattle.spec_value.proofs.Entries.{second_holds}
-use Rattle.spec_program.specs.Tree.{Program}
 use Rattle.spec_program.specs.Construct.{Construct, of_expr, of_target, of_default, of_statement, of_program, Piece}
 use Rattle.spec_program.specs.Place.{is_call, Linked}
-use Rattle.spec_world.specs.World.{World, Call, Start, Entry, frame_entry, native_entry, Task, Waiting, forked, timed, idle, reading_on}
+use Rattle.spec_world.specs.World.{World, Entry, frame_entry, native_entry, Task, Waiting, forked, timed, idle, reading_on}
 use Rattle.spec_world.specs.WellFormed.{is_moment, fork_fits, at_beginning, waiting_fits, TaskStands, FramesStand}
 use Rattle.spec_world.specs.Agreeing.{EntriesHold, Agrees}
 use Rattle.spec_moo.specs.Pending.{hand, Pending, going_on}
 use Rattle.spec_moo.specs.Standing.{LooksAt}
-use Rattle.spec_moo.specs.Steps.Running.{begun, beginning_of, begun_again, gone_on}
+use Rattle.spec_moo.specs.Steps.Running.{beginning_of, begun_again, gone_on}
 use Rattle.spec_moo.specs.Worlds.{IsUnderWay}
 use Rattle.spec_ready.specs.Ready.{BeginningsStand}
 

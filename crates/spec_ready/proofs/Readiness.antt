@@ -13,17 +13,17 @@ use Rattle.spec_world.specs.Agreeing.{Agrees, frames_hold}
 use Rattle.spec_world.specs.Links.{connection_object, connection_of, reads_on, open_link, close_link}
 use Rattle.spec_world.proofs.TablesKept.{at_left}
 use Rattle.spec_world.proofs.Trees.{either, first_of, second_of}
-use Rattle.spec_world.proofs.WorldsKept.{agrees_of, well_formed_agrees, agrees_is_well_formed, tasks_left, next_raised, link_put, IsFree, link_closed_keeps, none_among, closed_is_free, person_found}
+use Rattle.spec_world.proofs.WorldsKept.{agrees_of, well_formed_agrees, agrees_is_well_formed, tasks_left, next_raised, link_put, link_closed_keeps, none_among, closed_is_free, person_found}
 use Rattle.spec_step.specs.Step.{Step, in_range, event_in_range}
-use Rattle.spec_moo.specs.Scene.{Scene, in_world, with_ticks}
+use Rattle.spec_moo.specs.Scene.{Scene, in_world}
 use Rattle.spec_moo.specs.Linking.{connection_closed, link_closed}
-use Rattle.spec_moo.specs.Pending.{Pending, Stop, done}
-use Rattle.spec_moo.specs.Segment.{Ended, segment}
+use Rattle.spec_moo.specs.Pending.{Stop, done}
+use Rattle.spec_moo.specs.Segment.{segment}
 use Rattle.spec_moo.specs.Steps.{numbered}
 use Rattle.spec_moo.specs.Steps.Outcomes.{opening_scene}
-use Rattle.spec_moo.specs.Steps.Running.{told_on, after_stop, gone_on, run}
-use Rattle.spec_moo.specs.Steps.Events.{is_player, is_open_for, may_log_in, with_own_task}
-use Rattle.spec_moo.specs.Worlds.{IdFits, IsUnderWay, SceneAgrees, StopKeeps}
+use Rattle.spec_moo.specs.Steps.Running.{told_on, after_stop, run}
+use Rattle.spec_moo.specs.Steps.Events.{is_player, is_open_for, with_own_task}
+use Rattle.spec_moo.specs.Worlds.{SceneAgrees, StopKeeps}
 use Rattle.spec_moo.proofs.NativeWorlds.{in_agreeing, closed_scene}
 use Rattle.spec_moo.proofs.SegmentWorlds.{segments_keep}
 use Rattle.spec_ready.specs.Ready.{IsReady, OpensReady, TicksAside, LinksOpen, LinksClose, TasksLeave, ValuesLeaveReady, relinked, PlayersLogIn, GoingOnStands}

@@ -1,5 +1,5 @@
 -- When a step may run a task: its world is well formed, and its scene agrees with it.
-use Rattle.std.specs.Prelude.{◌≡◌, ℕ, ℤ, true, List, [], ◌∷◌, Some, None, IsTrue, codes}
+use Rattle.std.specs.Prelude.{◌≡◌, ℕ, ℤ, true, [], ◌∷◌, Some, None, IsTrue, codes}
 use Rattle.spec_value.specs.Datum.{Datum, Data, Text}
 use Rattle.spec_value.specs.Table.{at}
 use Rattle.spec_program.specs.Tree.{Program}

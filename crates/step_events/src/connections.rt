@@ -1,7 +1,8 @@
 //! Connections that open and end.
-ghost use Rattle.std.specs.Prelude.{◌≡◌, [], IfOk, IsTrue, codes};
+ghost use Rattle.std.specs.Prelude.{◌≡◌, [], None, IfOk, IsTrue, codes};
 ghost use Rattle.spec_value.specs.Datum.{no_data, item, object as object_value};
 ghost use Rattle.spec_value.specs.Table.{at};
+ghost use Rattle.spec_world.specs.World.{World};
 ghost use Rattle.spec_world.specs.WellFormed.{is_connection};
 ghost use Rattle.spec_world.specs.VerbsSought.{find_verb};
 ghost use Rattle.spec_step.specs.Step.{Step as StepOf};
@@ -48,9 +49,31 @@ pub fn open<V: View, N: Natives>(
         (λ before after. StepsTo (opened_link s before connection (at before.links connection)) after o)) }
 {
     let link = read_link(view, connection)?;
-    if link.is_some() {
-        return Ok(idle(alloc, Ending::Nothing));
+    match link {
+        Some(_) => Ok(idle(alloc, Ending::Nothing)),
+        None => {
+            let outcome = open_new(alloc, view, natives, deeds, connection)?;
+            Ok(outcome)
+        }
     }
+}
+
+// A connection opens whose number is not that of an open one.
+fn open_new<V: View, N: Natives>(
+    alloc: Global,
+    view: &mut V,
+    natives: &mut N,
+    deeds: Deeds,
+    connection: i32,
+) -> Result<Outcome, AllocError>
+    requires home { V.holds view.old (V.home view.old) }
+    requires ready { AreReady V.holds V.now view.old deeds }
+    requires connection { IsTrue (is_connection connection) }
+    requires new { (w : World) → V.holds view.old w → at (V.now view.old w).links connection ≡ None }
+    ensures lasts { Lasts V.holds V.home V.anchor view.old view.new result }
+    ensures played { IfOk result (λ o. (s : StepOf) → IsOpening s deeds → Goes V.holds V.now view.old view.new
+        (λ before after. StepsTo (opened_link s before connection None) after o)) }
+{
     let object = connection_object(connection)?;
     write_link(view, connection, Some(Link::new(object)))?;
     let argstr = Text::from_str(alloc, "")?;

@@ -197,6 +197,14 @@ as_player : (m : Option Object) → is_player m ≡ passes m (λ x. x.header.is_
 as_player None = refl
 as_player (Some x) = refl
 
+open_ranged : (s : Scene) (c : ℤ) (m : Option Link) → IsReady s → at s.world.links c ≡ m → IsTrue (is_open_for m (connection_object c)) → IsTrue (is_connection c)
+open_ranged s c None h e k = cc
+open_ranged s c (Some l) h e k = first_holds (is_connection c) _ (h.agrees.world.links.links c l e)
+
+-- who may log in does so on a link that is open
+pub login_ranged : (s : Scene) (c who : ℤ) → IsReady s → may_log_in s c who ≡ true → IsTrue (is_connection c)
+login_ranged s c who h may = open_ranged s c (at s.world.links c) h refl (second_holds (is_player (object_at s.world who)) _ may)
+
 pub players_log_in : PlayersLogIn
 players_log_in s c who h may =
     let player : is_player (object_at s.world who) ≡ true = first_holds (is_player (object_at s.world who)) _ may in
@@ -204,14 +212,10 @@ players_log_in s c who h may =
     let k : Link = record { person = who; programming = None } in
     let a : SceneAgrees s.world.next t = closed_scene s.world.next s who h.agrees in
     let passing : IsTrue (on_object t.world who (λ x. x.header.is_player)) = sym (as_player (object_at t.world who)) ∙ ap is_player (closed_objects s who who) ∙ player in
-    let fits = both_hold (is_connection c) _ (ranged (at s.world.links c) refl (second_holds (is_player (object_at s.world who)) _ may)) (second_of (int_eq who (neg_ℤ (pos 3) -ℤ c)) _ passing) in
+    let fits = both_hold (is_connection c) _ (login_ranged s c who h may) (second_of (int_eq who (neg_ℤ (pos 3) -ℤ c)) _ passing) in
     let there : SceneAgrees s.world.next (in_world t (open_link t.world c k)) = in_agreeing s.world.next t (open_link t.world c k) a (link_put t.world c k a.world fits (inl (closed_free s who h.agrees.world))) refl in
     ready_of s.world.next (relinked s c who) (told_agrees s.world.next (in_world t (open_link t.world c k)) (Some c) (codes "*** Connected ***" ∷ []) there)
     (closed_waiting s who h.well_formed)
-  where
-    ranged : (m : Option Link) → at s.world.links c ≡ m → IsTrue (is_open_for m (connection_object c)) → IsTrue (is_connection c)
-    ranged None i k = cc
-    ranged (Some l) i k = first_holds (is_connection c) _ (h.agrees.world.links.links c l i)
 
 -- ---- a task that goes on
 

@@ -3,7 +3,7 @@ use Rattle.std.proofs.Common.{◌≡◌, ◌∙◌, ap, sym, refl, ℕ, zero, su
 use Rattle.std.specs.Prelude.{int_le, nat_lt}
 use Rattle.std.proofs.lemmas.Bool.Decides.{nat_tests}
 use Rattle.spec_value.proofs.Entries.{second_holds, both_hold}
-use Rattle.spec_value.specs.Datum.{Text}
+use Rattle.spec_value.specs.Datum.{Text, object, no_data, item}
 use Rattle.spec_value.specs.Table.{with}
 use Rattle.spec_world.specs.World.{World, Link, Task}
 use Rattle.spec_world.specs.WellFormed.{is_connection}
@@ -12,11 +12,15 @@ use Rattle.spec_world.specs.VerbsSought.{Sought}
 use Rattle.spec_view.specs.Questions.{new_link, is_number, apply}
 use Rattle.spec_moo.specs.Scene.{Scene, in_world, has_ids, next_id, id_taken, id_of, enqueued}
 use Rattle.spec_moo.specs.Linking.{link_closed}
-use Rattle.spec_moo.specs.Steps.Running.{told_on}
+use Rattle.spec_moo.specs.Steps.Running.{told_on, system_call, unnamed}
 use Rattle.spec_moo.specs.Steps.Events.{greeted, user_task}
 use Rattle.spec_ready.specs.Ready.{relinked}
+use Rattle.moo_code.specs.Machine.{Kept}
 use Rattle.moo_frame.specs.Deeds.{scene_of}
 use Rattle.moo_frame.specs.declared.deeds.Deeds.{Deeds}
+use Rattle.moo_task.specs.Keeping.{forked_task}
+use Rattle.view.specs.Law.{Goes}
+use Rattle.step_tasks.proofs.Beginnings.{first_kept}
 
 number_of_link : (c : ℤ) → IsTrue (is_connection c) → IsTrue (is_number c)
 number_of_link (pos n) h = both_hold (int_le (pos 0) (pos n)) _ (le-leb 0 n (omega arith)) (second_holds (int_le (pos 1) (pos n)) _ h)
@@ -52,3 +56,15 @@ is_greeted d e g w v i who f task h id given taken put t =
     put t ∙ ap (λ (x : Scene). enqueued x i task) (taken t) ∙ ap (λ (j : ℤ). enqueued (id_taken s) j task) id
     ∙ ap (λ (x : Task). enqueued (id_taken s) (next_id s) x) (given s refl)
     ∙ sym (ap (λ (b : Bool). if b then enqueued (id_taken s) (next_id s) (user_task s who f) else s) more)
+
+-- a link is open after it was written
+pub written_goes : {V : Type 0} (holds : V → World → Type 0) (now : V → World → World) (a b : V) (c : ℤ) (l k : Link) → IsTrue (is_connection c) → l ≡ k
+    → Goes holds now a b (λ before after. after ≡ apply (new_link c (Some l)) before) → Goes holds now a b (λ before after. after ≡ open_link before c k)
+written_goes holds now a b c l k h same written w is =
+    let t = written w is in (t.0, t.1 ∙ ap (λ (x : Link). apply (new_link c (Some x)) (now a w)) same ∙ written_open (now a w) c k h)
+
+-- the task that greets a player, by the verb with which it begins
+pub greeting_is : (s : Scene) (who : ℤ) (moment : ℕ) (f : Sought) (k : Kept) (task : Task) → task ≡ forked_task who moment k
+    → k ≡ first_kept who (system_call who (codes "user_connected") f) (codes "user_connected") (unnamed []) (item (object who) no_data) (f.verb).program → s.moment ≡ moment
+    → task ≡ user_task s who f
+greeting_is s who moment f k task made begun same = made ∙ ap (forked_task who moment) begun ∙ ap (λ n. user_task (record s { moment = n }) who f) (sym same)

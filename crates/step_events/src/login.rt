@@ -49,6 +49,7 @@ pub fn login<V: View, N: Natives>(
 ) -> Result<Outcome, AllocError>
     requires home { V.holds view.old (V.home view.old) }
     requires ready { AreReady V.holds V.now view.old deeds }
+    requires list { (args : Data) × (arguments ≡ list args) }
     ensures lasts { Lasts V.holds V.home V.anchor view.old view.new result }
     ensures played { IfOk result (λ o. (args : Data) → arguments ≡ list args → Goes V.holds V.now view.old view.new
         (λ before after. StepsTo (login_of (scene_of deeds before foreground_ticks) connection argstr args) after o)) }
@@ -81,6 +82,7 @@ fn log_in<V: View, N: Natives>(
 ) -> Result<Outcome, AllocError>
     requires home { V.holds view.old (V.home view.old) }
     requires ready { AreReady V.holds V.now view.old deeds }
+    requires list { (args : Data) × (arguments ≡ list args) }
     ensures lasts { Lasts V.holds V.home V.anchor view.old view.new result }
     ensures played { IfOk result (λ o. (args : Data) → arguments ≡ list args → Goes V.holds V.now view.old view.new
         (λ before after. StepsTo (after_login connection (run_of (scene_of deeds before foreground_ticks)

@@ -1,4 +1,2 @@
 pub mod Logins
-pub mod Playing
-pub mod Relinks
 pub mod Steps

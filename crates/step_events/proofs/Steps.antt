@@ -15,7 +15,7 @@ use Rattle.spec_ready.specs.Ready.{IsReady}
 use Rattle.spec_ready.proofs.Readiness.{opens_ready}
 use Rattle.moo_frame.specs.Deeds.{scene_of}
 use Rattle.moo_frame.specs.declared.deeds.Deeds.{Deeds}
-use Rattle.step_events.specs.Opens.{IsOpening}
+use Rattle.step_tasks.specs.Opens.{IsOpening}
 use Rattle.step_events.specs.Wholes.{IsWhole}
 
 raised_next : (w : World) (m n : ℕ) → m ≤ 33554431 → n ≡ m + 1 → apply (new_next n) w ≡ numbered m w

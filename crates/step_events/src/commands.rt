@@ -17,8 +17,8 @@ ghost use Rattle.step_tasks.specs.Performed.{StepsTo};
 ghost use Rattle.step_tasks.specs.Ready.{AreReady};
 ghost use Rattle.step_tasks.specs.Tasks.{MayRun};
 
-use crate::opening::{FOREGROUND_TICKS, nothing, says};
-use crate::programming::request;
+use step_tasks::opening::{FOREGROUND_TICKS, nothing, says};
+use step_links::programming::request;
 use builtins_world::values::texts_value;
 use command_lines::parts::Parts;
 use command_parser::command::{Command, Meant, Said};
@@ -34,7 +34,7 @@ use moo_value::text::Text;
 use object_match::place::location;
 use std::alloc::{AllocError, Global};
 use step_tasks::begin::{begin, program_of};
-use step_tasks::outcome::play_task;
+use step_runs::play::play_task;
 use task_step::outcome::Outcome;
 use view::law::View;
 

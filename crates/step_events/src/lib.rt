@@ -8,7 +8,5 @@ pub mod commands;
 pub mod connections;
 pub mod lines;
 pub mod login;
-pub mod opening;
 pub mod play;
-pub mod programming;
 pub mod waiting;

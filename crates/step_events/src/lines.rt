@@ -8,14 +8,15 @@ ghost use Rattle.spec_step.specs.Step.{Step as StepOf};
 ghost use Rattle.spec_moo.specs.Steps.Events.{line_on, line_taken, line_read, line_for as line_for_of, words_value as words_value_of, foreground_ticks};
 ghost use Rattle.spec_value.specs.Datum.{list};
 ghost use Rattle.moo_frame.specs.Deeds.{scene_of};
-ghost use Rattle.view.specs.Law.{Goes, Lasts, Tells};
+ghost use Rattle.view.specs.Law.{Goes, Lasts};
 ghost use Rattle.step_tasks.specs.Performed.{StepsTo};
 ghost use Rattle.step_tasks.specs.Ready.{AreReady};
-ghost use Rattle.step_events.specs.Opens.{IsOpening};
+ghost use Rattle.step_tasks.specs.Opens.{IsOpening};
 
 use crate::commands::player_line;
-use crate::login::{connection_object, login};
-use crate::programming::collect;
+use crate::login::login;
+use step_links::logins::connection_object;
+use step_links::programming::collect;
 use crate::waiting::read_by;
 use builtins_world::values::texts_value;
 use command_lines::parts::{Parts, line_parts};
@@ -25,10 +26,11 @@ use moo_run::natives::Natives;
 use moo_value::text::Text;
 use moo_value::value::Value;
 use std::alloc::{AllocError, Global};
+use step_deeds::links::reader;
 use step_tasks::outcome::idle;
 use task_step::outcome::{Ending, Outcome};
 use view::law::View;
-use view::readers::{read_link, read_readers};
+use view::readers::read_link;
 
 /// A connection sends a line. Nothing happens where it is not open.
 pub fn line<V: View, N: Natives>(
@@ -101,7 +103,7 @@ fn read_line<V: View, N: Natives>(
     ensures played { IfOk result (λ o. Goes V.holds V.now view.old view.new (λ before after.
         StepsTo (line_read (scene_of deeds before foreground_ticks) connection link.now text.now (reader_of_link before connection)) after o)) }
 {
-    let reader = reader_of(view, connection)?;
+    let reader = reader(view, connection)?;
     match reader {
         Some(id) => {
             let value = Value::text(text.clone()?);
@@ -141,17 +143,6 @@ fn line_for<V: View, N: Natives>(
     }
     let outcome = player_line(alloc, view, natives, deeds, connection, link, text)?;
     Ok(outcome)
-}
-
-// The task that reads on a connection.
-fn reader_of<V: View>(view: &mut V, connection: i32) -> Result<Option<i32>, AllocError>
-    requires home { V.holds view.old (V.home view.old) }
-    ensures lasts { Lasts V.holds V.home V.anchor view.old view.new result }
-    ensures left { IfOk result (λ i. Tells V.holds V.now view.old view.new (λ w. reader_of_link w connection ≡ i)) }
-{
-    let readers = read_readers(view, connection)?;
-    let first = readers.as_slice().first().copied();
-    Ok(first)
 }
 
 // The words of a line, as a list.

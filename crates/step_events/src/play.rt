@@ -7,12 +7,12 @@ ghost use Rattle.task_step.specs.StepView.{event_of};
 ghost use Rattle.view.specs.Law.{Goes, Lasts};
 ghost use Rattle.step_tasks.specs.Performed.{StepsTo};
 ghost use Rattle.step_tasks.specs.Ready.{AreReady};
-ghost use Rattle.step_events.specs.Opens.{IsOpening};
+ghost use Rattle.step_tasks.specs.Opens.{IsOpening};
 ghost use Rattle.step_events.specs.Wholes.{AreWhole};
 
 use crate::connections::{close, open};
 use crate::lines::line;
-use crate::opening::opening;
+use step_tasks::opening::opening;
 use crate::waiting::ready;
 use moo_frame::deeds::Deeds;
 use moo_run::natives::Natives;

@@ -16,9 +16,7 @@ use Rattle.moo_code.proofs.Runs.{verbs_begin}
 use Rattle.moo_frame.specs.Frames as frames
 use Rattle.moo_frame.specs.Outcomes.{running_kept}
 use Rattle.moo_frame.specs.declared.running.Running.{Running}
-use Rattle.moo_run.specs.Stopping.{IsUnderWay, begins, resumes}
-use Rattle.moo_task.specs.UnderWay as task
-use Rattle.moo_task.specs.UnderWay.{GoesOn, verb_of}
+use Rattle.moo_task.specs.UnderWay.{GoesOn, verb_of, IsUnderWay, begins}
 use Rattle.step_tasks.specs.Tasks.{MayRun}
 
 -- a verb at its beginning
@@ -53,16 +51,11 @@ may_begin player c word s args body r k started named players alone =
       keeps = beginnings_stand player c word s args body;
     }
 
--- a task that goes on is under way for the machine's loop
-pub under_way : (k : Kept) (ks : List Outer) → task.IsUnderWay k ks → IsUnderWay k ks
-under_way k ks (task.begins h) = begins (record { entries = h.entries; waiting = h.waiting; standing = h.standing; place = h.place; operands = h.operands })
-under_way k ks (task.resumes h) =
-    resumes (record { frame = h.frame; entries = h.entries; at_call = h.at_call; value = h.value; waiting = h.waiting; standing = h.standing; is = h.is })
-
-pub may_go_on : (o : Option pending.Pending) (r : Running) → GoesOn o r.player (running_kept r) r.outer → task.IsUnderWay (running_kept r) r.outer
+-- a task that goes on
+pub may_go_on : (o : Option pending.Pending) (r : Running) → GoesOn o r.player (running_kept r) r.outer → IsUnderWay (running_kept r) r.outer
     → ((p : pending.Pending) → o ≡ Some p → worlds.IsUnderWay p) → (p : pending.Pending) × ((o ≡ Some p) × MayRun r p)
 may_go_on None r g u keeps = absurd g
-may_go_on (Some p) r g u keeps = (p, (refl, record { pending = g; under_way = under_way (running_kept r) r.outer u; keeps = keeps p refl }))
+may_go_on (Some p) r g u keeps = (p, (refl, record { pending = g; under_way = u; keeps = keeps p refl }))
 
 -- how the machine stands at a verb's beginning
 pub begun_kept : (player : ℤ) (c : Call) (word : Text) (s : Start) (args : Data) (body : Program) (r : Running) → MayRun r (begun player c word s args body)

@@ -1,3 +1,3 @@
 pub mod Beginnings
-pub mod Endings
-pub mod Runs
+pub mod Playing
+pub mod Values

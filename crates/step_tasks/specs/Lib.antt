@@ -1,4 +1,4 @@
+pub mod Opens
 pub mod Performed
 pub mod Ready
-pub mod Stops
 pub mod Tasks

@@ -3,8 +3,7 @@ use Rattle.spec_moo.specs.Pending.{Pending}
 use Rattle.spec_moo.specs.Worlds as worlds
 use Rattle.moo_frame.specs.Outcomes.{running_kept}
 use Rattle.moo_frame.specs.declared.running.Running.{Running}
-use Rattle.moo_run.specs.Stopping.{IsUnderWay}
-use Rattle.moo_task.specs.UnderWay.{IsPending}
+use Rattle.moo_task.specs.UnderWay.{IsPending, IsUnderWay}
 
 pub record MayRun (task : Running) (p : Pending) : Type 0 where
   pub pending : IsPending p task.player (running_kept task) task.outer

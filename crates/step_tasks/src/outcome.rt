@@ -1,26 +1,14 @@
 //! Outcomes of steps.
 ghost use Rattle.std.specs.Prelude.{◌≡◌, ℕ, map, pos, MatchOption, IfOk};
 ghost use Rattle.spec_world.specs.World.{World};
-ghost use Rattle.spec_moo.specs.Pending.{Pending};
 ghost use Rattle.spec_moo.specs.Steps.Outcomes.{comes_to, idle_with};
-ghost use Rattle.spec_moo.specs.Steps.Running.{run as run_of, came_to};
 ghost use Rattle.moo_frame.specs.Deeds.{scene_of, due_of as due_meant, queued_of as queued_meant, told_of};
-ghost use Rattle.moo_frame.specs.Outcomes.{ticks_of};
 ghost use Rattle.task_step.specs.OutcomeView.{result_of, lines_of, queued_of, due_of, closed_of};
-ghost use Rattle.view.specs.Law.{Goes, Lasts};
-ghost use Rattle.step_tasks.specs.Performed.{StepsTo};
-ghost use Rattle.step_tasks.specs.Ready.{AreReady};
-ghost use Rattle.step_tasks.specs.Stops.{came_to_of};
-ghost use Rattle.step_tasks.specs.Tasks.{MayRun};
 
-use crate::run::{Ran, run_task};
 use moo_frame::deeds;
 use moo_frame::deeds::{Deeds, Told};
-use moo_frame::running::Running;
-use moo_run::natives::Natives;
 use std::alloc::{AllocError, Global};
 use task_step::outcome::{Due, Ending, Outcome, OutputLine, Queued};
-use view::law::View;
 
 /// The outcome of a step, by what it has done, how it ended, and the ticks that it used. No connection's number is negative.
 pub fn outcome(
@@ -42,40 +30,6 @@ pub fn outcome(
         closed,
         checkpoint: deeds.checkpoint,
     })
-}
-
-/// The outcome of a step whose task has run.
-pub fn ran_outcome(alloc: Global, ran: Ran) -> Result<Outcome, AllocError>
-    ensures { IfOk result (λ o. (w : World) → came_to_of w ran ≡ (w, o)) }
-{
-    let Ran {
-        ending,
-        deeds,
-        ticks_left: _,
-        ticks_used,
-    } = ran;
-    let outcome = outcome(alloc, &deeds, ending, ticks_used)?;
-    Ok(outcome)
-}
-
-/// Runs a task, which is all that a step then does.
-pub fn play_task<V: View, N: Natives>(
-    alloc: Global,
-    view: &mut V,
-    natives: &mut N,
-    deeds: Deeds,
-    task: Running,
-) -> Result<Outcome, AllocError>
-    requires home { V.holds view.old (V.home view.old) }
-    requires ready { AreReady V.holds V.now view.old deeds }
-    requires runs { (p : Pending) × MayRun task p }
-    ensures lasts { Lasts V.holds V.home V.anchor view.old view.new result }
-    ensures played { IfOk result (λ o. (p : Pending) → MayRun task p → Goes V.holds V.now view.old view.new
-        (λ before after. StepsTo (came_to (run_of (scene_of deeds before (ticks_of task)) p)) after o)) }
-{
-    let ran = run_task(alloc, view, natives, deeds, task)?;
-    let outcome = ran_outcome(alloc, ran)?;
-    Ok(outcome)
 }
 
 /// The outcome of a step that has done nothing.

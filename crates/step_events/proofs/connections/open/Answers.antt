@@ -3,7 +3,7 @@ use Rattle.std.proofs.lemmas.Int.{to_z-of_z}
 use Rattle.spec_value.specs.Table.{at}
 use Rattle.spec_step.specs.Outcome.{Outcome}
 use Rattle.spec_moo.specs.Steps.Events.{opened_link}
-use Rattle.step_events.proofs.Playing.{plays_told, plays_then, ready_told, told_still}
+use Rattle.step_tasks.proofs.Playing.{plays_told, plays_then, ready_told, told_still}
 use Rattle.step_events.proofs.connections.open.Goals as goal
 
 pub open_new-requires-clause-ready : goal.open_new-requires-clause-ready

@@ -7,8 +7,8 @@ use Rattle.spec_moo.specs.Scene.{Scene}
 use Rattle.spec_moo.specs.Steps.Events.{opened_link, login, foreground_ticks}
 use Rattle.spec_ready.proofs.Readiness.{links_open}
 use Rattle.moo_frame.specs.Deeds.{scene_of}
-use Rattle.step_events.proofs.Playing.{plays_changed, ready_changed}
-use Rattle.step_events.proofs.Relinks.{written_goes}
+use Rattle.step_tasks.proofs.Playing.{plays_changed, ready_changed}
+use Rattle.step_links.proofs.Relinks.{written_goes}
 use Rattle.step_events.proofs.connections.open_new.Goals as goal
 
 pub login-requires-clause-ready : goal.login-requires-clause-ready

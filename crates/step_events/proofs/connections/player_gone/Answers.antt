@@ -9,7 +9,7 @@ use Rattle.moo_frame.specs.Deeds.{scene_of}
 use Rattle.moo_frame.specs.Outcomes.{ticks_of}
 use Rattle.view.specs.Law.{Goes}
 use Rattle.step_tasks.specs.Performed.{StepsTo}
-use Rattle.step_events.proofs.Playing.{plays_told, plays_then, ready_told}
+use Rattle.step_tasks.proofs.Playing.{plays_told, plays_then, ready_told}
 use Rattle.step_events.proofs.connections.player_gone.Goals as goal
 
 pub on_system-requires-clause-well_formed : goal.on_system-requires-clause-well_formed

@@ -5,7 +5,7 @@ use Rattle.spec_step.specs.Outcome.{Outcome}
 use Rattle.spec_moo.specs.Scene.{Scene}
 use Rattle.spec_moo.specs.Steps.Events.{line_on, line_taken, foreground_ticks}
 use Rattle.moo_frame.specs.Deeds.{scene_of}
-use Rattle.step_events.proofs.Playing.{plays_told, plays_then, ready_told, told_still}
+use Rattle.step_tasks.proofs.Playing.{plays_told, plays_then, ready_told, told_still}
 use Rattle.step_events.proofs.lines.line.Goals as goal
 
 pub take_line-requires-clause-ready : goal.take_line-requires-clause-ready

@@ -5,7 +5,7 @@ use Rattle.spec_world.specs.VerbsSought.{find_verb}
 use Rattle.spec_moo.specs.Steps.Running.{run, system, system_task}
 use Rattle.spec_moo.specs.Steps.Events.{login, login_with, after_login, foreground_ticks}
 use Rattle.moo_frame.specs.Deeds.{scene_of}
-use Rattle.step_events.proofs.Playing.{plays_told, plays_then, ready_told}
+use Rattle.step_tasks.proofs.Playing.{plays_told, plays_then, ready_told}
 use Rattle.step_events.proofs.login.login.Goals as goal
 
 pub on_system-requires-clause-well_formed : goal.on_system-requires-clause-well_formed

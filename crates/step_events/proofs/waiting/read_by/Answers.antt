@@ -4,7 +4,7 @@ use Rattle.spec_value.specs.Table.{at}
 use Rattle.spec_moo.specs.Steps.Running.{gone_on}
 use Rattle.spec_moo.specs.Steps.Events.{read_by, resumed, with_own_task, foreground_ticks}
 use Rattle.moo_frame.specs.Deeds.{scene_of}
-use Rattle.step_events.proofs.Playing.{plays_told, plays_then, ready_told, told_still}
+use Rattle.step_tasks.proofs.Playing.{plays_told, plays_then, ready_told, told_still}
 use Rattle.step_events.proofs.waiting.read_by.Goals as goal
 
 pub resume-requires-clause-ready : goal.resume-requires-clause-ready

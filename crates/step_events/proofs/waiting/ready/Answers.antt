@@ -3,7 +3,7 @@ use Rattle.std.proofs.lemmas.Int.{to_z-of_z}
 use Rattle.spec_value.specs.Table.{at}
 use Rattle.spec_step.specs.Outcome.{Outcome}
 use Rattle.spec_moo.specs.Steps.Events.{ready_at, ready_run, is_due}
-use Rattle.step_events.proofs.Playing.{plays_told, plays_then, ready_told, told_still}
+use Rattle.step_tasks.proofs.Playing.{plays_told, plays_then, ready_told, told_still}
 use Rattle.step_events.proofs.waiting.ready.Goals as goal
 
 pub ready_run-requires-clause-ready : goal.ready_run-requires-clause-ready

@@ -6,7 +6,7 @@ use Rattle.spec_moo.specs.Steps.Events.{resumed, with_own_task}
 use Rattle.spec_ready.proofs.Readiness.{tasks_leave, going_on_stands}
 use Rattle.moo_frame.specs.Deeds.{scene_of}
 use Rattle.step_tasks.proofs.Beginnings.{may_go_on}
-use Rattle.step_events.proofs.Playing.{plays_changed, ready_changed}
+use Rattle.step_tasks.proofs.Playing.{plays_changed, ready_changed}
 use Rattle.step_events.proofs.waiting.resume.Goals as goal
 
 pub play_task-requires-clause-ready : goal.play_task-requires-clause-ready

@@ -22,7 +22,13 @@ use Rattle.step_tasks.specs.Ready.{AreReady}
 use Rattle.step_links.proofs.Relinks.{relinked_is, is_greeted}
 use Rattle.view.specs.Law.{Goes, Tells}
 use Rattle.step_tasks.proofs.Values.{no_value_else}
-use Rattle.step_links.specs.Accepting.{has_player}
+use Rattle.moo_value.specs.Shown.{shown_datum}
+use Rattle.moo_value.specs.declared.value.Shown.{Shown as ShownDatum}
+use Rattle.moo_value.specs.declared.value.Shown.TheVariants.{Integer, Object, Text as TextOf, Error, List}
+use Rattle.task_step.specs.OutcomeView.{result_of}
+use Rattle.task_step.specs.declared.outcome.Ending.{Ending}
+use Rattle.task_step.specs.declared.outcome.Ending.TheVariants.{Value}
+use Rattle.step_links.specs.Accepting.{Accepts, has_player}
 
 -- whether an object is a player stands in its header
 pub player_is : (m : Option Object) → is_player m ≡ has_player (option_map (λ x. x.header) m)
@@ -35,12 +41,9 @@ abbrev pub IsNoObject : Datum → Type 0
 IsNoObject (object who) = ⊥
 IsNoObject v = Unit {0}
 
-value_stays : (s : Scene) (c : ℤ) (v : Datum) → IsNoObject v → login_value s c (done v) ≡ s
+pub value_stays : (s : Scene) (c : ℤ) (v : Datum) → IsNoObject v → login_value s c (done v) ≡ s
 value_stays s c (object who) h = absurd h
 value_stays s c _ h = refl
-
-pub no_object_stays : (s : Scene) (c : ℤ) (why : Stop) (v : Datum) → IsNoObject v → stopped_as why ≡ value_of v → login_value s c why ≡ s
-no_object_stays s c why v h e = ap (login_value s c) (no_value_else why v e) ∙ value_stays s c v h
 
 abbrev pub IsNoValue : Result → Type 0
 IsNoValue (value_of v) = ⊥
@@ -53,11 +56,48 @@ no_value_stays s c (out_of_ticks ts) r h e = refl
 no_value_stays s c (waiting why es) r h e = refl
 no_value_stays s c killed r h e = refl
 
+pub no_value_of : (e : Ending) → ((v : Datum) → e ≡ Value v → ⊥) → IsNoValue (result_of e)
+no_value_of (Value v) h = absurd (h v refl)
+no_value_of _ h = tt
+
+pub no_object_of : (x : ShownDatum) (v : Datum) → shown_datum x ≡ v → ((o : ℤ) → x ≡ Object o → ⊥) → IsNoObject v
+no_object_of (Object o) v e h = absurd (h o refl)
+no_object_of (Integer n) v e h = subst IsNoObject e tt
+no_object_of (TextOf t) v e h = subst IsNoObject e tt
+no_object_of (Error r) v e h = subst IsNoObject e tt
+no_object_of (List vs) v e h = subst IsNoObject e tt
+
 -- ---- an object
 
-pub object_given : (s : Scene) (c who : ℤ) (b : Bool) (why : Stop) → stopped_as why ≡ value_of (object who) → may_log_in s c who ≡ b
-    → login_value s c why ≡ (if b then logged_in s c who else s)
-object_given s c who b why e is = ap (login_value s c) (no_value_else why (object who) e) ∙ ap (λ z. if z then logged_in s c who else s) is
+pub refused : {V : Type 0} (holds : V → World → Type 0) (now : V → World → World) (a b : V) (d : Deeds) (c who : ℤ)
+    → Tells holds now a b (λ w. (e : Deeds) (t : ℕ) → may_log_in (scene_of e w t) c who ≡ false)
+    → Goes holds now a b (λ before after. (t : ℕ) → scene_of d after t ≡ login_value (scene_of d before t) c (done (object who)))
+refused holds now a b d c who told w h =
+    let k = told w h in (
+      k.0,
+      λ t. ap (λ (x : World). scene_of d x t) k.1.0 ∙ sym (ap (λ z. if z then logged_in (scene_of d (now a w) t) c who else scene_of d (now a w) t) (k.1.1 d t)),
+    )
+
+pub let_in : {V E : Type 0} (holds : V → World → Type 0) (now : V → World → World) (a b u : V) (d f : Deeds) (c who : ℤ) (r : Returned (Unit {0}) E)
+    → Tells holds now a b (λ w. (e : Deeds) (t : ℕ) → may_log_in (scene_of e w t) c who ≡ true)
+    → OnOk r (Goes holds now b u (λ before after. (t : ℕ) → scene_of f after t ≡ logged_in (scene_of d before t) c who))
+    → OnOk r (Goes holds now a u (λ before after. (t : ℕ) → scene_of f after t ≡ login_value (scene_of d before t) c (done (object who))))
+let_in holds now a b u d f c who (Err x) told goes = goes
+let_in holds now a b u d f c who (Ok x) told goes = λ w h.
+    let k = goes w h in
+    let j = told w k.0 in (
+      j.0,
+      λ t. k.1 t ∙ ap (λ (x : World). logged_in (scene_of d x t) c who) j.1.0
+          ∙ sym (ap (λ z. if z then logged_in (scene_of d (now a w) t) c who else scene_of d (now a w) t) (j.1.1 d t)),
+    )
+
+pub accepted_value : {V E : Type 0} (holds : V → World → Type 0) (now : V → World → World) (a u : V) (d f : Deeds) (c : ℤ) (e : Ending) (v : Datum) (r : Returned (Unit {0}) E)
+    → e ≡ Value v → OnOk r (Goes holds now a u (λ before after. (t : ℕ) → scene_of f after t ≡ login_value (scene_of d before t) c (done v)))
+    → OnOk r (Goes holds now a u (λ before after. Accepts c e d before f after))
+accepted_value holds now a u d f c e v (Err x) is goes = goes
+accepted_value holds now a u d f c e v (Ok x) is goes = λ w h.
+    let k = goes w h in
+    (k.0, λ t why same. k.1 t ∙ ap (login_value (scene_of d (now a w) t) c) (sym (no_value_else why v (same ∙ ap result_of is))))
 
 -- a player who has the link is greeted
 pub greeted_after : {V E : Type 0} (holds : V → World → Type 0) (now : V → World → World) (a b u : V) (d e f : Deeds) (c who : ℤ) (r : Returned (Unit {0}) E)

@@ -1,10 +1,12 @@
 -- Links that are written, and what is told and queued with them.
-use Rattle.std.proofs.Common.{◌≡◌, ◌∙◌, ap, sym, refl, ℕ, zero, suc, ◌+◌, ◌<◌, ◌≤◌, ℤ, pos, negsuc, Bool, true, false, ◌&&◌, List, [], ◌∷◌, Option, Some, None, IsTrue, if◌then◌else◌, codes, arith, le-leb}
+use Rattle.std.proofs.Common.{◌≡◌, ◌∙◌, ap, sym, refl, ℕ, zero, suc, ◌+◌, ◌<◌, ◌≤◌, ℤ, pos, negsuc, Bool, true, false, ◌&&◌, List, [], ◌∷◌, ◌++◌, append_assoc, Option, Some, None, IsTrue, if◌then◌else◌, codes, arith, le-leb}
 use Rattle.std.specs.Prelude.{int_le, nat_lt}
 use Rattle.std.proofs.lemmas.Bool.Decides.{nat_tests}
-use Rattle.spec_value.proofs.Entries.{second_holds, both_hold}
+use Rattle.std.specs.Fmt.{signed_decimal}
+use Rattle.spec_value.specs.Literal.{to_text}
+use Rattle.spec_value.proofs.Entries.{first_holds, second_holds, both_hold}
 use Rattle.spec_value.specs.Datum.{Text, object, no_data, item}
-use Rattle.spec_value.specs.Table.{with}
+use Rattle.spec_value.specs.Table.{at, with}
 use Rattle.spec_world.specs.World.{World, Link, Task}
 use Rattle.spec_world.specs.WellFormed.{is_connection}
 use Rattle.spec_world.specs.Links.{open_link}
@@ -14,7 +16,7 @@ use Rattle.spec_moo.specs.Scene.{Scene, in_world, has_ids, next_id, id_taken, id
 use Rattle.spec_moo.specs.Linking.{link_closed}
 use Rattle.spec_moo.specs.Steps.Running.{told_on, system_call, unnamed}
 use Rattle.spec_moo.specs.Steps.Events.{greeted, user_task}
-use Rattle.spec_ready.specs.Ready.{relinked}
+use Rattle.spec_ready.specs.Ready.{IsReady, relinked}
 use Rattle.moo_code.specs.Machine.{Kept}
 use Rattle.moo_frame.specs.Deeds.{scene_of}
 use Rattle.moo_frame.specs.declared.deeds.Deeds.{Deeds}
@@ -68,3 +70,15 @@ pub greeting_is : (s : Scene) (who : ℤ) (moment : ℕ) (f : Sought) (k : Kept)
     → k ≡ first_kept who (system_call who (codes "user_connected") f) (codes "user_connected") (unnamed []) (item (object who) no_data) (f.verb).program → s.moment ≡ moment
     → task ≡ user_task s who f
 greeting_is s who moment f k task made begun same = made ∙ ap (forked_task who moment) begun ∙ ap (λ n. user_task (record s { moment = n }) who f) (sym same)
+
+-- a link that is there is that of a connection
+pub link_ranged : (s : Scene) (c : ℤ) (k : Link) → IsReady s → at s.world.links c ≡ Some k → IsTrue (is_connection c)
+link_ranged s c k h e = first_holds (is_connection c) _ (h.well_formed.links c k e)
+
+-- what a player is told whose lines are collected
+pub programming_told : (o : ℤ) (first name verb number : List ℕ) → first ≡ codes "Now programming " ++ (number ++ codes ":") → number ≡ to_text (object o) → name ≡ verb
+    → first ++ (name ++ codes ".") ≡ codes "Now programming #" ++ (signed_decimal o ++ (codes ":" ++ (verb ++ codes ".")))
+programming_told o first name verb number made is same =
+    ap (λ (x : List ℕ). x ++ (name ++ codes ".")) (made ∙ ap (λ (x : List ℕ). codes "Now programming " ++ (x ++ codes ":")) is)
+    ∙ ap (λ (x : List ℕ). codes "Now programming #" ++ x) (append_assoc (signed_decimal o) (codes ":") (name ++ codes "."))
+    ∙ ap (λ (x : List ℕ). codes "Now programming #" ++ (signed_decimal o ++ (codes ":" ++ (x ++ codes ".")))) same

@@ -4,9 +4,10 @@ ghost use Rattle.spec_value.specs.Datum.{no_data, item, list, object as object_v
 ghost use Rattle.spec_world.specs.World.{World};
 ghost use Rattle.spec_world.specs.Links.{connection_object as connection_object_of};
 ghost use Rattle.spec_world.specs.VerbsSought.{find_verb};
+ghost use Rattle.spec_moo.specs.Pending.{done};
 ghost use Rattle.spec_moo.specs.Scene.{Scene};
 ghost use Rattle.spec_moo.specs.Steps.Running.{system};
-ghost use Rattle.spec_moo.specs.Steps.Events.{logged_in, greeted, user_task, may_log_in as may_log_in_of, is_open_for as is_open_for_of, foreground_ticks};
+ghost use Rattle.spec_moo.specs.Steps.Events.{login_value, logged_in, greeted, user_task, may_log_in as may_log_in_of, is_open_for as is_open_for_of, foreground_ticks};
 ghost use Rattle.spec_ready.specs.Ready.{relinked};
 ghost use Rattle.moo_frame.specs.Deeds.{scene_of};
 ghost use Rattle.moo_frame.specs.declared.deeds.Deeds.{Deeds as TheDeeds};
@@ -56,12 +57,46 @@ pub fn accept<V: View>(
     ensures lasts { Lasts V.holds V.home V.anchor view.old view.new result }
     ensures accepts { OnOk result (Goes V.holds V.now view.old view.new (λ before after. Accepts connection ending.now deeds.old before deeds.new after)) }
 {
-    let Ending::Value(value) = ending else {
-        return Ok(());
-    };
-    let Shown::Object(object) = value.shown() else {
-        return Ok(());
-    };
+    match ending {
+        Ending::Value(value) => accept_value(alloc, view, deeds, connection, value),
+        _ => Ok(()),
+    }
+}
+
+// What a value does: that of a player logs in.
+fn accept_value<V: View>(
+    alloc: Global,
+    view: &mut V,
+    deeds: &mut Deeds,
+    connection: i32,
+    value: &Value,
+) -> Result<(), AllocError>
+    requires home { V.holds view.old (V.home view.old) }
+    requires ready { AreReady V.holds V.now view.old deeds.old }
+    ensures lasts { Lasts V.holds V.home V.anchor view.old view.new result }
+    ensures left { OnOk result (Goes V.holds V.now view.old view.new
+        (λ before after. (t : ℕ) → scene_of deeds.new after t ≡ login_value (scene_of deeds.old before t) connection (done value.now))) }
+{
+    match value.shown() {
+        Shown::Object(object) => accept_object(alloc, view, deeds, connection, object),
+        _ => Ok(()),
+    }
+}
+
+// An object logs in, if it may.
+fn accept_object<V: View>(
+    alloc: Global,
+    view: &mut V,
+    deeds: &mut Deeds,
+    connection: i32,
+    object: i32,
+) -> Result<(), AllocError>
+    requires home { V.holds view.old (V.home view.old) }
+    requires ready { AreReady V.holds V.now view.old deeds.old }
+    ensures lasts { Lasts V.holds V.home V.anchor view.old view.new result }
+    ensures left { OnOk result (Goes V.holds V.now view.old view.new
+        (λ before after. (t : ℕ) → scene_of deeds.new after t ≡ login_value (scene_of deeds.old before t) connection (done (object_value object)))) }
+{
     let may = may_log_in(view, connection, object)?;
     if !may {
         return Ok(());

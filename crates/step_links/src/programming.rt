@@ -19,6 +19,8 @@ use footprint::link::{Link, Programming};
 use footprint::lists::Lines;
 use moo_frame::deeds::Deeds;
 use moo_value::text::Text;
+use moo_value::value::Value;
+use moo_value::write::to_str;
 use std::alloc::{AllocError, Global};
 use task_step::outcome::Outcome;
 use view::law::View;
@@ -119,10 +121,13 @@ fn begin_lines<V: View>(
 fn now_programming(alloc: Global, object: i32, verb: &Text) -> Result<Text, AllocError>
     ensures { IfOk result (λ t. t ≡ codes "Now programming #" ++ (signed_decimal object ++ (codes ":" ++ (verb.now ++ codes ".")))) }
 {
+    let object = Value::object(object);
+    object.know();
+    let number = to_str(alloc, &object)?;
+    let first = Text::joined(alloc, "Now programming ", number.as_str(), ":")?;
+    first.know();
     verb.know();
-    let name = verb.as_str();
-    let text = format!(in alloc; "Now programming #{object}:{name}.")?;
-    Text::from_string(text)
+    Text::joined(alloc, first.as_str(), verb.as_str(), ".")
 }
 
 /// A line for a verb's code, or the one that ends it.

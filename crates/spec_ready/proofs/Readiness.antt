@@ -22,7 +22,7 @@ use Rattle.spec_moo.specs.Segment.{segment}
 use Rattle.spec_moo.specs.Steps.{numbered}
 use Rattle.spec_moo.specs.Steps.Outcomes.{opening_scene}
 use Rattle.spec_moo.specs.Steps.Running.{told_on, after_stop, run}
-use Rattle.spec_moo.specs.Steps.Events.{is_player, is_open_for, with_own_task}
+use Rattle.spec_moo.specs.Steps.Events.{is_player, is_open_for, may_log_in, with_own_task}
 use Rattle.spec_moo.specs.Worlds.{SceneAgrees, StopKeeps}
 use Rattle.spec_moo.proofs.NativeWorlds.{in_agreeing, closed_scene}
 use Rattle.spec_moo.proofs.SegmentWorlds.{segments_keep}

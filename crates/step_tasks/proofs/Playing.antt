@@ -1,5 +1,6 @@
 -- What is left to play after calls that tell of a view, or change it.
-use Rattle.std.proofs.Common.{◌≡◌, ◌∙◌, ap, sym, refl, subst, ℕ}
+use Rattle.std.proofs.Common.{◌≡◌, ◌∙◌, ap, sym, subst, ℕ, Result, Ok, Err}
+use Rattle.std.specs.Prelude.{OnOk}
 use Rattle.spec_world.specs.World.{World}
 use Rattle.spec_step.specs.Outcome.{Outcome}
 use Rattle.spec_moo.specs.Scene.{Scene}
@@ -9,6 +10,10 @@ use Rattle.moo_frame.specs.declared.deeds.Deeds.{Deeds}
 use Rattle.view.specs.Law.{Goes, Tells}
 use Rattle.step_tasks.specs.Performed.{StepsTo}
 use Rattle.step_tasks.specs.Ready.{AreReady}
+
+pub on_ok : {T E : Type 0} (r : Result T E) (P Q : Type 0) → (P → Q) → OnOk r P → OnOk r Q
+on_ok (Ok x) P Q f h = f h
+on_ok (Err e) P Q f h = tt
 
 module _ {V : Type 0} (holds : V → World → Type 0) (now : V → World → World) where
   -- nothing is asked: this is all

@@ -17,8 +17,6 @@ ghost use Rattle.step_tasks.specs.Performed.{StepsTo};
 ghost use Rattle.step_tasks.specs.Ready.{AreReady};
 ghost use Rattle.step_tasks.specs.Tasks.{MayRun};
 
-use step_tasks::opening::{FOREGROUND_TICKS, nothing, says};
-use step_links::programming::request;
 use builtins_world::values::texts_value;
 use command_lines::parts::Parts;
 use command_parser::command::{Command, Meant, Said};
@@ -33,8 +31,10 @@ use moo_run::natives::Natives;
 use moo_value::text::Text;
 use object_match::place::location;
 use std::alloc::{AllocError, Global};
-use step_tasks::begin::{begin, program_of};
+use step_links::programming::request;
 use step_runs::play::play_task;
+use step_tasks::begin::{begin, program_of};
+use step_tasks::opening::{FOREGROUND_TICKS, nothing, says};
 use task_step::outcome::Outcome;
 use view::law::View;
 

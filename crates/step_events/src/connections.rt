@@ -17,8 +17,6 @@ ghost use Rattle.step_tasks.specs.Tasks.{MayRun};
 ghost use Rattle.step_tasks.specs.Opens.{IsOpening};
 
 use crate::login::login;
-use step_links::logins::{connection_object, one_object};
-use step_tasks::opening::{FOREGROUND_TICKS, nothing};
 use footprint::link::Link;
 use inherit::verb::FoundVerb;
 use moo_frame::deeds::Deeds;
@@ -28,7 +26,9 @@ use moo_value::text::Text;
 use moo_value::value::Value;
 use std::alloc::{AllocError, Global};
 use step_deeds::links::close_link;
+use step_links::logins::{connection_object, one_object};
 use step_runs::play::play_task;
+use step_tasks::opening::{FOREGROUND_TICKS, nothing};
 use step_tasks::outcome::idle;
 use step_tasks::system::{on_system, system_task};
 use task_step::outcome::{Ending, Outcome};

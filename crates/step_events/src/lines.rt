@@ -15,8 +15,6 @@ ghost use Rattle.step_tasks.specs.Opens.{IsOpening};
 
 use crate::commands::player_line;
 use crate::login::login;
-use step_links::logins::connection_object;
-use step_links::programming::collect;
 use crate::waiting::read_by;
 use builtins_world::values::texts_value;
 use command_lines::parts::{Parts, line_parts};
@@ -27,6 +25,8 @@ use moo_value::text::Text;
 use moo_value::value::Value;
 use std::alloc::{AllocError, Global};
 use step_deeds::links::reader;
+use step_links::logins::connection_object;
+use step_links::programming::collect;
 use step_tasks::outcome::idle;
 use task_step::outcome::{Ending, Outcome};
 use view::law::View;

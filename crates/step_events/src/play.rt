@@ -12,11 +12,11 @@ ghost use Rattle.step_events.specs.Wholes.{AreWhole};
 
 use crate::connections::{close, open};
 use crate::lines::line;
-use step_tasks::opening::opening;
 use crate::waiting::ready;
 use moo_frame::deeds::Deeds;
 use moo_run::natives::Natives;
 use std::alloc::{AllocError, Global};
+use step_tasks::opening::opening;
 use step_tasks::outcome::idle;
 use task_step::outcome::{Ending, Outcome};
 use task_step::step::{Event, Step};

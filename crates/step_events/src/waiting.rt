@@ -11,13 +11,13 @@ ghost use Rattle.step_tasks.specs.Performed.{StepsTo};
 ghost use Rattle.step_tasks.specs.Ready.{AreReady};
 ghost use Rattle.step_tasks.specs.Opens.{IsOpening};
 
-use step_tasks::opening::{FOREGROUND_TICKS, QUEUED_TICKS, nothing};
 use moo_frame::deeds::Deeds;
 use moo_run::natives::Natives;
 use moo_task::task::Task;
 use moo_value::value::Value;
 use std::alloc::{AllocError, Global};
 use step_runs::play::play_task;
+use step_tasks::opening::{FOREGROUND_TICKS, QUEUED_TICKS, nothing};
 use step_tasks::outcome::idle;
 use step_tasks::system::SYSTEM;
 use task_step::outcome::{Ending, Outcome};

@@ -12,7 +12,6 @@ ghost use Rattle.view.specs.Law.{Goes, Lasts};
 ghost use Rattle.step_tasks.specs.Performed.{StepsTo};
 ghost use Rattle.step_tasks.specs.Ready.{AreReady};
 
-use step_tasks::opening::says;
 use command_parser::programming::{Opening, open};
 use command_parser::request::Request;
 use footprint::link::{Link, Programming};
@@ -22,6 +21,7 @@ use moo_value::text::Text;
 use moo_value::value::Value;
 use moo_value::write::to_str;
 use std::alloc::{AllocError, Global};
+use step_tasks::opening::says;
 use task_step::outcome::Outcome;
 use view::law::View;
 use view::readers::write_link;

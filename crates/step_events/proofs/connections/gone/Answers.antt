@@ -13,9 +13,11 @@ use Rattle.step_events.proofs.connections.gone.Goals as goal
 pub returns-then-person-nobodys-clause-played : goal.returns-then-person-nobodys-clause-played
 returns-then-person-nobodys-clause-played g c w h =
     let v = g.V.View.now c.args.view.now w in
-    let nobody : int_eq c.args.person (connection_object c.args.connection) ≡ true = search rules in
-    (h, ap (λ b. if b then nothing_runs (scene_of c.args.deeds v foreground_ticks) else told_gone (scene_of c.args.deeds v foreground_ticks) c.args.person (find_verb v system (codes "user_disconnected"))) nobody
-    ∙ c.in_ok-outcome.ensures v foreground_ticks)
+    let nobody : int_eq c.args.person (connection_object c.args.connection) ≡ true = search rules in (
+      h,
+      ap (λ b. if b then nothing_runs (scene_of c.args.deeds v foreground_ticks) else told_gone (scene_of c.args.deeds v foreground_ticks) c.args.person (find_verb v system (codes "user_disconnected"))) nobody
+          ∙ c.in_ok-outcome.ensures v foreground_ticks,
+    )
 
 pub returns-clause-played : goal.returns-clause-played
 returns-clause-played g c w h =

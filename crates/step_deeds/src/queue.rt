@@ -6,11 +6,12 @@ ghost use Rattle.moo_frame.specs.Deeds.{scene_of, due_of};
 ghost use Rattle.moo_frame.specs.Effects.{waiting_of};
 ghost use Rattle.view.specs.Law.{Goes, Lasts};
 
-use moo_frame::deeds::{Deeds, Due};
+use moo_frame::deeds::{Deeds, Due, Queued};
 use moo_frame::effect::Waiting;
 use moo_task::task::Task;
 use std::alloc::AllocError;
 use view::law::View;
+use view::readers::write_task;
 
 /// A task is put into the queue at an id. One that is there already is replaced.
 pub fn enqueue<V: View>(
@@ -19,12 +20,14 @@ pub fn enqueue<V: View>(
     id: i32,
     task: Task,
 ) -> Result<(), AllocError>
-    requires home { V.holds view.old (V.home view.old) }
     ensures lasts { Lasts V.holds V.home V.anchor view.old view.new result }
     ensures left { OnOk result (Goes V.holds V.now view.old view.new
         (λ before after. (t : ℕ) → scene_of deeds.new after t ≡ enqueued (scene_of deeds.old before t) id task)) }
 {
-    Err(AllocError)
+    let due = due(task.waiting());
+    write_task(view, id, Some(task))?;
+    deeds.queued.push(Queued { id, due })?;
+    Ok(())
 }
 
 /// When a task is due that waits so.

@@ -26,7 +26,7 @@ use moo_value::text::Text;
 use moo_value::value::Value;
 use std::alloc::{AllocError, Global};
 use step_deeds::links::close_link;
-use step_links::logins::{connection_object, one_object};
+use step_links::logins::{connection_object, is_nobodys, one_object};
 use step_runs::play::play_task;
 use step_tasks::opening::{FOREGROUND_TICKS, nothing};
 use step_tasks::outcome::idle;
@@ -124,8 +124,8 @@ fn gone<V: View, N: Natives>(
     ensures played { IfOk result (λ o. Goes V.holds V.now view.old view.new
         (λ before after. StepsTo (gone_of (scene_of deeds before foreground_ticks) connection person) after o)) }
 {
-    let nobodys = connection_object(connection)?;
-    if person == nobodys {
+    let nobodys = is_nobodys(connection, person)?;
+    if nobodys {
         let outcome = nothing(alloc, &deeds)?;
         return Ok(outcome);
     }

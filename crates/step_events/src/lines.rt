@@ -25,7 +25,7 @@ use moo_value::text::Text;
 use moo_value::value::Value;
 use std::alloc::{AllocError, Global};
 use step_deeds::links::reader;
-use step_links::logins::connection_object;
+use step_links::logins::is_nobodys;
 use step_links::programming::collect;
 use step_tasks::outcome::idle;
 use task_step::outcome::{Ending, Outcome};
@@ -134,8 +134,8 @@ fn line_for<V: View, N: Natives>(
     ensures played { IfOk result (λ o. Goes V.holds V.now view.old view.new (λ before after.
         StepsTo (line_for_of (scene_of deeds before foreground_ticks) connection link.now text.now) after o)) }
 {
-    let nobodys = connection_object(connection)?;
-    if link.person == nobodys {
+    let nobodys = is_nobodys(connection, link.person)?;
+    if nobodys {
         let argstr = text.clone()?;
         let arguments = words_value(alloc, text)?;
         let outcome = login(alloc, view, natives, deeds, connection, argstr, arguments)?;

@@ -1,5 +1,6 @@
 //! What the value does with which a login ends: a player gets the link.
 ghost use Rattle.std.specs.Prelude.{◌≡◌, ℕ, true, Some, IfOk, OnOk, codes};
+ghost use Rattle.std.specs.Ordering.{int_eq};
 ghost use Rattle.spec_value.specs.Datum.{no_data, item, list, object as object_value};
 ghost use Rattle.spec_world.specs.World.{World};
 ghost use Rattle.spec_world.specs.Links.{connection_object as connection_object_of};
@@ -42,6 +43,14 @@ pub fn connection_object(connection: i32) -> Result<i32, AllocError>
         Some(object) => Ok(object),
         None => Err(AllocError),
     }
+}
+
+/// Whether a link's person is the object of its connection: nobody has logged in on it.
+pub fn is_nobodys(connection: i32, person: i32) -> Result<bool, AllocError>
+    ensures { IfOk result (λ b. b ≡ int_eq person (connection_object_of connection)) }
+{
+    let object = connection_object(connection)?;
+    Ok(person == object)
 }
 
 /// What the value does with which a login ends.

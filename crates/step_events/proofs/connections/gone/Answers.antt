@@ -1,4 +1,4 @@
-use Rattle.std.proofs.Common.{◌≡◌, ◌∙◌, true, false, ap, codes, w32, rules, if◌then◌else◌}
+use Rattle.std.proofs.Common.{◌≡◌, ◌∙◌, true, false, ap, sym, codes, w32, if◌then◌else◌}
 use Rattle.std.specs.Ordering.{int_eq}
 use Rattle.std.proofs.lemmas.Int.{to_z-of_z}
 use Rattle.spec_world.specs.Links.{connection_object}
@@ -10,10 +10,10 @@ use Rattle.spec_moo.specs.Steps.Events.{told_gone, nothing_runs, foreground_tick
 use Rattle.moo_frame.specs.Deeds.{scene_of}
 use Rattle.step_events.proofs.connections.gone.Goals as goal
 
-pub returns-then-person-nobodys-clause-played : goal.returns-then-person-nobodys-clause-played
-returns-then-person-nobodys-clause-played g c w h =
+pub returns-then-nobodys-clause-played : goal.returns-then-nobodys-clause-played
+returns-then-nobodys-clause-played g c w h =
     let v = g.V.View.now c.args.view.now w in
-    let nobody : int_eq c.args.person (connection_object c.args.connection) ≡ true = search rules in (
+    let nobody : int_eq c.args.person (connection_object c.args.connection) ≡ true = sym (rw (to_z-of_z w32 c.args.person c.ranges.person, to_z-of_z w32 c.args.connection c.ranges.connection) at c.in_ok-nobodys.ensures) ∙ c.if-nobodys.true in (
       h,
       ap (λ b. if b then nothing_runs (scene_of c.args.deeds v foreground_ticks) else told_gone (scene_of c.args.deeds v foreground_ticks) c.args.person (find_verb v system (codes "user_disconnected"))) nobody
           ∙ c.in_ok-outcome.ensures v foreground_ticks,
@@ -23,7 +23,6 @@ pub returns-clause-played : goal.returns-clause-played
 returns-clause-played g c w h =
     let view = g.V.View in
     let v = view.now c.args.view.now w in
-    let somebody : int_eq c.args.person (connection_object c.args.connection) ≡ false = search rules in
+    let somebody : int_eq c.args.person (connection_object c.args.connection) ≡ false = sym (rw (to_z-of_z w32 c.args.person c.ranges.person, to_z-of_z w32 c.args.connection c.ranges.connection) at c.in_ok-nobodys.ensures) ∙ c.if-nobodys.false in
     let r = (rw (to_z-of_z w32 c.args.person c.ranges.person) at c.in_ok-outcome-2.ensures.played) w h in
-    let there = view.now c.args.view.now w in
     (r.0, ap (λ b. if b then nothing_runs (scene_of c.args.deeds v foreground_ticks) else told_gone (scene_of c.args.deeds v foreground_ticks) c.args.person (find_verb v system (codes "user_disconnected"))) somebody ∙ r.1)

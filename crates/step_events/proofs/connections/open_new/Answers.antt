@@ -35,3 +35,8 @@ returns-clause-played g c s opening =
     ((rw connection at c.in_ok-outcome.ensures.played) no_data arguments)
     (λ w. ap (λ (u : Scene). login u c.args.connection [] no_data) (opening (open_link w c.args.connection k) foreground_ticks)
     ∙ ap (λ (x : Text). login (scene_of c.args.deeds (open_link w c.args.connection k) foreground_ticks) c.args.connection x no_data) (sym argstr))
+
+pub login-requires-clause-list : goal.login-requires-clause-list
+login-requires-clause-list g c =
+    let arguments : c.in_ok-arguments.arguments ≡ list no_data = search rules in
+    (no_data, arguments)

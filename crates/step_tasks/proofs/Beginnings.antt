@@ -17,23 +17,19 @@ use Rattle.moo_frame.specs.Frames as frames
 use Rattle.moo_frame.specs.Outcomes.{running_kept}
 use Rattle.moo_frame.specs.declared.running.Running.{Running}
 use Rattle.moo_task.specs.UnderWay.{GoesOn, verb_of, IsUnderWay, begins}
-use Rattle.step_tasks.specs.Tasks.{MayRun}
+use Rattle.step_tasks.specs.Tasks.{MayRun, called_as}
 
 -- a verb at its beginning
 abbrev pub first_kept : ℤ → Call → Text → Start → Data → Program → Kept
 first_kept player c word s args body =
     record { call = c; start = s; program = body; variables = starting player c word s args; place = 0; operands = [] }
 
--- that was called by the word, and has its own name again
-abbrev renamed : Kept → Text → Kept
-renamed k name = record k { call = record (k.call) { verb = name } }
-
 pub may_begin : (player : ℤ) (c : Call) (word : Text) (s : Start) (args : Data) (body : Program) (r : Running) (k : Kept)
-    → k ≡ frames.begun player s (record c { verb = word }) body args → running_kept r ≡ renamed k c.verb → r.player ≡ player → r.outer ≡ []
+    → k ≡ frames.begun player s (called_as c word) body args → running_kept r ≡ record k { call = c } → r.player ≡ player → r.outer ≡ []
     → MayRun r (begun player c word s args body)
 may_begin player c word s args body r k started named players alone =
     let p : pending.Pending = begun player c word s args body in
-    let is : running_kept r ≡ first_kept player c word s args body = named ∙ ap (λ (x : Kept). renamed x c.verb) started in
+    let is : running_kept r ≡ first_kept player c word s args body = named ∙ ap (λ (x : Kept). record x { call = c }) started in
     let stands : Stands (verb_of p) p.frame.variables p.focus p.frame.pieces (first_kept player c word s args body) [] = verbs_begin (verb_of p) p.frame.variables [] tt in
     record {
       pending = record {

@@ -3,7 +3,7 @@ ghost use Rattle.std.specs.Prelude.{◌≡◌, IfOk};
 ghost use Rattle.spec_value.specs.Datum.{Data, list};
 ghost use Rattle.spec_moo.specs.Steps.Running.{begun};
 ghost use Rattle.moo_frame.specs.Outcomes.{ticks_of};
-ghost use Rattle.step_tasks.specs.Tasks.{MayRun};
+ghost use Rattle.step_tasks.specs.Tasks.{MayRun, called_as as called_as_of};
 
 use inherit::verb::FoundVerb;
 use moo_frame::running::Running;
@@ -28,26 +28,25 @@ pub fn begin(
     ensures runs { IfOk result (λ r. (args : Data) → arguments ≡ list args → MayRun r (begun player call word start args program)) }
     ensures ticks { IfOk result (λ r. ticks_of r ≡ ticks) }
 {
-    let Call {
-        this,
-        caller,
-        definer,
-        programmer,
-        verb,
-        debug,
-    } = call;
-    let called = Call {
-        this,
-        caller,
-        definer,
-        programmer,
-        verb: word,
-        debug,
-    };
+    let called = called_as(&call, word);
     let start = SharedStart::new(alloc, start)?;
     let mut task = Running::start(alloc, player, start, called, program, arguments, ticks)?;
-    task.frame.call.verb = verb;
+    task.frame.call = call;
     Ok(task)
+}
+
+// Who runs the verb, by another name.
+fn called_as(call: &Call, word: Text) -> Call
+    ensures { result ≡ called_as_of call.now word }
+{
+    Call {
+        this: call.this,
+        caller: call.caller,
+        definer: call.definer,
+        programmer: call.programmer,
+        verb: word,
+        debug: call.debug,
+    }
 }
 
 /// The program of a verb that was found.

@@ -2,7 +2,7 @@ use Rattle.std.proofs.Common.{sym, w32}
 use Rattle.std.proofs.lemmas.Int.{to_z-of_z}
 use Rattle.moo_frame.specs.Deeds.{scene_of}
 use Rattle.task_step.specs.OutcomeView.{result_of}
-use Rattle.step_links.proofs.Logins.{no_value_of, no_value_stays, accepted_value}
+use Rattle.step_links.proofs.Accepted.{no_value_of, no_value_stays, accepted_value}
 use Rattle.step_links.proofs.logins.accept.Goals as goal
 
 pub returns-in_default-clause-accepts : goal.returns-in_default-clause-accepts

@@ -3,7 +3,7 @@ use Rattle.std.proofs.lemmas.Int.{to_z-of_z}
 use Rattle.spec_moo.specs.Steps.Events.{foreground_ticks}
 use Rattle.spec_ready.specs.Ready.{IsReady}
 use Rattle.step_tasks.proofs.Playing.{ready_told, told_still}
-use Rattle.step_links.proofs.Logins.{refused, let_in}
+use Rattle.step_links.proofs.Accepted.{refused, let_in}
 use Rattle.step_links.proofs.logins.accept_object.Goals as goal
 
 pub log_player_in-requires-clause-ready : goal.log_player_in-requires-clause-ready

@@ -6,7 +6,7 @@ use Rattle.spec_moo.specs.Pending.{done}
 use Rattle.spec_moo.specs.Steps.Events.{login_value}
 use Rattle.moo_frame.specs.Deeds.{scene_of}
 use Rattle.view.specs.Law.{Goes}
-use Rattle.step_links.proofs.Logins.{no_object_of, value_stays}
+use Rattle.step_links.proofs.Accepted.{no_object_of, value_stays}
 use Rattle.step_links.proofs.logins.accept_value.Goals as goal
 
 pub returns-in_default-clause-left : goal.returns-in_default-clause-left

@@ -1,6 +1,6 @@
 use Rattle.std.proofs.Common.{Some, w32}
 use Rattle.std.proofs.lemmas.Int.{to_z-of_z}
-use Rattle.step_links.proofs.Logins.{greeted_then, not_there_greeted}
+use Rattle.step_links.proofs.Accepted.{greeted_then, not_there_greeted}
 use Rattle.step_links.proofs.logins.greet.Goals as goal
 
 pub on_system-requires-clause-well_formed : goal.on_system-requires-clause-well_formed

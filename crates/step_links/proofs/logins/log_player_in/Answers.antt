@@ -1,6 +1,6 @@
 use Rattle.std.proofs.Common.{w32}
 use Rattle.std.proofs.lemmas.Int.{to_z-of_z}
-use Rattle.step_links.proofs.Logins.{greeted_after}
+use Rattle.step_links.proofs.Accepted.{greeted_after}
 use Rattle.step_links.proofs.logins.log_player_in.Goals as goal
 
 pub returns-clause-left : goal.returns-clause-left

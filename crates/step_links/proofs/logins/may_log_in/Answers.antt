@@ -3,7 +3,7 @@ use Rattle.std.proofs.lemmas.Int.{to_z-of_z}
 use Rattle.spec_value.specs.Table.{at}
 use Rattle.spec_world.specs.World.{World}
 use Rattle.spec_moo.specs.Steps.Events.{is_open_for}
-use Rattle.step_links.proofs.Logins.{may_not, may_where}
+use Rattle.step_links.proofs.Accepted.{may_not, may_where}
 use Rattle.step_links.proofs.logins.may_log_in.Goals as goal
 
 pub returns-then-not-player-clause-left : goal.returns-then-not-player-clause-left

@@ -4,7 +4,7 @@ use Rattle.std.proofs.lemmas.Int.{to_z-of_z}
 use Rattle.spec_moo.specs.Steps.Events.{greeted}
 use Rattle.moo_frame.specs.Deeds.{scene_of}
 use Rattle.step_links.proofs.Relinks.{not_greeted}
-use Rattle.step_links.proofs.Logins.{greeted_goes}
+use Rattle.step_links.proofs.Accepted.{greeted_goes}
 use Rattle.step_links.proofs.logins.queue_greeting.Goals as goal
 
 pub returns-then-ids_used-most_ids-clause-left : goal.returns-then-ids_used-most_ids-clause-left

@@ -4,7 +4,7 @@ use Rattle.spec_world.specs.World.{Link}
 use Rattle.spec_moo.specs.Steps.Events.{foreground_ticks}
 use Rattle.spec_ready.proofs.Readiness.{login_ranged}
 use Rattle.moo_frame.specs.Deeds.{scene_of}
-use Rattle.step_links.proofs.Logins.{relinked_goes, relinked_ready}
+use Rattle.step_links.proofs.Accepted.{relinked_goes, relinked_ready}
 use Rattle.step_links.proofs.logins.relink.Goals as goal
 
 pub returns-clause-left : goal.returns-clause-left

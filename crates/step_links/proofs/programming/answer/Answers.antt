@@ -12,7 +12,7 @@ pub returns-in_ok-outcome-in-OtherForm-clause-played : goal.returns-in_ok-outcom
 returns-in_ok-outcome-in-OtherForm-clause-played g c =
     let connection = to_z-of_z w32 c.args.connection c.ranges.connection in
     plays_here_as g.V.View.holds g.V.View.now c.args.view.now (λ (k : Opening) (w : World). opened (scene_of c.args.deeds w foreground_ticks) c.args.connection c.args.link.now.person k) c.args.opening _
-    c.in_ok-outcome.outcome c.in-OtherForm.is (λ w. (rw connection at c.in_ok-outcome.ensures) w foreground_ticks)
+    c.in_ok-outcome-in-OtherForm.outcome c.in-OtherForm.is (λ w. (rw connection at c.in_ok-outcome-in-OtherForm.ensures) w foreground_ticks)
 
 pub returns-in_ok-outcome-in-NotSeen-clause-played : goal.returns-in_ok-outcome-in-NotSeen-clause-played
 returns-in_ok-outcome-in-NotSeen-clause-played g c =

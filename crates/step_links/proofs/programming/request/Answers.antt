@@ -14,12 +14,15 @@ pub open-requires-clause-well_formed : goal.open-requires-clause-well_formed
 open-requires-clause-well_formed g c w h = (c.requires.ready w h 0).well_formed
 
 pub answer-requires-clause-ready : goal.answer-requires-clause-ready
-answer-requires-clause-ready g c = ready_told g.V.View.holds g.V.View.now c.args.view.now c.open.new.view _ c.args.deeds c.requires.ready c.in_ok-opening.ensures.left
+answer-requires-clause-ready g c =
+    let person : to_z w32 (of_z w32 c.link.inside.person) ≡ c.args.link.now.person = search rules in
+    ready_told g.V.View.holds g.V.View.now c.args.view.now c.open.new.view (λ w. (s : Scene) (n : ℤ) → s.world ≡ w → requested s n c.args.link.now.person (request_of c.args.request) ≡ opened s n c.args.link.now.person c.in_ok-opening.opening) c.args.deeds c.requires.ready (rw person at c.in_ok-opening.ensures.left)
 
 pub answer-requires-clause-link : goal.answer-requires-clause-link
 answer-requires-clause-link g c =
-    rw (to_z-of_z w32 c.args.connection c.ranges.connection) (still g.V.View.holds g.V.View.now c.args.view.now c.open.new.view _ (λ w. at w.links c.args.connection ≡ Some c.args.link.now) c.requires.link
-    c.in_ok-opening.ensures.left)
+    let person : to_z w32 (of_z w32 c.link.inside.person) ≡ c.args.link.now.person = search rules in
+    rw (to_z-of_z w32 c.args.connection c.ranges.connection) (still g.V.View.holds g.V.View.now c.args.view.now c.open.new.view (λ w. (s : Scene) (n : ℤ) → s.world ≡ w → requested s n c.args.link.now.person (request_of c.args.request) ≡ opened s n c.args.link.now.person c.in_ok-opening.opening) (λ w. at w.links c.args.connection ≡ Some c.args.link.now) c.requires.link
+    (rw person at c.in_ok-opening.ensures.left))
 
 pub returns-clause-played : goal.returns-clause-played
 returns-clause-played g c =

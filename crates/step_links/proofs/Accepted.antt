@@ -24,7 +24,7 @@ use Rattle.view.specs.Law.{Goes, Tells}
 use Rattle.step_tasks.proofs.Values.{no_value_else}
 use Rattle.moo_value.specs.Shown.{shown_datum}
 use Rattle.moo_value.specs.declared.value.Shown.{Shown as ShownDatum}
-use Rattle.moo_value.specs.declared.value.Shown.TheVariants.{Integer, Object, Text as TextOf, Error, List}
+use Rattle.moo_value.specs.declared.value.Shown.TheVariants.{Integer, Object as ObjectOf, Text as TextOf, Error, List}
 use Rattle.task_step.specs.OutcomeView.{result_of}
 use Rattle.task_step.specs.declared.outcome.Ending.{Ending}
 use Rattle.task_step.specs.declared.outcome.Ending.TheVariants.{Value}
@@ -60,8 +60,8 @@ pub no_value_of : (e : Ending) → ((v : Datum) → e ≡ Value v → ⊥) → I
 no_value_of (Value v) h = absurd (h v refl)
 no_value_of _ h = tt
 
-pub no_object_of : (x : ShownDatum) (v : Datum) → shown_datum x ≡ v → ((o : ℤ) → x ≡ Object o → ⊥) → IsNoObject v
-no_object_of (Object o) v e h = absurd (h o refl)
+pub no_object_of : (x : ShownDatum) (v : Datum) → shown_datum x ≡ v → ((o : ℤ) → x ≡ ObjectOf o → ⊥) → IsNoObject v
+no_object_of (ObjectOf o) v e h = absurd (h o refl)
 no_object_of (Integer n) v e h = subst IsNoObject e tt
 no_object_of (TextOf t) v e h = subst IsNoObject e tt
 no_object_of (Error r) v e h = subst IsNoObject e tt

@@ -8,8 +8,8 @@ use Rattle.std.specs.Prelude.{max}
 use Rattle.spec_world.specs.World.{World}
 use Rattle.spec_step.specs.Step.{Step, in_range, runs_on, RunsOn, AllInRange}
 use Rattle.spec_step.specs.Outcome.{Outcome}
-use Rattle.spec_task.specs.Step.{play1, play}
-use Rattle.spec_task.proofs.Steps.{next_follows, play_goes_on}
+use Rattle.spec_moo.specs.Steps.{play1, play}
+use Rattle.spec_moo.proofs.StepWorlds.{next_follows, play_goes_on}
 use Rattle.moo_server.specs.Printed.{outcome_lines, printed}
 use Rattle.task_step.specs.declared.partial.Partial.{Partial}
 use Rattle.task_step.specs.declared.partial.Refusal.{Refusal}

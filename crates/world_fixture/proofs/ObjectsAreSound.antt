@@ -7,7 +7,7 @@ use Rattle.world.specs.Sound.{IsSound}
 use Rattle.world.specs.Objects.{next_object}
 use Rattle.world_fixture.specs.Objects.{lone_thing, with_objects}
 use Rattle.world.proofs.Adding.{adding_keeps}
-use Rattle.world_fixture.proofs.FixtureIsSimple.{fixture_is_sound}
+use Rattle.world_fixture.proofs.FixtureIsSound.{fixture_is_sound}
 
 greatest_of : (n : ℕ) → next_object (with_objects n fixture) ≡ pos (8 + n)
 unfolding with_objects

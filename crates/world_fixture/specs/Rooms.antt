@@ -2,7 +2,7 @@
 use Rattle.std.specs.Prelude.{ℕ, zero, suc, ◌+◌, ◌*◌, ℤ, pos, List, [], ◌∷◌, true, None, codes}
 use Rattle.spec_value.specs.Table.{with}
 use Rattle.spec_world.specs.World.{World, Object, Verb, with_object}
-use Rattle.spec_task.specs.Commands.{nowhere}
+use Rattle.spec_world.specs.Families.{nowhere}
 use Rattle.spec_value.specs.Datum.{integer}
 use Rattle.spec_program.specs.Tree.{Expr, literal, binary, evaluate, Program, seq}
 use Rattle.spec_value.specs.Operators.{plus}

@@ -3,8 +3,8 @@ use Rattle.std.specs.Prelude.{ℕ, ℤ, pos, List, [], ◌∷◌, true, false, S
 use Rattle.spec_value.specs.Datum.{integer, Text}
 use Rattle.spec_program.specs.Tree.{Program}
 use Rattle.spec_world.specs.World.{Header, World, Object, Verb, Slot, no_object, any_object, this_object, no_preposition, any_preposition, preposition_set}
-use Rattle.spec_moo.specs.Calling.{nowhere}
-use Rattle.spec_moo_rows.specs.Programs.{login_program, accept_program, count_program, grow_program, call_program, plot_program, dice_program, sum_program, spin_program, look_program, hold_program, wake_program, storm_program, tell_program, eval_program, box_look_program, put_program}
+use Rattle.spec_world.specs.Families.{nowhere}
+use Rattle.spec_fixture.specs.Programs.{login_program, accept_program, count_program, grow_program, call_program, plot_program, dice_program, sum_program, spin_program, look_program, hold_program, wake_program, storm_program, tell_program, eval_program, box_look_program, put_program}
 
 -- owned by the wizard, a child of the root, nowhere
 abbrev pub plain_header : Text → Header

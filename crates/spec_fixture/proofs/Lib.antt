@@ -1,0 +1,2 @@
+pub mod FixtureFits
+pub mod TextsRead

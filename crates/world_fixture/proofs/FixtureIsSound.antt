@@ -1,8 +1,8 @@
 -- The fixture is a sound world.
 use Rattle.std.proofs.Common.{refl}
-use Rattle.spec_rows.specs.Fixture.{fixture}
+use Rattle.spec_fixture.specs.Fixture.{fixture}
 use Rattle.spec_value.proofs.Entries.{each_entry}
-use Rattle.spec_rows.proofs.FixtureFits.{fixture_fits}
+use Rattle.spec_fixture.proofs.FixtureFits.{fixture_fits}
 use Rattle.spec_holding.specs.Whole.{TextsSpell}
 use Rattle.world.specs.Sound.{IsSound}
 

@@ -2,7 +2,7 @@
 use Rattle.std.proofs.Common.{◌≡◌, ℕ, zero, suc, ◌+◌, ◌≤◌, pos, refl, sym, ap, subst, arith, IsTrue, le-leb}
 use Rattle.std.specs.Prelude.{int_le}
 use Rattle.spec_world.specs.World.{with_object}
-use Rattle.spec_rows.specs.Fixture.{fixture}
+use Rattle.spec_fixture.specs.Fixture.{fixture}
 use Rattle.world.specs.Sound.{IsSound}
 use Rattle.world.specs.Objects.{next_object}
 use Rattle.world_fixture.specs.Objects.{lone_thing, with_objects}

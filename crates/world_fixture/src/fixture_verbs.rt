@@ -1,174 +1,99 @@
-//! The verbs of the fixture.
-ghost use Rattle.std.specs.Prelude.{◌≡◌, pos, [], ◌∷◌, IfOk, IsTrue, codes};
-ghost use Rattle.spec_value.specs.Datum.{is_text, integer, text as characters};
-ghost use Rattle.spec_program.specs.Tree.{literal, variable};
-ghost use Rattle.spec_rows.specs.Fixture as meant;
+//! The verbs of the fixture: of its system object, of its room and of its box.
+ghost use Rattle.std.specs.Prelude.{◌≡◌, [], ◌∷◌, ◌++◌, codes, IfOk, OnOk};
+ghost use Rattle.spec_world.specs.World.{any_object, this_object, any_preposition, preposition_set};
+ghost use Rattle.spec_fixture.specs.Fixture as meant;
+ghost use Rattle.spec_fixture.specs.Programs as programs;
 
-use crate::fixture::WIZARD;
+use crate::fixture_programs;
+use crate::verbs::{single, this_none_this};
 use footprint::verb::{ObjectPart, PrepositionPart, Verb, Verbs};
-use moo_compiler::program::Program;
-use moo_tree::expression::{Expression, ExpressionNode, Target, TargetNode};
-use moo_tree::statement::{Statement, StatementNode, Tree};
-use moo_value::operator::BinaryOperator;
-use moo_value::text::Text;
-use moo_value::value::Value;
 use std::alloc::{AllocError, Global};
+
+// The verbs of the system object.
+pub(crate) fn system_verbs(alloc: Global) -> Result<Verbs, AllocError>
+    ensures { IfOk result (λ vs. vs ≡ meant.system.verbs) }
+{
+    single(alloc, this_none_this(fixture_programs::login(alloc)?))
+}
 
 // The verbs of the room.
 pub(crate) fn room_verbs(alloc: Global) -> Result<Verbs, AllocError>
-    ensures { IfOk result (λ vs. vs ≡ meant.accept_verb ∷ meant.count_verb ∷ meant.room_look ∷ []) }
+    ensures { IfOk result (λ vs. vs ≡ meant.room_verbs) }
 {
-    let mut verbs = Vec::with_capacity(alloc, 3)?;
-    verbs.push(accept(alloc)?)?;
-    verbs.push(count(alloc)?)?;
-    verbs.push(room_look(alloc)?)?;
+    let mut verbs = Vec::with_capacity(alloc, 14)?;
+    push_first(alloc, &mut verbs)?;
+    push_middle(alloc, &mut verbs)?;
+    push_last(alloc, &mut verbs)?;
     Verbs::new(alloc, verbs)
+}
+
+// `accept`, and commands of the room.
+fn push_first(alloc: Global, verbs: &mut Vec<Verb>) -> Result<(), AllocError>
+    ensures { OnOk result (verbs.new.items ≡ verbs.old.items ++ (meant.this_none_this (meant.plain_verb (codes "accept") programs.accept_program) ∷ meant.plain_verb (codes "count") programs.count_program ∷ meant.plain_verb (codes "grow") programs.grow_program ∷ meant.plain_verb (codes "call") programs.call_program ∷ [])) }
+{
+    verbs.push(this_none_this(fixture_programs::accept(alloc)?))?;
+    verbs.push(fixture_programs::count(alloc)?)?;
+    verbs.push(fixture_programs::grow(alloc)?)?;
+    verbs.push(fixture_programs::call(alloc)?)
+}
+
+// The commands after these.
+fn push_middle(alloc: Global, verbs: &mut Vec<Verb>) -> Result<(), AllocError>
+    ensures { OnOk result (verbs.new.items ≡ verbs.old.items ++ (meant.plain_verb (codes "plot") programs.plot_program ∷ meant.plain_verb (codes "dice") programs.dice_program ∷ meant.plain_verb (codes "sum") programs.sum_program ∷ meant.plain_verb (codes "spin") programs.spin_program ∷ meant.plain_verb (codes "l*ook") programs.look_program ∷ [])) }
+{
+    verbs.push(fixture_programs::plot(alloc)?)?;
+    verbs.push(fixture_programs::dice(alloc)?)?;
+    verbs.push(fixture_programs::sum(alloc)?)?;
+    verbs.push(fixture_programs::spin(alloc)?)?;
+    verbs.push(fixture_programs::look(alloc)?)
+}
+
+// The last commands of the room.
+fn push_last(alloc: Global, verbs: &mut Vec<Verb>) -> Result<(), AllocError>
+    ensures { OnOk result (verbs.new.items ≡ verbs.old.items ++ (meant.plain_verb (codes "hold") programs.hold_program ∷ meant.plain_verb (codes "wake") programs.wake_program ∷ meant.plain_verb (codes "storm") programs.storm_program ∷ meant.plain_verb (codes "tell") programs.tell_program ∷ record (meant.plain_verb (codes "eval") programs.eval_program) { direct = any_object; preposition = any_preposition; indirect = any_object } ∷ [])) }
+{
+    verbs.push(fixture_programs::hold(alloc)?)?;
+    verbs.push(fixture_programs::wake(alloc)?)?;
+    verbs.push(fixture_programs::storm(alloc)?)?;
+    verbs.push(fixture_programs::tell(alloc)?)?;
+    verbs.push(with_any(fixture_programs::eval(alloc)?))
+}
+
+// The verb for a command with anything before and behind any preposition.
+fn with_any(mut verb: Verb) -> Verb
+    ensures { result ≡ record verb { direct = any_object; preposition = any_preposition; indirect = any_object } }
+{
+    verb.direct = ObjectPart::Any;
+    verb.preposition = PrepositionPart::Any;
+    verb.indirect = ObjectPart::Any;
+    verb
 }
 
 // The verbs of the box.
 pub(crate) fn box_verbs(alloc: Global) -> Result<Verbs, AllocError>
-    ensures { IfOk result (λ vs. vs ≡ meant.box_look ∷ []) }
+    ensures { IfOk result (λ vs. vs ≡ meant.box_verbs) }
 {
-    single(alloc, box_look(alloc)?)
-}
-
-fn single(alloc: Global, verb: Verb) -> Result<Verbs, AllocError>
-    ensures { IfOk result (λ vs. vs ≡ verb ∷ []) }
-{
-    let mut verbs = Vec::with_capacity(alloc, 1)?;
-    verbs.push(verb)?;
+    let mut verbs = Vec::with_capacity(alloc, 2)?;
+    verbs.push(look_at_box(alloc)?)?;
+    verbs.push(put_in_box(alloc)?)?;
     Verbs::new(alloc, verbs)
 }
 
-fn accept(alloc: Global) -> Result<Verb, AllocError>
-    ensures { IfOk result (λ v. v ≡ meant.accept_verb) }
+fn look_at_box(alloc: Global) -> Result<Verb, AllocError>
+    ensures { IfOk result (λ v. v ≡ record (meant.plain_verb (codes "l*ook") programs.box_look_program) { preposition = preposition_set 2; indirect = this_object }) }
 {
-    let mut verb = plain_verb(alloc, "accept", returning(alloc, one())?)?;
-    verb.direct = ObjectPart::This;
-    verb.indirect = ObjectPart::This;
-    Ok(verb)
-}
-
-pub(crate) fn count(alloc: Global) -> Result<Verb, AllocError>
-    ensures { IfOk result (λ v. v ≡ meant.count_verb) }
-{
-    plain_verb(alloc, "count", count_tree(alloc)?)
-}
-
-fn room_look(alloc: Global) -> Result<Verb, AllocError>
-    ensures { IfOk result (λ v. v ≡ meant.room_look) }
-{
-    let tree = returning(alloc, named(alloc, "verb")?)?;
-    plain_verb(alloc, "l*ook", tree)
-}
-
-fn box_look(alloc: Global) -> Result<Verb, AllocError>
-    ensures { IfOk result (λ v. v ≡ meant.box_look) }
-{
-    let tree = returning(alloc, named(alloc, "prepstr")?)?;
-    let mut verb = plain_verb(alloc, "l*ook", tree)?;
+    let mut verb = fixture_programs::box_look(alloc)?;
     verb.preposition = PrepositionPart::Set(2);
     verb.indirect = ObjectPart::This;
     Ok(verb)
 }
 
-// A verb for a command of one word, owned by the wizard.
-pub(crate) fn plain_verb(alloc: Global, names: &str, tree: Tree) -> Result<Verb, AllocError>
-    requires { IsTrue (is_text names.now) }
-    ensures { IfOk result (λ v. v ≡ meant.plain_verb names.now tree) }
+fn put_in_box(alloc: Global) -> Result<Verb, AllocError>
+    ensures { IfOk result (λ v. v ≡ record (meant.plain_verb (codes "put") programs.put_program) { direct = any_object; preposition = preposition_set 3; indirect = this_object }) }
 {
-    Ok(Verb {
-        names: Text::from_str(alloc, names)?,
-        owner: WIZARD,
-        readable: false,
-        writable: false,
-        callable: true,
-        debug: true,
-        direct: ObjectPart::Absent,
-        preposition: PrepositionPart::Absent,
-        indirect: ObjectPart::Absent,
-        program: Program::compile(alloc, tree)?,
-    })
-}
-
-// return value;
-pub(crate) fn returning(alloc: Global, value: Expression) -> Result<Tree, AllocError>
-    ensures { IfOk result (λ t. t ≡ meant.returning value) }
-{
-    let mut statements = Vec::with_capacity(alloc, 1)?;
-    statements.push(Statement {
-        node: StatementNode::Return(Some(value)),
-    })?;
-    Ok(Tree::new(statements))
-}
-
-// this.n = this.n + 1; return this.n;
-fn count_tree(alloc: Global) -> Result<Tree, AllocError>
-    ensures { IfOk result (λ t. t ≡ meant.count_program) }
-{
-    let sum = Expression {
-        node: ExpressionNode::Binary(
-            BinaryOperator::Plus,
-            Box::new(alloc, this_n(alloc)?)?,
-            Box::new(alloc, one())?,
-        ),
-    };
-    let target = Target {
-        node: TargetNode::Property(
-            Box::new(alloc, this(alloc)?)?,
-            Box::new(alloc, name_n(alloc)?)?,
-        ),
-    };
-    let assignment = Expression {
-        node: ExpressionNode::Assignment(target, Box::new(alloc, sum)?),
-    };
-    let mut statements = Vec::with_capacity(alloc, 2)?;
-    statements.push(Statement {
-        node: StatementNode::Evaluate(assignment),
-    })?;
-    statements.push(Statement {
-        node: StatementNode::Return(Some(this_n(alloc)?)),
-    })?;
-    Ok(Tree::new(statements))
-}
-
-fn this_n(alloc: Global) -> Result<Expression, AllocError>
-    ensures { IfOk result (λ e. e ≡ meant.this_n) }
-{
-    let object = Box::new(alloc, this(alloc)?)?;
-    let name = Box::new(alloc, name_n(alloc)?)?;
-    Ok(Expression {
-        node: ExpressionNode::Property(object, name),
-    })
-}
-
-fn this(alloc: Global) -> Result<Expression, AllocError>
-    ensures { IfOk result (λ e. e ≡ variable (codes "this")) }
-{
-    named(alloc, "this")
-}
-
-fn named(alloc: Global, name: &str) -> Result<Expression, AllocError>
-    requires { IsTrue (is_text name.now) }
-    ensures { IfOk result (λ e. e ≡ variable name.now) }
-{
-    Ok(Expression {
-        node: ExpressionNode::Variable(Text::from_str(alloc, name)?),
-    })
-}
-
-pub(crate) fn one() -> Expression
-    ensures { result ≡ literal (integer (pos 1)) }
-{
-    Expression {
-        node: ExpressionNode::Literal(Value::integer(1)),
-    }
-}
-
-fn name_n(alloc: Global) -> Result<Expression, AllocError>
-    ensures { IfOk result (λ e. e ≡ literal (characters (codes "n"))) }
-{
-    Ok(Expression {
-        node: ExpressionNode::Literal(Value::text(Text::from_str(alloc, "n")?)),
-    })
+    let mut verb = fixture_programs::put(alloc)?;
+    verb.direct = ObjectPart::Any;
+    verb.preposition = PrepositionPart::Set(3);
+    verb.indirect = ObjectPart::This;
+    Ok(verb)
 }

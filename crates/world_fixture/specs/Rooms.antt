@@ -6,8 +6,8 @@ use Rattle.spec_world.specs.Families.{nowhere}
 use Rattle.spec_value.specs.Datum.{integer}
 use Rattle.spec_program.specs.Tree.{Expr, literal, binary, evaluate, Program, seq}
 use Rattle.spec_value.specs.Operators.{plus}
-use Rattle.spec_fixture.specs.Fixture.{plain_header, bare, plain_verb, room}
-use Rattle.spec_fixture.specs.Programs.{returning, count_program}
+use Rattle.spec_fixture.specs.Fixture.{plain_header, bare, plain_verb, room, count_verb}
+use Rattle.spec_fixture.specs.Programs.{returning}
 
 abbrev pub one : Expr
 one = literal (integer (pos 1))
@@ -22,7 +22,7 @@ abbrev pub total_verb : Verb
 total_verb = plain_verb (codes "total") (adding 999)
 
 abbrev pub counting_verbs : List Verb
-counting_verbs = plain_verb (codes "count") count_program ∷ total_verb ∷ []
+counting_verbs = count_verb ∷ total_verb ∷ []
 
 -- one for which a command's 30,000 ticks do not suffice
 abbrev pub endless_verb : Verb

@@ -1,11 +1,9 @@
 //! The verbs of the fixture: of its system object, of its room and of its box.
-ghost use Rattle.std.specs.Prelude.{◌≡◌, [], ◌∷◌, ◌++◌, codes, IfOk, OnOk};
-ghost use Rattle.spec_world.specs.World.{any_object, this_object, any_preposition, preposition_set};
+ghost use Rattle.std.specs.Prelude.{◌≡◌, [], ◌∷◌, ◌++◌, IfOk, OnOk};
 ghost use Rattle.spec_fixture.specs.Fixture as meant;
-ghost use Rattle.spec_fixture.specs.Programs as programs;
 
-use crate::fixture_programs;
-use crate::verbs::{single, this_none_this};
+use crate::room_commands;
+use crate::verbs::{command, single};
 use footprint::verb::{ObjectPart, PrepositionPart, Verb, Verbs};
 use std::alloc::{AllocError, Global};
 
@@ -13,7 +11,19 @@ use std::alloc::{AllocError, Global};
 pub(crate) fn system_verbs(alloc: Global) -> Result<Verbs, AllocError>
     ensures { IfOk result (λ vs. vs ≡ meant.system.verbs) }
 {
-    single(alloc, this_none_this(fixture_programs::login(alloc)?))
+    single(alloc, login(alloc)?)
+}
+
+#[tactic(auto, using(spec_fixture::proofs::TextsRead::login_reads))]
+fn login(alloc: Global) -> Result<Verb, AllocError>
+    ensures { IfOk result (λ v. v ≡ meant.login_verb) }
+{
+    let text =
+        "if (length(args) == 2 && args[1] == \"connect\") return toobj(args[2]); endif notify(player, \"Type connect #n\");";
+    let mut verb = command(alloc, "do_login_command", text)?;
+    verb.direct = ObjectPart::This;
+    verb.indirect = ObjectPart::This;
+    Ok(verb)
 }
 
 // The verbs of the room.
@@ -21,52 +31,61 @@ pub(crate) fn room_verbs(alloc: Global) -> Result<Verbs, AllocError>
     ensures { IfOk result (λ vs. vs ≡ meant.room_verbs) }
 {
     let mut verbs = Vec::with_capacity(alloc, 14)?;
-    push_first(alloc, &mut verbs)?;
-    push_middle(alloc, &mut verbs)?;
-    push_last(alloc, &mut verbs)?;
+    verbs.push(accept(alloc)?)?;
+    push_counting(alloc, &mut verbs)?;
+    push_queueing(alloc, &mut verbs)?;
+    verbs.push(room_commands::look(alloc)?)?;
+    push_waiting(alloc, &mut verbs)?;
+    verbs.push(eval(alloc)?)?;
     Verbs::new(alloc, verbs)
 }
 
-// `accept`, and commands of the room.
-fn push_first(alloc: Global, verbs: &mut Vec<Verb>) -> Result<(), AllocError>
-    ensures { OnOk result (verbs.new.items ≡ verbs.old.items ++ (meant.this_none_this (meant.plain_verb (codes "accept") programs.accept_program) ∷ meant.plain_verb (codes "count") programs.count_program ∷ meant.plain_verb (codes "grow") programs.grow_program ∷ meant.plain_verb (codes "call") programs.call_program ∷ [])) }
+fn push_counting(alloc: Global, verbs: &mut Vec<Verb>) -> Result<(), AllocError>
+    ensures { OnOk result (verbs.new.items ≡ verbs.old.items ++ (meant.count_verb ∷ meant.grow_verb ∷ meant.call_verb ∷ [])) }
 {
-    verbs.push(this_none_this(fixture_programs::accept(alloc)?))?;
-    verbs.push(fixture_programs::count(alloc)?)?;
-    verbs.push(fixture_programs::grow(alloc)?)?;
-    verbs.push(fixture_programs::call(alloc)?)
+    verbs.push(room_commands::count(alloc)?)?;
+    verbs.push(room_commands::grow(alloc)?)?;
+    verbs.push(room_commands::call(alloc)?)
 }
 
-// The commands after these.
-fn push_middle(alloc: Global, verbs: &mut Vec<Verb>) -> Result<(), AllocError>
-    ensures { OnOk result (verbs.new.items ≡ verbs.old.items ++ (meant.plain_verb (codes "plot") programs.plot_program ∷ meant.plain_verb (codes "dice") programs.dice_program ∷ meant.plain_verb (codes "sum") programs.sum_program ∷ meant.plain_verb (codes "spin") programs.spin_program ∷ meant.plain_verb (codes "l*ook") programs.look_program ∷ [])) }
+fn push_queueing(alloc: Global, verbs: &mut Vec<Verb>) -> Result<(), AllocError>
+    ensures { OnOk result (verbs.new.items ≡ verbs.old.items ++ (meant.plot_verb ∷ meant.dice_verb ∷ meant.sum_verb ∷ meant.spin_verb ∷ [])) }
 {
-    verbs.push(fixture_programs::plot(alloc)?)?;
-    verbs.push(fixture_programs::dice(alloc)?)?;
-    verbs.push(fixture_programs::sum(alloc)?)?;
-    verbs.push(fixture_programs::spin(alloc)?)?;
-    verbs.push(fixture_programs::look(alloc)?)
+    verbs.push(room_commands::plot(alloc)?)?;
+    verbs.push(room_commands::dice(alloc)?)?;
+    verbs.push(room_commands::sum(alloc)?)?;
+    verbs.push(room_commands::spin(alloc)?)
 }
 
-// The last commands of the room.
-fn push_last(alloc: Global, verbs: &mut Vec<Verb>) -> Result<(), AllocError>
-    ensures { OnOk result (verbs.new.items ≡ verbs.old.items ++ (meant.plain_verb (codes "hold") programs.hold_program ∷ meant.plain_verb (codes "wake") programs.wake_program ∷ meant.plain_verb (codes "storm") programs.storm_program ∷ meant.plain_verb (codes "tell") programs.tell_program ∷ record (meant.plain_verb (codes "eval") programs.eval_program) { direct = any_object; preposition = any_preposition; indirect = any_object } ∷ [])) }
+fn push_waiting(alloc: Global, verbs: &mut Vec<Verb>) -> Result<(), AllocError>
+    ensures { OnOk result (verbs.new.items ≡ verbs.old.items ++ (meant.hold_verb ∷ meant.wake_verb ∷ meant.storm_verb ∷ meant.tell_verb ∷ [])) }
 {
-    verbs.push(fixture_programs::hold(alloc)?)?;
-    verbs.push(fixture_programs::wake(alloc)?)?;
-    verbs.push(fixture_programs::storm(alloc)?)?;
-    verbs.push(fixture_programs::tell(alloc)?)?;
-    verbs.push(with_any(fixture_programs::eval(alloc)?))
+    verbs.push(room_commands::hold(alloc)?)?;
+    verbs.push(room_commands::wake(alloc)?)?;
+    verbs.push(room_commands::storm(alloc)?)?;
+    verbs.push(room_commands::tell(alloc)?)
 }
 
-// The verb for a command with anything before and behind any preposition.
-fn with_any(mut verb: Verb) -> Verb
-    ensures { result ≡ record verb { direct = any_object; preposition = any_preposition; indirect = any_object } }
+#[tactic(auto, using(spec_fixture::proofs::TextsRead::accept_reads))]
+fn accept(alloc: Global) -> Result<Verb, AllocError>
+    ensures { IfOk result (λ v. v ≡ meant.accept_verb) }
 {
+    let mut verb = command(alloc, "accept", "return 1;")?;
+    verb.direct = ObjectPart::This;
+    verb.indirect = ObjectPart::This;
+    Ok(verb)
+}
+
+#[tactic(auto, using(spec_fixture::proofs::TextsRead::eval_reads))]
+fn eval(alloc: Global) -> Result<Verb, AllocError>
+    ensures { IfOk result (λ v. v ≡ meant.eval_verb) }
+{
+    let text = "return eval(\"return \" + argstr + \";\")[2];";
+    let mut verb = command(alloc, "eval", text)?;
     verb.direct = ObjectPart::Any;
     verb.preposition = PrepositionPart::Any;
     verb.indirect = ObjectPart::Any;
-    verb
+    Ok(verb)
 }
 
 // The verbs of the box.
@@ -74,24 +93,26 @@ pub(crate) fn box_verbs(alloc: Global) -> Result<Verbs, AllocError>
     ensures { IfOk result (λ vs. vs ≡ meant.box_verbs) }
 {
     let mut verbs = Vec::with_capacity(alloc, 2)?;
-    verbs.push(look_at_box(alloc)?)?;
-    verbs.push(put_in_box(alloc)?)?;
+    verbs.push(box_look(alloc)?)?;
+    verbs.push(put(alloc)?)?;
     Verbs::new(alloc, verbs)
 }
 
-fn look_at_box(alloc: Global) -> Result<Verb, AllocError>
-    ensures { IfOk result (λ v. v ≡ record (meant.plain_verb (codes "l*ook") programs.box_look_program) { preposition = preposition_set 2; indirect = this_object }) }
+#[tactic(auto, using(spec_fixture::proofs::TextsRead::box_look_reads))]
+fn box_look(alloc: Global) -> Result<Verb, AllocError>
+    ensures { IfOk result (λ v. v ≡ meant.box_look_verb) }
 {
-    let mut verb = fixture_programs::box_look(alloc)?;
+    let mut verb = command(alloc, "l*ook", "return prepstr;")?;
     verb.preposition = PrepositionPart::Set(2);
     verb.indirect = ObjectPart::This;
     Ok(verb)
 }
 
-fn put_in_box(alloc: Global) -> Result<Verb, AllocError>
-    ensures { IfOk result (λ v. v ≡ record (meant.plain_verb (codes "put") programs.put_program) { direct = any_object; preposition = preposition_set 3; indirect = this_object }) }
+#[tactic(auto, using(spec_fixture::proofs::TextsRead::put_reads))]
+fn put(alloc: Global) -> Result<Verb, AllocError>
+    ensures { IfOk result (λ v. v ≡ meant.put_verb) }
 {
-    let mut verb = fixture_programs::put(alloc)?;
+    let mut verb = command(alloc, "put", "return {dobjstr, prepstr, iobj};")?;
     verb.direct = ObjectPart::Any;
     verb.preposition = PrepositionPart::Set(3);
     verb.indirect = ObjectPart::This;

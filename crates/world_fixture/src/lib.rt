@@ -2,9 +2,9 @@
 #![tactic(auto)]
 
 pub mod fixture;
-mod fixture_programs;
 mod fixture_verbs;
 pub mod objects;
+mod room_commands;
 mod room_verbs;
 pub mod rooms;
 mod verbs;

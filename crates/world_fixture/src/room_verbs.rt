@@ -6,7 +6,7 @@ ghost use Rattle.spec_fixture.specs.Fixture.{plain_verb as meant_verb};
 ghost use Rattle.spec_value.specs.Datum.{is_text};
 ghost use Rattle.world_fixture.specs.Rooms as meant;
 
-use crate::fixture_programs::count;
+use crate::room_commands::count;
 use crate::verbs::{plain_verb, single};
 use footprint::verb::{Verb, Verbs};
 use moo_tree::expression::{Expression, ExpressionNode};

@@ -51,15 +51,6 @@ pub(crate) fn plain_verb(alloc: Global, names: &str, tree: Tree) -> Result<Verb,
     })
 }
 
-// The verb for calls by name.
-pub(crate) fn this_none_this(mut verb: Verb) -> Verb
-    ensures { result ≡ meant.this_none_this verb }
-{
-    verb.direct = ObjectPart::This;
-    verb.indirect = ObjectPart::This;
-    verb
-}
-
 // One verb alone.
 pub(crate) fn single(alloc: Global, verb: Verb) -> Result<Verbs, AllocError>
     ensures { IfOk result (λ vs. vs ≡ verb ∷ []) }

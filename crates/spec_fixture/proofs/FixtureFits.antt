@@ -1,12 +1,12 @@
 -- The fixture is well formed: its tests come out true.
 use Rattle.std.proofs.Common.{refl}
-use Rattle.spec_world.specs.Inherit.{line, ancestors}
-use Rattle.spec_world.specs.WellFormed.{IsWellFormed, once, comes_out, defined_on, names_once, links_read}
+use Rattle.spec_world.specs.WellFormed.{IsWellFormed}
+use Rattle.spec_fixture.specs.Opened.{opened}
 use Rattle.spec_fixture.specs.Fixture.{fixture}
 use Rattle.spec_value.proofs.Entries.{each_entry}
 
 pub fixture_fits : IsWellFormed fixture
-unfolding line ancestors once comes_out defined_on names_once links_read
+unfolding opened
 fixture_fits =
     record {
       objects_in_order = refl;

@@ -1,2 +1,1 @@
 pub mod FixtureFits
-pub mod TextsRead

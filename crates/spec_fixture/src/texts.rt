@@ -1,8 +1,8 @@
-//! The texts of the fixture's verbs read as their programs.
+//! The texts of the fixture's verbs read as their programs: the bodies are empty, and the clauses are true by computation.
 ghost use Rattle.spec_fixture.specs.Texts.{LoginReads, BoxLookReads, PutReads};
 
 /// The system's verb, and those of the box.
-#[tactic(auto, using(crate::proofs::TextsRead::login_reads, crate::proofs::TextsRead::box_look_reads, crate::proofs::TextsRead::put_reads))]
+#[tactic(auto, unfolding(crate::specs::Opened::opened))]
 pub fn edges()
     ensures login { LoginReads }
     ensures box_look { BoxLookReads }
@@ -12,7 +12,7 @@ pub fn edges()
 ghost use Rattle.spec_fixture.specs.Texts.{AcceptReads, CountReads, SumReads, LookReads, TellReads, EvalReads};
 
 /// The room's verbs that answer.
-#[tactic(auto, using(crate::proofs::TextsRead::accept_reads, crate::proofs::TextsRead::count_reads, crate::proofs::TextsRead::sum_reads, crate::proofs::TextsRead::look_reads, crate::proofs::TextsRead::tell_reads, crate::proofs::TextsRead::eval_reads))]
+#[tactic(auto, unfolding(crate::specs::Opened::opened))]
 pub fn answering()
     ensures accept { AcceptReads }
     ensures count { CountReads }
@@ -25,7 +25,7 @@ pub fn answering()
 ghost use Rattle.spec_fixture.specs.Texts.{GrowReads, CallReads};
 
 /// The room's verbs that call and add verbs.
-#[tactic(auto, using(crate::proofs::TextsRead::grow_reads, crate::proofs::TextsRead::call_reads))]
+#[tactic(auto, unfolding(crate::specs::Opened::opened))]
 pub fn calling()
     ensures grow { GrowReads }
     ensures call { CallReads }
@@ -34,7 +34,7 @@ pub fn calling()
 ghost use Rattle.spec_fixture.specs.Texts.{PlotReads, DiceReads, SpinReads, HoldReads, WakeReads, StormReads};
 
 /// The room's verbs that fork, wait or do not end.
-#[tactic(auto, using(crate::proofs::TextsRead::plot_reads, crate::proofs::TextsRead::dice_reads, crate::proofs::TextsRead::spin_reads, crate::proofs::TextsRead::hold_reads, crate::proofs::TextsRead::wake_reads, crate::proofs::TextsRead::storm_reads))]
+#[tactic(auto, unfolding(crate::specs::Opened::opened))]
 pub fn waiting()
     ensures plot { PlotReads }
     ensures dice { DiceReads }

@@ -1,8 +1,8 @@
 -- The fixture with 64 more rooms, and that with one, are sound worlds: their tests come out true.
 use Rattle.std.proofs.Common.{refl}
-use Rattle.spec_world.specs.Inherit.{line, ancestors}
+use Rattle.spec_fixture.specs.Opened.{opened}
 use Rattle.spec_world.specs.World.{World}
-use Rattle.spec_world.specs.WellFormed.{IsWellFormed, once, comes_out, defined_on, names_once, links_read}
+use Rattle.spec_world.specs.WellFormed.{IsWellFormed}
 use Rattle.spec_fixture.specs.Fixture.{fixture}
 use Rattle.spec_value.proofs.Entries.{each_entry}
 use Rattle.spec_holding.specs.Whole.{TextsSpell}
@@ -13,7 +13,7 @@ roomy : World
 roomy = with_rooms 64 fixture
 
 rooms_fit : IsWellFormed roomy
-unfolding line ancestors once comes_out defined_on names_once links_read with_rooms roomy
+unfolding opened with_rooms roomy
 rooms_fit =
     record {
       objects_in_order = refl;
@@ -53,7 +53,7 @@ endless : World
 endless = with_endless_verb fixture
 
 endless_fits : IsWellFormed endless
-unfolding line ancestors once comes_out defined_on names_once links_read endless
+unfolding opened endless
 endless_fits =
     record {
       objects_in_order = refl;

@@ -14,7 +14,7 @@ pub(crate) fn system_verbs(alloc: Global) -> Result<Verbs, AllocError>
     single(alloc, login(alloc)?)
 }
 
-#[tactic(auto, using(spec_fixture::proofs::TextsRead::login_reads))]
+#[tactic(auto, unfolding(spec_fixture::specs::Opened::opened))]
 fn login(alloc: Global) -> Result<Verb, AllocError>
     ensures { IfOk result (λ v. v ≡ meant.login_verb) }
 {
@@ -66,7 +66,7 @@ fn push_waiting(alloc: Global, verbs: &mut Vec<Verb>) -> Result<(), AllocError>
     verbs.push(room_commands::tell(alloc)?)
 }
 
-#[tactic(auto, using(spec_fixture::proofs::TextsRead::accept_reads))]
+#[tactic(auto, unfolding(spec_fixture::specs::Opened::opened))]
 fn accept(alloc: Global) -> Result<Verb, AllocError>
     ensures { IfOk result (λ v. v ≡ meant.accept_verb) }
 {
@@ -76,7 +76,7 @@ fn accept(alloc: Global) -> Result<Verb, AllocError>
     Ok(verb)
 }
 
-#[tactic(auto, using(spec_fixture::proofs::TextsRead::eval_reads))]
+#[tactic(auto, unfolding(spec_fixture::specs::Opened::opened))]
 fn eval(alloc: Global) -> Result<Verb, AllocError>
     ensures { IfOk result (λ v. v ≡ meant.eval_verb) }
 {
@@ -98,7 +98,7 @@ pub(crate) fn box_verbs(alloc: Global) -> Result<Verbs, AllocError>
     Verbs::new(alloc, verbs)
 }
 
-#[tactic(auto, using(spec_fixture::proofs::TextsRead::box_look_reads))]
+#[tactic(auto, unfolding(spec_fixture::specs::Opened::opened))]
 fn box_look(alloc: Global) -> Result<Verb, AllocError>
     ensures { IfOk result (λ v. v ≡ meant.box_look_verb) }
 {
@@ -108,7 +108,7 @@ fn box_look(alloc: Global) -> Result<Verb, AllocError>
     Ok(verb)
 }
 
-#[tactic(auto, using(spec_fixture::proofs::TextsRead::put_reads))]
+#[tactic(auto, unfolding(spec_fixture::specs::Opened::opened))]
 fn put(alloc: Global) -> Result<Verb, AllocError>
     ensures { IfOk result (λ v. v ≡ meant.put_verb) }
 {

@@ -6,14 +6,14 @@ use crate::verbs::command;
 use footprint::verb::Verb;
 use std::alloc::{AllocError, Global};
 
-#[tactic(auto, using(spec_fixture::proofs::TextsRead::count_reads))]
+#[tactic(auto, unfolding(spec_fixture::specs::Opened::opened))]
 pub(crate) fn count(alloc: Global) -> Result<Verb, AllocError>
     ensures { IfOk result (λ v. v ≡ meant.count_verb) }
 {
     command(alloc, "count", "this.n = this.n + 1; return this.n;")
 }
 
-#[tactic(auto, using(spec_fixture::proofs::TextsRead::grow_reads))]
+#[tactic(auto, unfolding(spec_fixture::specs::Opened::opened))]
 pub(crate) fn grow(alloc: Global) -> Result<Verb, AllocError>
     ensures { IfOk result (λ v. v ≡ meant.grow_verb) }
 {
@@ -24,14 +24,14 @@ pub(crate) fn grow(alloc: Global) -> Result<Verb, AllocError>
     )
 }
 
-#[tactic(auto, using(spec_fixture::proofs::TextsRead::call_reads))]
+#[tactic(auto, unfolding(spec_fixture::specs::Opened::opened))]
 pub(crate) fn call(alloc: Global) -> Result<Verb, AllocError>
     ensures { IfOk result (λ v. v ≡ meant.call_verb) }
 {
     command(alloc, "call", "return `#6:hum() ! E_VERBNF => \"none\"';")
 }
 
-#[tactic(auto, using(spec_fixture::proofs::TextsRead::plot_reads))]
+#[tactic(auto, unfolding(spec_fixture::specs::Opened::opened))]
 pub(crate) fn plot(alloc: Global) -> Result<Verb, AllocError>
     ensures { IfOk result (λ v. v ≡ meant.plot_verb) }
 {
@@ -42,7 +42,7 @@ pub(crate) fn plot(alloc: Global) -> Result<Verb, AllocError>
     )
 }
 
-#[tactic(auto, using(spec_fixture::proofs::TextsRead::dice_reads))]
+#[tactic(auto, unfolding(spec_fixture::specs::Opened::opened))]
 pub(crate) fn dice(alloc: Global) -> Result<Verb, AllocError>
     ensures { IfOk result (λ v. v ≡ meant.dice_verb) }
 {
@@ -53,14 +53,14 @@ pub(crate) fn dice(alloc: Global) -> Result<Verb, AllocError>
     )
 }
 
-#[tactic(auto, using(spec_fixture::proofs::TextsRead::sum_reads))]
+#[tactic(auto, unfolding(spec_fixture::specs::Opened::opened))]
 pub(crate) fn sum(alloc: Global) -> Result<Verb, AllocError>
     ensures { IfOk result (λ v. v ≡ meant.sum_verb) }
 {
     command(alloc, "sum", "return 1 + 2 * 3;")
 }
 
-#[tactic(auto, using(spec_fixture::proofs::TextsRead::spin_reads))]
+#[tactic(auto, unfolding(spec_fixture::specs::Opened::opened))]
 pub(crate) fn spin(alloc: Global) -> Result<Verb, AllocError>
     ensures { IfOk result (λ v. v ≡ meant.spin_verb) }
 {
@@ -71,28 +71,28 @@ pub(crate) fn spin(alloc: Global) -> Result<Verb, AllocError>
     )
 }
 
-#[tactic(auto, using(spec_fixture::proofs::TextsRead::look_reads))]
+#[tactic(auto, unfolding(spec_fixture::specs::Opened::opened))]
 pub(crate) fn look(alloc: Global) -> Result<Verb, AllocError>
     ensures { IfOk result (λ v. v ≡ meant.look_verb) }
 {
     command(alloc, "l*ook", "return verb;")
 }
 
-#[tactic(auto, using(spec_fixture::proofs::TextsRead::hold_reads))]
+#[tactic(auto, unfolding(spec_fixture::specs::Opened::opened))]
 pub(crate) fn hold(alloc: Global) -> Result<Verb, AllocError>
     ensures { IfOk result (λ v. v ≡ meant.hold_verb) }
 {
     command(alloc, "hold", "return {1, suspend(), 3};")
 }
 
-#[tactic(auto, using(spec_fixture::proofs::TextsRead::wake_reads))]
+#[tactic(auto, unfolding(spec_fixture::specs::Opened::opened))]
 pub(crate) fn wake(alloc: Global) -> Result<Verb, AllocError>
     ensures { IfOk result (λ v. v ≡ meant.wake_verb) }
 {
     command(alloc, "wake", "return resume(1, 5);")
 }
 
-#[tactic(auto, using(spec_fixture::proofs::TextsRead::storm_reads))]
+#[tactic(auto, unfolding(spec_fixture::specs::Opened::opened))]
 pub(crate) fn storm(alloc: Global) -> Result<Verb, AllocError>
     ensures { IfOk result (λ v. v ≡ meant.storm_verb) }
 {
@@ -103,7 +103,7 @@ pub(crate) fn storm(alloc: Global) -> Result<Verb, AllocError>
     )
 }
 
-#[tactic(auto, using(spec_fixture::proofs::TextsRead::tell_reads))]
+#[tactic(auto, unfolding(spec_fixture::specs::Opened::opened))]
 pub(crate) fn tell(alloc: Global) -> Result<Verb, AllocError>
     ensures { IfOk result (λ v. v ≡ meant.tell_verb) }
 {

@@ -8,7 +8,7 @@ use Rattle.std.specs.FinMap.{int_cmp-IsAntisymmetric}
 use Rattle.std.specs.FinMap.Entries.{find-put}
 use Rattle.spec_value.specs.Datum.{Text}
 use Rattle.spec_world.specs.Families.{nowhere}
-use Rattle.spec_world.specs.World.{World, Object, Verb, Link, object_at}
+use Rattle.spec_world.specs.World.{World, Object, Link, object_at}
 use Rattle.spec_world.specs.Inherit.{line, line_onto, line_bound, ancestors, slot_of, content_of}
 use Rattle.spec_world.specs.WellFormed.{IsWellFormed, OfEachObject, comes_out, ends_above, is_nowhere, lists, passes, on_object, number_fits, children_agree, parent_agrees, contents_agree, location_agrees, folded_names, defined_on, has_name, names_once, slot_names, line_names_once, slots_agree, slots_in_order, definers_filled, is_connection, link_fits, once}
 use Rattle.spec_value.proofs.Entries.{first_holds, second_holds, both_hold}

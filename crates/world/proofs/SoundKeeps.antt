@@ -1,11 +1,10 @@
 -- A slot that is there takes another value, and the world stays as it has to be.
-use Rattle.std.proofs.Common.{◌≡◌, ◌≢◌, ℕ, ℤ, Bool, true, false, List, [], ◌∷◌, map, Option, Some, None, refl, sym, ap, ◌∙◌, subst, IsTrue, is_some, ◌&&◌, int_cmp, is_eq, arith, if◌then◌else◌, Ordering, Less, Equal, Greater}
-use Rattle.std.specs.Prelude.{option_map, pos, max, min}
-use Rattle.std.specs.List.{list_all}
+use Rattle.std.proofs.Common.{◌≡◌, ◌≢◌, ℕ, ℤ, true, [], Option, Some, None, refl, sym, ap, ◌∙◌, subst, IsTrue, is_some, int_cmp, is_eq, arith, Ordering, Less, Equal, Greater}
+use Rattle.std.specs.Prelude.{option_map, max, min}
 use Rattle.std.specs.FinMap.{int_cmp-IsAntisymmetric}
 use Rattle.spec_value.specs.Datum.{Datum, Text, fold_case}
 use Rattle.spec_value.specs.Table.{at, named, with_name}
-use Rattle.spec_world.specs.World.{World, Object, Slot, Verb, object_at}
+use Rattle.spec_world.specs.World.{World, Object, Slot, object_at}
 use Rattle.spec_world.specs.Inherit.{slot_of, slot_at, with_slot}
 use Rattle.spec_world.specs.WellFormed.{IsWellFormed, OfEachObject}
 use Rattle.spec_view.specs.Questions.{new_value, new_next, put_value, apply}
@@ -18,9 +17,8 @@ use Rattle.spec_holding.proofs.WholeWorlds.{stays_whole_once}
 use Rattle.spec_world.proofs.SlotChanges.{itself, names_total, object_stays, other_objects_stay, world_stays}
 use Rattle.spec_world.proofs.SlotKeeps.{slot_keeps}
 use Rattle.spec_value.proofs.Keys.{keys_put}
-use Rattle.spec_world.proofs.Shapes.{Shape, shape, Alike, carried, by_shape}
+use Rattle.spec_world.proofs.Shapes.{shape, Alike, carried}
 use Rattle.world.specs.Sound.{IsSound}
-use Rattle.std.specs.Ordering.{int_eq}
 use Rattle.std.specs.Cmp.{int_cmp_total}
 
 -- ---- what texts spell is looked at in no slot

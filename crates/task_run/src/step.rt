@@ -11,16 +11,16 @@ use task_step::step::Step;
 use view::law::View;
 
 /// Runs a step over the view. After an error the view is to be undone or dropped.
-pub fn run_step<V: View>(_alloc: Global, _view: &mut V, _step: &Step) -> Result<Outcome, AllocError>
-    requires range { IsTrue (in_range _step.now) }
-    requires home { V.holds _view.old (V.home _view.old) }
-    requires sound { AreSound V.holds V.now _view.old }
-    ensures anchor { V.anchor _view.new ≡ V.anchor _view.old }
-    ensures home { V.home _view.new ≡ V.home _view.old }
-    ensures stays { OnOk result (V.holds _view.new (V.home _view.new)) }
-    ensures sound { OnOk result (AreSound V.holds V.now _view.new) }
-    ensures played { IfOk result (λ o. Goes V.holds V.now _view.old _view.new
-        (λ before after. StepsTo (play1 before _step.now) after o)) }
+pub fn run_step<V: View>(alloc: Global, view: &mut V, step: &Step) -> Result<Outcome, AllocError>
+    requires range { IsTrue (in_range step.now) }
+    requires home { V.holds view.old (V.home view.old) }
+    requires sound { AreSound V.holds V.now view.old }
+    ensures anchor { V.anchor view.new ≡ V.anchor view.old }
+    ensures home { V.home view.new ≡ V.home view.old }
+    ensures stays { OnOk result (V.holds view.new (V.home view.new)) }
+    ensures sound { OnOk result (AreSound V.holds V.now view.new) }
+    ensures played { IfOk result (λ o. Goes V.holds V.now view.old view.new
+        (λ before after. StepsTo (play1 before step.now) after o)) }
 {
     Err(AllocError)
 }

@@ -6,11 +6,11 @@ ghost use Rattle.builtins_change.specs.Specifiers.{specifier_of};
 
 use crate::bits::has_bit;
 use crate::specifier::Specifier;
-use footprint::verb::Verb;
 use moo_compiler::program::Program;
 use moo_tree::statement::Tree;
 use moo_value::text::Text;
 use std::alloc::{AllocError, Global};
+use world::verb::Verb;
 
 /// A verb's owner, its bits and its names, as texts.
 #[derive(Drop)]

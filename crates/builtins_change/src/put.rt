@@ -5,16 +5,16 @@ ghost use Rattle.spec_world.specs.Members.{with_verb, without_verb, verb_added, 
 ghost use Rattle.spec_world.specs.Permissions.{in_place};
 ghost use Rattle.spec_view.specs.Questions.{verbs_at};
 ghost use Rattle.spec_moo.specs.Natives.Verbs.{with_info as with_info_of, with_specifier as with_specifier_of};
-ghost use Rattle.view.specs.Law.{Goes, Lasts};
+ghost use Rattle.world.specs.Law.{Goes, Lasts};
 ghost use Rattle.builtins_change.specs.Specifiers.{specifier_of};
 
 use crate::made::{Info, with_info, with_specifier};
 use crate::specifier::Specifier;
-use footprint::part::Part;
-use footprint::verb::{Verb, Verbs};
 use std::alloc::{AllocError, Global};
-use view::law::View;
-use view::readers::write_part;
+use world::law::View;
+use world::part::Part;
+use world::readers::write_part;
+use world::verb::{Verb, Verbs};
 
 /// A verb of an object, with these verbs, has another owner, other bits and names.
 pub fn put_info<V: View>(

@@ -14,12 +14,12 @@ use Rattle.spec_moo.specs.Natives.Tasks.{set_task_perms_row, notify_row, boot_pl
 use Rattle.moo_value.specs.Errors.{code_of}
 use Rattle.moo_value.specs.declared.error.MooError.{MooError}
 use Rattle.moo_value.specs.declared.error.MooError.TheVariants.{PermissionDenied, InvalidArgument}
-use Rattle.moo_frame.specs.Deeds.{scene_of}
-use Rattle.moo_frame.specs.Effects.{effect_of}
-use Rattle.moo_frame.specs.declared.effect.NativeEffect as N
-use Rattle.moo_frame.specs.declared.deeds.Deeds.{Deeds}
-use Rattle.moo_frame.specs.declared.effect.NativeEffect.TheVariants.{Answers, Becomes}
-use Rattle.view.specs.Law.{Goes, Tells}
+use Rattle.moo_task.specs.Deeds.{scene_of}
+use Rattle.moo_task.specs.Effects.{effect_of}
+use Rattle.moo_task.specs.declared.effect.NativeEffect as N
+use Rattle.moo_task.specs.declared.deeds.Deeds.{Deeds}
+use Rattle.moo_task.specs.declared.effect.NativeEffect.TheVariants.{Answers, Becomes}
+use Rattle.world.specs.Law.{Goes, Tells}
 use Rattle.builtins_world.specs.Said.{with_programmer}
 use Rattle.builtins_links.specs.Acting.{Acts, with_player}
 use Rattle.builtins_links.specs.Refused.{IsRefusal}

@@ -4,17 +4,17 @@ ghost use Rattle.spec_value.specs.Datum.{object as object_of};
 ghost use Rattle.spec_world.specs.World.{World, reading_on};
 ghost use Rattle.spec_moo.specs.Natives.Tasks.{boot_player_row, read_row, waits_with_id};
 ghost use Rattle.spec_moo.specs.NativeEffect.{waits};
-ghost use Rattle.moo_frame.specs.Deeds.{scene_of};
-ghost use Rattle.moo_frame.specs.Effects.{effect_of};
-ghost use Rattle.moo_frame.specs.declared.effect.NativeEffect.TheVariants.{Answers};
-ghost use Rattle.view.specs.Law.{Goes, Lasts, Tells};
+ghost use Rattle.moo_task.specs.Deeds.{scene_of};
+ghost use Rattle.moo_task.specs.Effects.{effect_of};
+ghost use Rattle.moo_task.specs.declared.effect.NativeEffect.TheVariants.{Answers};
+ghost use Rattle.world.specs.Law.{Goes, Lasts, Tells};
 ghost use Rattle.inherit.specs.Lines.{AreWellFormed};
 ghost use Rattle.builtins_links.specs.Acting.{Acts, with_player};
 
 use crate::acting::refusal;
 use builtins_task::ids::own_id;
-use moo_frame::deeds::Deeds;
-use moo_frame::effect::{NativeEffect, Waiting};
+use moo_task::deeds::Deeds;
+use moo_task::effect::{NativeEffect, Waiting};
 use moo_value::answer::Answer;
 use moo_value::error::MooError;
 use moo_value::value::Value;
@@ -22,7 +22,7 @@ use permissions::act::Act;
 use permissions::may::may;
 use std::alloc::AllocError;
 use step_deeds::links::{close_connection_of, connection, reader};
-use view::law::View;
+use world::law::View;
 
 /// `boot_player`: the link of an object is closed, if it has one. `E_INVARG` where the object is not there, `E_PERM` where the
 /// programmer may not act as it.

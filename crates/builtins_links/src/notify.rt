@@ -3,14 +3,14 @@ ghost use Rattle.std.specs.Prelude.{◌≡◌, ℕ, [], ◌∷◌, IfOk};
 ghost use Rattle.spec_value.specs.Datum.{object as object_of, text as text_value};
 ghost use Rattle.spec_world.specs.World.{World};
 ghost use Rattle.spec_moo.specs.Natives.Tasks.{notify_row};
-ghost use Rattle.moo_frame.specs.Deeds.{scene_of};
-ghost use Rattle.moo_frame.specs.Effects.{effect_of};
-ghost use Rattle.moo_frame.specs.declared.effect.NativeEffect.TheVariants.{Answers};
-ghost use Rattle.view.specs.Law.{Lasts, Tells};
+ghost use Rattle.moo_task.specs.Deeds.{scene_of};
+ghost use Rattle.moo_task.specs.Effects.{effect_of};
+ghost use Rattle.moo_task.specs.declared.effect.NativeEffect.TheVariants.{Answers};
+ghost use Rattle.world.specs.Law.{Lasts, Tells};
 ghost use Rattle.builtins_links.specs.Acting.{Acts};
 ghost use Rattle.builtins_links.specs.Lines.{line_sent};
 
-use moo_frame::deeds::{Deeds, Told};
+use moo_task::deeds::{Deeds, Told};
 use moo_value::answer::Answer;
 use moo_value::error::MooError;
 use moo_value::text::Text;
@@ -19,7 +19,7 @@ use permissions::act::Act;
 use permissions::may::may;
 use std::alloc::AllocError;
 use step_deeds::links::connection;
-use view::law::View;
+use world::law::View;
 
 /// How many lines of running code a step keeps.
 pub const MOST_LINES: u32 = 4096;

@@ -5,12 +5,12 @@ use Rattle.std.proofs.lemmas.List.{take_all, take_more}
 use Rattle.spec_moo.specs.Pending.{calls_of}
 use Rattle.spec_moo.specs.Natives.Tasks.{first_of, programmer_of}
 use Rattle.moo_code.specs.Machine as code
-use Rattle.moo_frame.specs.Frames.{outer_of, outers_of}
-use Rattle.moo_frame.specs.declared.native.Native.{Native}
-use Rattle.moo_frame.specs.declared.frame.Frame.{Frame}
-use Rattle.moo_frame.specs.declared.frame.Outer.{Outer}
-use Rattle.moo_frame.specs.declared.frame.Outer.TheVariants.{Verb, Native as NativeOf}
-use Rattle.moo_frame.proofs.Waiting.{one_more}
+use Rattle.moo_task.specs.Frames.{outer_of, outers_of}
+use Rattle.moo_task.specs.declared.native.Native.{Native}
+use Rattle.moo_task.specs.declared.frame.Frame.{Frame}
+use Rattle.moo_task.specs.declared.frame.Outer.{Outer}
+use Rattle.moo_task.specs.declared.frame.Outer.TheVariants.{Verb, Native as NativeOf}
+use Rattle.moo_task.proofs.Waiting.{one_more}
 
 abbrev called_by : List code.Outer → ℤ
 called_by ks = programmer_of (first_of (calls_of (code.entries ks)))

@@ -15,12 +15,12 @@ use Rattle.spec_world.proofs.WorldsKept.{task_put, tasks_left, well_formed_agree
 use Rattle.spec_moo.specs.Scene.{Scene}
 use Rattle.spec_moo.specs.NativeEffect as N
 use Rattle.spec_moo.specs.Natives.Tasks.{task_programmer, is_suspended, resumes, is_own_id, kills, kill_task_row}
-use Rattle.moo_frame.specs.Deeds.{scene_of}
-use Rattle.moo_frame.specs.Effects.{effect_of}
-use Rattle.moo_frame.specs.declared.deeds.Deeds.{Deeds}
-use Rattle.moo_frame.specs.declared.effect.NativeEffect.{NativeEffect}
-use Rattle.moo_frame.specs.declared.effect.NativeEffect.TheVariants.{Answers, Complains, Begins, Waits, Dies, Becomes}
-use Rattle.view.specs.Law.{Goes}
+use Rattle.moo_task.specs.Deeds.{scene_of}
+use Rattle.moo_task.specs.Effects.{effect_of}
+use Rattle.moo_task.specs.declared.deeds.Deeds.{Deeds}
+use Rattle.moo_task.specs.declared.effect.NativeEffect.{NativeEffect}
+use Rattle.moo_task.specs.declared.effect.NativeEffect.TheVariants.{Answers, Complains, Begins, Waits, Dies, Becomes}
+use Rattle.world.specs.Law.{Goes}
 use Rattle.inherit.specs.Lines.{AreWellFormed}
 use Rattle.builtins_world.specs.Said.{with_programmer}
 use Rattle.builtins_world.proofs.Keeping.{world_left, LeavesWell, tested, there}

@@ -13,10 +13,10 @@ use Rattle.spec_moo.specs.Natives.Tasks.{task_programmer, is_suspended, with_tas
 use Rattle.moo_value.specs.Answers.{answer_of}
 use Rattle.moo_value.specs.declared.error.MooError.{MooError}
 use Rattle.moo_value.specs.declared.error.MooError.TheVariants.{InvalidArgument}
-use Rattle.moo_frame.specs.Deeds.{scene_of}
-use Rattle.moo_frame.specs.declared.deeds.Deeds.{Deeds}
-use Rattle.moo_frame.specs.declared.effect.NativeEffect.TheVariants.{Answers, Dies}
-use Rattle.view.specs.Law.{Goes, Tells}
+use Rattle.moo_task.specs.Deeds.{scene_of}
+use Rattle.moo_task.specs.declared.deeds.Deeds.{Deeds}
+use Rattle.moo_task.specs.declared.effect.NativeEffect.TheVariants.{Answers, Dies}
+use Rattle.world.specs.Law.{Goes, Tells}
 use Rattle.builtins_world.specs.Said.{with_programmer, Does}
 use Rattle.builtins_queue.specs.Acting.{Acts}
 

@@ -3,10 +3,10 @@ use Rattle.std.specs.Prelude.{◌≡◌, ℕ, ℤ}
 use Rattle.spec_world.specs.World.{World}
 use Rattle.spec_moo.specs.Scene.{Scene}
 use Rattle.spec_moo.specs.NativeEffect as N
-use Rattle.moo_frame.specs.Deeds.{scene_of}
-use Rattle.moo_frame.specs.Effects.{effect_of}
-use Rattle.moo_frame.specs.declared.deeds.Deeds.{Deeds}
-use Rattle.moo_frame.specs.declared.effect.NativeEffect.{NativeEffect}
+use Rattle.moo_task.specs.Deeds.{scene_of}
+use Rattle.moo_task.specs.Effects.{effect_of}
+use Rattle.moo_task.specs.declared.deeds.Deeds.{Deeds}
+use Rattle.moo_task.specs.declared.effect.NativeEffect.{NativeEffect}
 use Rattle.builtins_world.specs.Said.{with_programmer}
 
 -- from this world it leads to that one, with this effect

@@ -4,13 +4,13 @@ ghost use Rattle.spec_moo.specs.Scene.{Scene};
 ghost use Rattle.spec_moo.specs.Pending.{calls_of, caller_of};
 ghost use Rattle.spec_moo.specs.Natives.Tasks.{first_of, programmer_of, caller_perms_row};
 ghost use Rattle.moo_code.specs.Machine.{entries};
-ghost use Rattle.moo_frame.specs.Effects.{effect_of};
-ghost use Rattle.moo_frame.specs.Frames.{outers_of};
-ghost use Rattle.moo_frame.specs.Outcomes.{pending_of};
-ghost use Rattle.moo_frame.specs.declared.effect.NativeEffect.TheVariants.{Answers};
+ghost use Rattle.moo_task.specs.Effects.{effect_of};
+ghost use Rattle.moo_task.specs.Frames.{outers_of};
+ghost use Rattle.moo_task.specs.Outcomes.{pending_of};
+ghost use Rattle.moo_task.specs.declared.effect.NativeEffect.TheVariants.{Answers};
 
-use moo_frame::frame::Outer;
-use moo_frame::running::Running;
+use moo_task::frame::Outer;
+use moo_task::running::Running;
 use moo_value::answer::Answer;
 use moo_value::value::Value;
 

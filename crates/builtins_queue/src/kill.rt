@@ -3,22 +3,22 @@ ghost use Rattle.std.specs.Prelude.{◌≡◌, [], ◌∷◌, IfOk, OnOk};
 ghost use Rattle.spec_value.specs.Datum.{integer};
 ghost use Rattle.spec_moo.specs.Natives.Tasks.{is_own_id, kills, kill_task_row};
 ghost use Rattle.moo_value.specs.Answers.{answer_of};
-ghost use Rattle.view.specs.Law.{Goes, Lasts};
+ghost use Rattle.world.specs.Law.{Goes, Lasts};
 ghost use Rattle.inherit.specs.Lines.{AreWellFormed};
 ghost use Rattle.builtins_world.specs.Said.{Does};
 ghost use Rattle.builtins_queue.specs.Acting.{Acts};
 
 use crate::owners::programmer_of;
-use moo_frame::deeds::Deeds;
-use moo_frame::effect::NativeEffect;
+use moo_task::deeds::Deeds;
+use moo_task::effect::NativeEffect;
 use moo_value::answer::Answer;
 use moo_value::error::MooError;
 use moo_value::value::Value;
 use permissions::act::Act;
 use permissions::may::may;
 use std::alloc::AllocError;
-use view::law::View;
-use view::readers::{read_task, write_task};
+use world::law::View;
+use world::readers::{read_task, write_task};
 
 /// `kill_task`: the task that calls it dies by its own id, and one that waits goes. `E_INVARG` where there is no such task, `E_PERM`
 /// where the programmer may not control it.

@@ -5,21 +5,21 @@ ghost use Rattle.spec_value.specs.Table.{at};
 ghost use Rattle.spec_moo.specs.Natives.Tasks.{innermost, due_value as due_value_of, task_value as task_value_of, queued_tasks_row};
 ghost use Rattle.spec_moo.specs.Natives.Rows.{list_value};
 ghost use Rattle.moo_value.specs.Answers.{answer_of};
-ghost use Rattle.moo_frame.specs.Effects.{waiting_of};
-ghost use Rattle.view.specs.Law.{Lasts, Tells};
+ghost use Rattle.moo_task.specs.Effects.{waiting_of};
+ghost use Rattle.world.specs.Law.{Lasts, Tells};
 ghost use Rattle.inherit.specs.Lines.{AreWellFormed};
 ghost use Rattle.builtins_world.specs.Said.{Says};
 ghost use Rattle.builtins_queue.specs.Listed.{seen_task, seen_at, seen_of};
 
 use crate::owners::programmer_of;
-use moo_frame::effect::Waiting;
+use moo_task::effect::Waiting;
 use moo_task::task::Task;
 use moo_value::answer::Answer;
 use moo_value::value::Value;
 use permissions::may::is_wizard;
 use std::alloc::{AllocError, Global};
-use view::law::View;
-use view::readers::{read_task, read_waiting};
+use world::law::View;
+use world::readers::{read_task, read_waiting};
 
 /// `queued_tasks`: for each task that waits, its id, when it is due, and its innermost verb's programmer, definer, name and object: one's
 /// own, and of a wizard all.

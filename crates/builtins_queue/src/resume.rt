@@ -2,23 +2,23 @@
 ghost use Rattle.std.specs.Prelude.{◌≡◌, ◌≤◌, [], ◌∷◌, IfOk, OnOk};
 ghost use Rattle.spec_value.specs.Datum.{integer};
 ghost use Rattle.spec_moo.specs.Natives.Tasks.{is_suspended as is_suspended_of, resumes, resume_row};
-ghost use Rattle.moo_frame.specs.Effects.{waiting_of};
-ghost use Rattle.moo_frame.specs.declared.effect.NativeEffect.TheVariants.{Answers};
-ghost use Rattle.view.specs.Law.{Goes, Lasts};
+ghost use Rattle.moo_task.specs.Effects.{waiting_of};
+ghost use Rattle.moo_task.specs.declared.effect.NativeEffect.TheVariants.{Answers};
+ghost use Rattle.world.specs.Law.{Goes, Lasts};
 ghost use Rattle.inherit.specs.Lines.{AreWellFormed};
 ghost use Rattle.builtins_queue.specs.Acting.{Acts};
 
 use crate::owners::programmer_of;
-use moo_frame::deeds::Deeds;
-use moo_frame::effect::Waiting;
+use moo_task::deeds::Deeds;
+use moo_task::effect::Waiting;
 use moo_value::answer::Answer;
 use moo_value::error::MooError;
 use moo_value::value::Value;
 use permissions::act::Act;
 use permissions::may::may;
 use std::alloc::AllocError;
-use view::law::View;
-use view::readers::{read_task, write_task};
+use world::law::View;
+use world::readers::{read_task, write_task};
 
 /// No moment is later, in seconds.
 const LAST_MOMENT: u32 = 2147483647;

@@ -5,8 +5,8 @@ use Rattle.spec_world.specs.World.{World}
 use Rattle.spec_moo.specs.Scene.{Scene}
 use Rattle.spec_moo.specs.NativeEffect.{NativeEffect, refuses}
 use Rattle.spec_moo.specs.Natives.Tasks.{waits_with_id}
-use Rattle.moo_frame.specs.Deeds.{scene_of}
-use Rattle.moo_frame.specs.declared.deeds.Deeds.{Deeds}
+use Rattle.moo_task.specs.Deeds.{scene_of}
+use Rattle.moo_task.specs.declared.deeds.Deeds.{Deeds}
 
 -- with the id, or without one left
 abbrev pub named_effect : Option ℤ → Scene → (ℤ × Scene → NativeEffect) → NativeEffect

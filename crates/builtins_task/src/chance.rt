@@ -3,11 +3,11 @@ ghost use Rattle.std.specs.Prelude.{◌≡◌, ◌<◌, ◌+◌, ◌%◌, ℕ, p
 ghost use Rattle.rand_chacha.specs.ChaCha.{word_at, key_of};
 ghost use Rattle.spec_value.specs.Datum.{integer};
 ghost use Rattle.spec_moo.specs.Natives.Tasks.{random_row};
-ghost use Rattle.moo_frame.specs.declared.effect.NativeEffect.TheVariants.{Answers};
+ghost use Rattle.moo_task.specs.declared.effect.NativeEffect.TheVariants.{Answers};
 ghost use Rattle.builtins_task.specs.Bounds.{IsBound};
 ghost use Rattle.builtins_task.specs.Done.{Does};
 
-use moo_frame::deeds::Deeds;
+use moo_task::deeds::Deeds;
 use moo_value::answer::Answer;
 use moo_value::error::MooError;
 use moo_value::value::Value;

@@ -3,7 +3,7 @@ ghost use Rattle.std.specs.Prelude.{◌≡◌, ℕ, ℤ, suc, IfOk, OnErr};
 ghost use Rattle.spec_moo.specs.Scene.{id_of};
 ghost use Rattle.builtins_task.specs.Named.{IsNamed};
 
-use moo_frame::deeds::Deeds;
+use moo_task::deeds::Deeds;
 use std::alloc::AllocError;
 
 /// How many ids a step has.

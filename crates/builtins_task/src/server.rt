@@ -4,18 +4,18 @@ ghost use Rattle.spec_moo.specs.NativeEffect.{Caller, answers};
 ghost use Rattle.spec_moo.specs.Natives.Tasks.{dump_database_row, shutdown_row};
 ghost use Rattle.builtins_world.specs.Said.{with_programmer, Does};
 ghost use Rattle.moo_value.specs.Answers.{answer_of};
-ghost use Rattle.moo_frame.specs.Deeds.{scene_of};
-ghost use Rattle.view.specs.Law.{Goes, Lasts, Tells};
+ghost use Rattle.moo_task.specs.Deeds.{scene_of};
+ghost use Rattle.world.specs.Law.{Goes, Lasts, Tells};
 
-use moo_frame::deeds::Deeds;
+use moo_task::deeds::Deeds;
 use moo_value::answer::Answer;
 use moo_value::error::MooError;
 use moo_value::value::Value;
 use permissions::act::Act;
 use permissions::may::may;
 use std::alloc::AllocError;
-use view::law::View;
-use view::readers::write_ending;
+use world::law::View;
+use world::readers::write_ending;
 
 /// `dump_database`: a checkpoint is asked for. `E_PERM` for all but wizards.
 pub fn dump_database<V: View>(

@@ -15,7 +15,7 @@ use Rattle.spec_moo.specs.Natives.Rows.{if_there}
 use Rattle.spec_moo.specs.Natives.Properties.{defines_it, clear_property_row}
 use Rattle.moo_value.specs.Answers.{answer_of}
 use Rattle.moo_value.specs.declared.error.MooError.{MooError}
-use Rattle.view.specs.Law.{Goes}
+use Rattle.world.specs.Law.{Goes}
 use Rattle.inherit.specs.Lines.{AreWellFormed}
 use Rattle.inherit.proofs.Keeping.{slot_so}
 use Rattle.builtins_world.specs.Said.{Does, with_programmer}

@@ -3,10 +3,10 @@ ghost use Rattle.std.specs.Prelude.{◌≡◌, ◌<◌, length, MatchOption, IfS
 ghost use Rattle.spec_world.specs.Permissions.{in_place};
 ghost use Rattle.spec_moo.specs.Natives.Verbs.{verb_place, place_of_word as place_of_word_of};
 
-use footprint::verb::Verb;
 use moo_arith::index::natural;
 use moo_value::value::{Shown, Value};
 use verb_match::names::matches;
+use world::verb::Verb;
 
 #[tactic(auto, using(permissions::proofs::Places::stands_there, crate::proofs::Places::placed_there, crate::proofs::Places::placed_nowhere))]
 /// A verb with its place from 0, by a word that one of its names spells, or by its place from 1.

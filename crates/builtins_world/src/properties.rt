@@ -9,15 +9,13 @@ ghost use Rattle.spec_world.specs.WellFormed.{has_name as has_name_of};
 ghost use Rattle.spec_moo.specs.Natives.Properties.{properties_row, property_info_row, is_clear_property_row, clear_property_row, slot_bits as slot_bits_of, defines_it};
 ghost use Rattle.moo_value.specs.Answers.{answer_of};
 ghost use Rattle.moo_value.specs.Errors.{code_of};
-ghost use Rattle.footprint.specs.Meanings.{part_of};
+ghost use Rattle.world.specs.Meanings.{part_of};
 ghost use Rattle.inherit.specs.Lines.{AreWellFormed};
-ghost use Rattle.view.specs.Law.{Goes, Lasts, Tells};
+ghost use Rattle.world.specs.Law.{Goes, Lasts, Tells};
 ghost use Rattle.builtins_world.specs.Missing.{missing_error};
 ghost use Rattle.builtins_world.specs.Said.{Does, Says};
 
 use crate::values::texts_value;
-use footprint::part::Part;
-use footprint::slot::Slot;
 use moo_value::answer::Answer;
 use moo_value::error::MooError;
 use moo_value::text::Text;
@@ -26,8 +24,10 @@ use permissions::act::Act;
 use permissions::may::may;
 use std::alloc::{AllocError, Global};
 use verb_match::names::is_same;
-use view::law::View;
-use view::readers::{read_defines, read_header, read_slot, write_part};
+use world::law::View;
+use world::part::Part;
+use world::readers::{read_defines, read_header, read_slot, write_part};
+use world::slot::Slot;
 
 /// `properties`: the names that an object defines, in the order of definition. `E_INVARG` where it is not there, `E_PERM` where the
 /// programmer may not list them.

@@ -5,13 +5,12 @@ ghost use Rattle.spec_moo.specs.Natives.Verbs.{verbs_row, verb_info_row, verb_ar
 ghost use Rattle.spec_moo.specs.Natives.Properties.{as_texts};
 ghost use Rattle.spec_moo.specs.Natives.Rows.{list_value};
 ghost use Rattle.moo_value.specs.Answers.{answer_of};
-ghost use Rattle.view.specs.Law.{Lasts, Tells};
+ghost use Rattle.world.specs.Law.{Lasts, Tells};
 ghost use Rattle.builtins_world.specs.Said.{Says};
 ghost use Rattle.builtins_world.specs.Verbs.{info_value, specifier_value};
 
 use crate::own_verb::own_verb;
 use crate::specifier::{object_part_text, preposition_text};
-use footprint::verb::Verb;
 use moo_value::answer::Answer;
 use moo_value::error::MooError;
 use moo_value::text::Text;
@@ -19,8 +18,9 @@ use moo_value::value::Value;
 use permissions::act::Act;
 use permissions::may::may;
 use std::alloc::{AllocError, Global};
-use view::law::View;
-use view::readers::read_verbs;
+use world::law::View;
+use world::readers::read_verbs;
+use world::verb::Verb;
 
 /// `verbs`: the names of an object's own verbs, as they were given. `E_INVARG` where it is not there, `E_PERM` where the programmer
 /// may not list them.

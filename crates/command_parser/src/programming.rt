@@ -8,20 +8,20 @@ ghost use Rattle.spec_moo.specs.Natives.Verbs.{place_of_word};
 ghost use Rattle.spec_moo.specs.Steps.Programming.{requested, opens, programmable as programmable_of, programmable_at};
 ghost use Rattle.permissions.specs.Acts.{act_of};
 ghost use Rattle.inherit.specs.Lines.{AreWellFormed};
-ghost use Rattle.view.specs.Law.{Lasts, Tells};
+ghost use Rattle.world.specs.Law.{Lasts, Tells};
 ghost use Rattle.command_parser.specs.Meanings.{request_of};
 ghost use Rattle.command_parser.specs.Openings.{opened, begun, place_among};
 
 use crate::request::Request;
-use footprint::verb::{Verb, Verbs};
 use moo_value::text::Text;
 use object_match::naming::name_object;
 use permissions::act::Act;
 use permissions::may::may;
 use std::alloc::{AllocError, Global};
 use verb_match::names::matches;
-use view::law::View;
-use view::readers::read_verbs;
+use world::law::View;
+use world::readers::read_verbs;
+use world::verb::{Verb, Verbs};
 
 /// What comes of a `.program` line.
 #[derive(Drop)]

@@ -2,14 +2,14 @@
 ghost use Rattle.std.specs.Prelude.{◌≡◌, IfOk, option_map};
 ghost use Rattle.spec_world.specs.CommandLines.{meant_on as meant_on_of, verb_meant as verb_meant_of};
 ghost use Rattle.inherit.specs.Lines.{AreWellFormed};
-ghost use Rattle.view.specs.Law.{Lasts, Tells};
+ghost use Rattle.world.specs.Law.{Lasts, Tells};
 ghost use Rattle.command_parser.specs.Meanings.{named_of, meant_of, meant_in_room, meant_by_objects};
 
 use crate::command::{Meant, Said};
 use inherit::verb::find_command_verb;
 use object_match::place::location;
 use std::alloc::AllocError;
-use view::law::View;
+use world::law::View;
 
 /// The verb that a command means: the first one on the player, the room, the direct and the indirect object, in this order.
 pub(crate) fn verb_meant<V: View>(

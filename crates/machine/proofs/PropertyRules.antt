@@ -7,7 +7,7 @@ use Rattle.spec_world.specs.World.{World, Object, Slot, object_at}
 use Rattle.spec_world.specs.Inherit.{slot_of, slot_at, property_value}
 use Rattle.spec_task.specs.Turn.{may_read, found, read_slot, read_valid}
 use Rattle.spec_world.proofs.Lines.{own_value}
-use Rattle.view.specs.Law.{Goes}
+use Rattle.world.specs.Law.{Goes}
 use Rattle.machine.specs.Answers.{read_at, IsReadable, AreReadable}
 
 present_read : (w : World) (who o : ℤ) (p : Text) (s : Slot) → slot_at w o p ≡ Some s → read_at w who o p ≡ read_slot w who o p (Some s)

@@ -5,16 +5,16 @@ ghost use Rattle.spec_value.specs.Datum.{is_text};
 ghost use Rattle.spec_world.specs.World.{object_at};
 ghost use Rattle.spec_task.specs.Turn.{read, write, found, is_wizard as is_wizard_of, may_read as may_read_of, may_write as may_write_of};
 ghost use Rattle.moo_value.specs.Errors.{code_of};
-ghost use Rattle.view.specs.Law.{Goes};
+ghost use Rattle.world.specs.Law.{Goes};
 ghost use Rattle.machine.specs.Answers.{missing_error, read_at, write_at, AreReadable};
 
-use footprint::slot::Slot;
 use moo_value::error::MooError;
 use moo_value::text::Text;
 use moo_value::value::{Shown, Value};
 use std::alloc::{AllocError, Global};
-use view::law::View;
-use view::readers::{read_header, read_slot, write_value};
+use world::law::View;
+use world::readers::{read_header, read_slot, write_value};
+use world::slot::Slot;
 
 /// The value of a property, by the object and the name.
 #[tactic(auto, unfolding(spec_task::specs::Turn::read))]

@@ -4,7 +4,7 @@ ghost use Rattle.spec_value.specs.Literal.{error_message};
 ghost use Rattle.spec_task.specs.Turn.{traced, failure as failure_of};
 ghost use Rattle.spec_task.specs.Segment.{segment, stopped};
 ghost use Rattle.moo_value.specs.Errors.{code_of};
-ghost use Rattle.view.specs.Law.{Goes, AreSound};
+ghost use Rattle.world.specs.Law.{Goes, AreSound};
 ghost use Rattle.machine.specs.Stands.{Verb, Standing, pending, StandsFor, stop_meant, failure_meant, IsStop};
 
 use crate::call::Call;
@@ -16,7 +16,7 @@ use moo_value::error::MooError;
 use moo_value::text::Text;
 use moo_value::value::Value;
 use std::alloc::{AllocError, Global};
-use view::law::View;
+use world::law::View;
 
 /// Runs a verb until it stops.
 pub fn run<V: View, N: Natives>(

@@ -2,7 +2,7 @@
 ghost use Rattle.std.specs.Prelude.{◌≡◌, ◌<◌, ◌+◌, ◌++◌, IfOk, OnOk, ◌^◌};
 ghost use Rattle.moo_value.specs.Answers.{answer_of};
 ghost use Rattle.spec_task.specs.Turn.{read, write};
-ghost use Rattle.view.specs.Law.{Goes};
+ghost use Rattle.world.specs.Law.{Goes};
 ghost use Rattle.machine.specs.Answers.{AreReadable};
 ghost use Rattle.spec_world.specs.World.{World, Call as CallOf};
 ghost use Rattle.moo_compiler.specs.declared.code.Instruction.TheVariants.{Load, Binary, ReadProperty, WriteProperty, Pop, Return, ReturnZero};
@@ -17,7 +17,7 @@ use moo_value::error::MooError;
 use moo_value::operator::BinaryOperator;
 use moo_value::value::Value;
 use std::alloc::{AllocError, Global};
-use view::law::View;
+use world::law::View;
 
 /// A verb under way: where it stands in its code, what it holds, and how many ticks are left.
 #[derive(Drop)]

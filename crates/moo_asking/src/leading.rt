@@ -2,17 +2,17 @@
 ghost use Rattle.std.specs.Prelude.{◌≡◌, IfOk};
 ghost use Rattle.spec_moo.specs.Scene.{Scene};
 ghost use Rattle.moo_machine.specs.Shown.{shown};
-ghost use Rattle.moo_frame.specs.Outcomes.{around, led};
+ghost use Rattle.moo_task.specs.Outcomes.{around, led};
 ghost use Rattle.moo_objects.specs.Called.{shown_called, HasList};
 
 use inherit::verb::FoundVerb;
-use moo_frame::outcome::Outcome;
-use moo_frame::running::Running;
 use moo_machine::leaving::Leaving;
 use moo_machine::raising::raised;
 use moo_machine::verb::Did;
 use moo_objects::calling::Called;
 use moo_program::program::Program;
+use moo_task::outcome::Outcome;
+use moo_task::running::Running;
 use std::alloc::{AllocError, Global};
 
 /// Where what an instruction did leads the task.

@@ -15,10 +15,10 @@ use Rattle.moo_code.specs.Names.{starting_names, names_of}
 use Rattle.moo_code.specs.Slots.{others, variables_with}
 use Rattle.moo_code.proofs.Slots.{others_named, others_sorted, others_stay, table_is_split, variables_sorted}
 use Rattle.moo_program.specs.Names.{known}
-use Rattle.moo_frame.specs.Frames.{kept_of}
-use Rattle.moo_frame.specs.Variables.{variable_of}
-use Rattle.moo_frame.specs.declared.frame.Frame.{Frame}
-use Rattle.moo_frame.specs.declared.variables.Variable.{Variable}
+use Rattle.moo_task.specs.Frames.{kept_of}
+use Rattle.moo_task.specs.Variables.{variable_of}
+use Rattle.moo_task.specs.declared.frame.Frame.{Frame}
+use Rattle.moo_task.specs.declared.variables.Variable.{Variable}
 use Rattle.moo_forks.specs.Copying.{forked_kept, HasCopied}
 
 abbrev pub keys : List (Text × Datum) → List Text

@@ -19,12 +19,12 @@ use Rattle.moo_program.specs.Meaning.{some_name_at, name_at}
 use Rattle.moo_machine.specs.declared.verb.State.{State}
 use Rattle.moo_machine.specs.Shown.{Around, kept, here, performs_of, fails_of}
 use Rattle.moo_machine.proofs.InSlots.{slot_is_given}
-use Rattle.moo_frame.specs.Deeds.{scene_of}
-use Rattle.moo_frame.specs.Frames.{kept_of}
-use Rattle.moo_frame.specs.Performing.{HasNames}
-use Rattle.moo_frame.specs.declared.deeds.Deeds.{Deeds}
-use Rattle.moo_frame.specs.declared.running.Running.{Running}
-use Rattle.moo_frame.proofs.Performing.{name_there}
+use Rattle.moo_task.specs.Deeds.{scene_of}
+use Rattle.moo_task.specs.Frames.{kept_of}
+use Rattle.moo_task.specs.Performing.{HasNames}
+use Rattle.moo_task.specs.declared.deeds.Deeds.{Deeds}
+use Rattle.moo_task.specs.declared.running.Running.{Running}
+use Rattle.moo_task.proofs.Performing.{name_there}
 use Rattle.moo_task.specs.Keeping.{forked_task}
 use Rattle.moo_forks.specs.Copying.{forked_kept}
 use Rattle.moo_forks.specs.Queueing.{with_task}

@@ -2,10 +2,10 @@
 ghost use Rattle.std.specs.Prelude.{◌≡◌, ◌<◌, ℕ, IfOk, IfSome, OnOk};
 ghost use Rattle.spec_world.specs.World.{World, Task, forked};
 ghost use Rattle.spec_moo.specs.Scene.{moment_after as moment_after_of, enqueued, id_taken};
-ghost use Rattle.moo_frame.specs.Deeds.{scene_of};
+ghost use Rattle.moo_task.specs.Deeds.{scene_of};
 ghost use Rattle.moo_forks.specs.Queueing.{IsNextId, with_task};
 
-use moo_frame::deeds::{Deeds, Due, Queued};
+use moo_task::deeds::{Deeds, Due, Queued};
 use std::alloc::AllocError;
 
 /// How many tasks a step may queue.

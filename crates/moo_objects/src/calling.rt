@@ -10,7 +10,7 @@ ghost use Rattle.moo_code.specs.Instruction.{call_verb as call_verb_of, call_fun
 ghost use Rattle.moo_machine.specs.Shown.{Around, here};
 ghost use Rattle.inherit.specs.Lines.{AreWellFormed};
 ghost use Rattle.access.specs.Calling.{call_effect};
-ghost use Rattle.view.specs.Law.{Goes, Lasts};
+ghost use Rattle.world.specs.Law.{Goes, Lasts};
 ghost use Rattle.moo_objects.specs.Called.{items_of, running, effect_of, shown_called, weighed_effect, Calls, HasList};
 
 use access::calling::{called_verb, passed_verb};
@@ -22,7 +22,7 @@ use moo_value::error::MooError;
 use moo_value::text::Text;
 use moo_value::value::{Shown, Value};
 use std::alloc::{AllocError, Global};
-use view::law::View;
+use world::law::View;
 
 /// What a call of a verb did.
 #[derive(Drop)]

@@ -2,23 +2,23 @@
 ghost use Rattle.std.specs.Prelude.{◌≡◌, ◌<◌, ◌+◌, ◌^◌, false, codes, IfOk, OnOk};
 ghost use Rattle.spec_value.specs.Datum.{Data, list, to_list, same_text};
 ghost use Rattle.inherit.specs.Lines.{AreWellFormed};
-ghost use Rattle.view.specs.Law.{Goes, Lasts};
-ghost use Rattle.moo_frame.specs.Outcomes.{Keeps};
+ghost use Rattle.world.specs.Law.{Goes, Lasts};
+ghost use Rattle.moo_task.specs.Outcomes.{Keeps};
 ghost use Rattle.moo_run.specs.Scenes.{led_at};
 ghost use Rattle.moo_run.specs.Calls.{AreArguments, calls_function_at, calls_native_at};
 
 use crate::natives::Natives;
 use moo_asking::asking::pass;
-use moo_frame::deeds::Deeds;
-use moo_frame::outcome::Outcome;
-use moo_frame::running::Running;
+use moo_task::deeds::Deeds;
+use moo_task::outcome::Outcome;
+use moo_task::running::Running;
 use moo_value::answer::WEIGHT_LIMIT;
 use moo_value::error::MooError;
 use moo_value::items::copied;
 use moo_value::text::Text;
 use moo_value::value::{Shown, Value};
 use std::alloc::{AllocError, Global};
-use view::law::View;
+use world::law::View;
 
 // Why a value is no list of arguments: it is no list, or weighs too much.
 fn refused(arguments: &Value) -> Option<MooError>

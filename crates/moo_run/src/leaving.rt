@@ -4,24 +4,24 @@ ghost use Rattle.spec_moo.specs.Scene.{Scene};
 ghost use Rattle.moo_machine.specs.Meant.{failure_meant, leaving_meant};
 ghost use Rattle.spec_moo.specs.Leaving.{returned, failed, broken, continued};
 ghost use Rattle.inherit.specs.Lines.{AreWellFormed};
-ghost use Rattle.view.specs.Law.{Goes, Lasts};
-ghost use Rattle.moo_frame.specs.Frames.{native_of};
-ghost use Rattle.moo_frame.specs.Outcomes.{led, Keeps};
+ghost use Rattle.world.specs.Law.{Goes, Lasts};
+ghost use Rattle.moo_task.specs.Frames.{native_of};
+ghost use Rattle.moo_task.specs.Outcomes.{led, Keeps};
 ghost use Rattle.moo_run.specs.Scenes.{led_at, IsSettled};
 ghost use Rattle.moo_run.specs.Steps.{out_at, out_in, into_native_at, leaves_at, offered_in, raised_into_in, resumed, Falls};
 
 use crate::natives::Natives;
-use moo_frame::deeds::Deeds;
-use moo_frame::frame::{Frame, Outer};
-use moo_frame::native::Native;
-use moo_frame::outcome::{End, Outcome};
-use moo_frame::running::Running;
 use moo_machine::leaving::{Failure, Leaving};
+use moo_task::deeds::Deeds;
+use moo_task::frame::{Frame, Outer};
+use moo_task::native::Native;
+use moo_task::outcome::{End, Outcome};
+use moo_task::running::Running;
 use moo_unwind::offer::Offer;
 use moo_unwind::unwind::leave;
 use moo_value::value::Value;
 use std::alloc::{AllocError, Global};
-use view::law::View;
+use world::law::View;
 
 /// A leaving goes out of the verb that runs, into what waits for it.
 pub fn out_of_verb<V: View, N: Natives>(

@@ -2,18 +2,18 @@
 ghost use Rattle.std.specs.Prelude.{◌≡◌, IfOk, OnOk};
 ghost use Rattle.spec_moo.specs.Natives.{native as native_does, native_turn};
 ghost use Rattle.inherit.specs.Lines.{AreWellFormed};
-ghost use Rattle.view.specs.Law.{Goes, Lasts};
-ghost use Rattle.moo_frame.specs.Frames.{native_of};
+ghost use Rattle.world.specs.Law.{Goes, Lasts};
+ghost use Rattle.moo_task.specs.Frames.{native_of};
 ghost use Rattle.moo_run.specs.Scenes.{caller_of, scene_at, effect_at};
 
-use moo_frame::deeds::Deeds;
-use moo_frame::effect::NativeEffect;
-use moo_frame::native::Native;
-use moo_frame::running::Running;
+use moo_task::deeds::Deeds;
+use moo_task::effect::NativeEffect;
+use moo_task::native::Native;
+use moo_task::running::Running;
 use moo_value::text::Text;
 use moo_value::value::Value;
 use std::alloc::{AllocError, Global};
-use view::law::View;
+use world::law::View;
 
 /// Built-in functions over a view. What they change besides the world are the deeds of the step.
 pub trait Natives {

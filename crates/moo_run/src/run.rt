@@ -1,19 +1,19 @@
 //! Runs of tasks.
 ghost use Rattle.std.specs.Prelude.{◌≡◌, IfOk, OnOk};
 ghost use Rattle.inherit.specs.Lines.{AreWellFormed};
-ghost use Rattle.view.specs.Law.{Goes, Lasts};
-ghost use Rattle.moo_frame.specs.Outcomes.{running_kept};
+ghost use Rattle.world.specs.Law.{Goes, Lasts};
+ghost use Rattle.moo_task.specs.Outcomes.{running_kept};
 ghost use Rattle.moo_run.specs.Stopping.{IsUnderWay, StopsAsSegment, stopped_at};
 
 use crate::natives::Natives;
 use crate::step::step;
 use crate::stopped::{Stop, Stopped};
 use crate::tracing::verbs_under_way;
-use moo_frame::deeds::Deeds;
-use moo_frame::outcome::Outcome;
-use moo_frame::running::Running;
+use moo_task::deeds::Deeds;
+use moo_task::outcome::Outcome;
+use moo_task::running::Running;
 use std::alloc::{AllocError, Global};
-use view::law::View;
+use world::law::View;
 
 /// Runs a task, which begins or goes on behind a call, until it stops.
 pub fn run<V: View, N: Natives>(

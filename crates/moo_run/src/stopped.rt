@@ -1,10 +1,10 @@
 //! How a run of a task stops.
-use moo_frame::deeds::Deeds;
-use moo_frame::effect::Waiting;
-use moo_frame::frame::Frame;
-use moo_frame::outcome::End;
-use moo_frame::outers::Outers;
 use moo_machine::leaving::Traced;
+use moo_task::deeds::Deeds;
+use moo_task::effect::Waiting;
+use moo_task::frame::Frame;
+use moo_task::outcome::End;
+use moo_task::outers::Outers;
 
 /// How a run of a task stopped, what the step has done, and how many ticks are left.
 #[derive(Drop)]

@@ -2,13 +2,13 @@
 ghost use Rattle.std.specs.Prelude.{◌≡◌, ◌++◌, [], ◌∷◌, IfOk, OnOk};
 ghost use Rattle.spec_moo.specs.Pending.{outer_trace, trace};
 ghost use Rattle.moo_code.specs.Machine.{entries};
-ghost use Rattle.moo_frame.specs.Frames.{outer_of, outers_of};
-ghost use Rattle.moo_frame.specs.Outcomes.{pending_of};
+ghost use Rattle.moo_task.specs.Frames.{outer_of, outers_of};
+ghost use Rattle.moo_task.specs.Outcomes.{pending_of};
 
-use moo_frame::frame::Outer;
-use moo_frame::running::Running;
 use moo_machine::leaving::Traced;
 use moo_machine::raising::traced;
+use moo_task::frame::Outer;
+use moo_task::running::Running;
 use std::alloc::{AllocError, Global};
 
 /// The verbs of a task, the innermost first.

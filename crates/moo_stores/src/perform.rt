@@ -5,16 +5,16 @@ ghost use Rattle.moo_code.specs.Instruction.{length_of, target_at, store as stor
 ghost use Rattle.moo_code.specs.Names.{names_of};
 ghost use Rattle.moo_program.specs.Meaning.{shape_meant};
 ghost use Rattle.moo_machine.specs.Shown.{Around, shown, performs_of};
-ghost use Rattle.moo_frame.specs.Performing.{HasNames, IsDone};
+ghost use Rattle.moo_task.specs.Performing.{HasNames, IsDone};
 ghost use Rattle.moo_stores.specs.Giving.{AreWithin};
 
 use crate::parts::{length_of_part, store_part};
 use crate::scatter::{scatter, scatter_on};
 use crate::shares::are_within;
-use moo_frame::perform::slot_there;
 use moo_machine::call::Call;
 use moo_machine::verb::{Did, State};
 use moo_program::instruction::{Instruction, Scatter, Shape};
+use moo_task::perform::slot_there;
 use std::alloc::{AllocError, Global};
 
 /// Performs an instruction on a part of a variable, or of a scattering assignment. None: it is another one.

@@ -9,13 +9,13 @@ use Rattle.moo_machine.specs.contracts.call.Call as call
 use Rattle.moo_machine.specs.contracts.call.Start as start
 use Rattle.moo_machine.specs.contracts.operands.Operands as operands
 use Rattle.moo_machine.specs.contracts.verb.State as state
-use Rattle.moo_frame.specs.contracts.frame.Frame as frame
-use Rattle.moo_frame.specs.contracts.frame.Outer as outer
-use Rattle.moo_frame.specs.contracts.native.Native as native
-use Rattle.moo_frame.specs.contracts.outers.Outers as outers
-use Rattle.moo_frame.specs.contracts.start.SharedStart as shared_start
-use Rattle.moo_frame.specs.contracts.variables.SharedVariables as shared_variables
-use Rattle.moo_frame.specs.contracts.variables.Variable as variable
+use Rattle.moo_task.specs.contracts.frame.Frame as frame
+use Rattle.moo_task.specs.contracts.frame.Outer as outer
+use Rattle.moo_task.specs.contracts.native.Native as native
+use Rattle.moo_task.specs.contracts.outers.Outers as outers
+use Rattle.moo_task.specs.contracts.start.SharedStart as shared_start
+use Rattle.moo_task.specs.contracts.variables.SharedVariables as shared_variables
+use Rattle.moo_task.specs.contracts.variables.Variable as variable
 use Rattle.moo_task.specs.contracts.task.Task as task
 
 call_send : IsSend call.the_row

@@ -6,8 +6,8 @@ use Rattle.spec_value.specs.Datum.{Datum, Text, same_text}
 use Rattle.spec_value.specs.Table.{named}
 use Rattle.spec_world.specs.WellFormed.{has_name}
 use Rattle.spec_world.proofs.SlotTables.{sought, text_or_not}
-use Rattle.moo_frame.specs.Variables.{variable_of}
-use Rattle.moo_frame.specs.declared.variables.Variable.{Variable}
+use Rattle.moo_task.specs.Variables.{variable_of}
+use Rattle.moo_task.specs.declared.variables.Variable.{Variable}
 use Rattle.moo_task.specs.Sameness.{AgreeAt, AgreeOn, FurtherAgree}
 
 -- where a name stands

@@ -11,8 +11,8 @@ use Rattle.moo_code.specs.Machine.{Kept, Outer, verb, at_place}
 use Rattle.moo_code.specs.Stands.{Verb, kept, Stands}
 use Rattle.moo_code.specs.Rebuilding.{entries_of}
 use Rattle.moo_code.proofs.Runs.{verbs_begin, tasks_go_on}
-use Rattle.moo_frame.specs.Outcomes.{running_kept}
-use Rattle.moo_frame.specs.declared.running.Running.{Running}
+use Rattle.moo_task.specs.Outcomes.{running_kept}
+use Rattle.moo_task.specs.declared.running.Running.{Running}
 use Rattle.moo_task.specs.Keeping.{BeginsAlone, WaitsAtCall, IsKept, those, task_of}
 use Rattle.moo_task.specs.UnderWay.{IsUnderWay, begins, resumes, GoesOn}
 use Rattle.moo_task.proofs.Kept.{rebuilt_there}

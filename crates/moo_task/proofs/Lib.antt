@@ -1,3 +1,8 @@
+pub mod Beginning
+pub mod Entering
+pub mod Finding
+pub mod Performing
+pub mod Waiting
 pub mod Crossing
 pub mod Further
 pub mod Going

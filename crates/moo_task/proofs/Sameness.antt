@@ -6,8 +6,8 @@ use Rattle.moo_code.specs.Names.{names_of}
 use Rattle.moo_code.specs.Slots.{variables_with}
 use Rattle.moo_code.proofs.ProgramNames.{names_are_once}
 use Rattle.moo_program.specs.Names.{known}
-use Rattle.moo_frame.specs.Frames.{kept_of}
-use Rattle.moo_frame.specs.declared.frame.Frame.{Frame}
+use Rattle.moo_task.specs.Frames.{kept_of}
+use Rattle.moo_task.specs.declared.frame.Frame.{Frame}
 use Rattle.moo_task.specs.Sameness.{SlotsAgree, FurtherAgree, StandAlike}
 use Rattle.moo_task.proofs.Tables.{tables_agree, slots_agree, further_agree}
 

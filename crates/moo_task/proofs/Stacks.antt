@@ -8,9 +8,9 @@ use Rattle.std.proofs.Math.ListN.{drop_of_length-le}
 use Rattle.spec_value.specs.Datum.{Datum}
 use Rattle.moo_code.specs.Performing.{onto}
 use Rattle.moo_code.specs.Machine as code
-use Rattle.moo_frame.specs.Frames.{outer_of, outers_of}
-use Rattle.moo_frame.specs.declared.frame.Outer.{Outer}
-use Rattle.moo_frame.proofs.Waiting.{one_more}
+use Rattle.moo_task.specs.Frames.{outer_of, outers_of}
+use Rattle.moo_task.specs.declared.frame.Outer.{Outer}
+use Rattle.moo_task.proofs.Waiting.{one_more}
 
 -- ---- operands
 

@@ -1,3 +1,10 @@
+pub mod Codes
+pub mod Deeds
+pub mod Effects
+pub mod Frames
+pub mod Outcomes
+pub mod Performing
+pub mod Variables
 pub mod Keeping
 pub mod Laws
 pub mod Sameness

@@ -1,12 +1,12 @@
 //! Copies of what waits. Values, texts, programs and what a command line gave are shared with the copies.
 ghost use Rattle.std.specs.Prelude.{◌≡◌, ◌∷◌, IfOk, OnOk};
-ghost use Rattle.moo_frame.specs.Effects.{waiting_of};
-ghost use Rattle.moo_frame.specs.Frames.{kept_of, native_of, outer_of};
+ghost use Rattle.moo_task.specs.Effects.{waiting_of};
+ghost use Rattle.moo_task.specs.Frames.{kept_of, native_of, outer_of};
 
-use moo_frame::effect::Waiting;
-use moo_frame::frame::{Frame, Outer};
-use moo_frame::native::Native;
-use moo_frame::outers::Outers;
+use crate::effect::Waiting;
+use crate::frame::{Frame, Outer};
+use crate::native::Native;
+use crate::outers::Outers;
 use moo_machine::call::Call;
 use moo_machine::operands::Operands;
 use moo_machine::verb::State;

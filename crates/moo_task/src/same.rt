@@ -1,16 +1,16 @@
 //! Comparisons of what waits. None takes memory.
 ghost use Rattle.std.specs.Prelude.{◌≡◌, ◌↔◌, length, map, IsTrue, option_map};
 ghost use Rattle.moo_program.specs.Names.{known};
-ghost use Rattle.moo_frame.specs.Effects.{waiting_of};
-ghost use Rattle.moo_frame.specs.Frames.{kept_of, native_name_of, native_of, outer_of};
-ghost use Rattle.moo_frame.specs.Variables.{variable_of};
+ghost use Rattle.moo_task.specs.Effects.{waiting_of};
+ghost use Rattle.moo_task.specs.Frames.{kept_of, native_name_of, native_of, outer_of};
+ghost use Rattle.moo_task.specs.Variables.{variable_of};
 ghost use Rattle.moo_task.specs.Sameness.{AgreeAt, AgreeOn, FurtherAgree, SlotsAgree, StandAlike};
 
-use moo_frame::effect::Waiting;
-use moo_frame::frame::{Frame, Outer};
-use moo_frame::native::{Native, NativeName};
-use moo_frame::outers::Outers;
-use moo_frame::variables::{SharedVariables, Variable, value_in};
+use crate::effect::Waiting;
+use crate::frame::{Frame, Outer};
+use crate::native::{Native, NativeName};
+use crate::outers::Outers;
+use crate::variables::{SharedVariables, Variable, value_in};
 use moo_machine::call::{Call, Start};
 use moo_machine::operands::Operands;
 use moo_program::names::has_slot_among;

@@ -6,19 +6,19 @@ ghost use Rattle.spec_moo.specs.Natives.Tasks.{innermost, is_suspended};
 ghost use Rattle.spec_moo.specs.Steps.Running.{waiting_task, gone_on};
 ghost use Rattle.moo_code.specs.Machine.{verb};
 ghost use Rattle.moo_code.specs.Stands.{AllWait};
-ghost use Rattle.moo_frame.specs.Effects.{waiting_of};
-ghost use Rattle.moo_frame.specs.Frames.{kept_of};
-ghost use Rattle.moo_frame.specs.Outcomes.{running_kept, ticks_of};
+ghost use Rattle.moo_task.specs.Effects.{waiting_of};
+ghost use Rattle.moo_task.specs.Frames.{kept_of};
+ghost use Rattle.moo_task.specs.Outcomes.{running_kept, ticks_of};
 ghost use Rattle.moo_task.specs.Keeping.{HasStopped, IsKept, forked_task};
 ghost use Rattle.moo_task.specs.UnderWay.{GoesOn, IsUnderWay};
 ghost use Rattle.moo_task.specs.Waits.{due_at, read_on};
 
 use crate::copies::{copy_outers, copy_waiting};
+use crate::effect::Waiting;
+use crate::frame::{Frame, Outer};
+use crate::outers::Outers;
+use crate::running::Running;
 use crate::same::{same_outers, same_waiting};
-use moo_frame::effect::Waiting;
-use moo_frame::frame::{Frame, Outer};
-use moo_frame::outers::Outers;
-use moo_frame::running::Running;
 use moo_machine::call::Call;
 use moo_value::value::Value;
 use std::alloc::{AllocError, Global};
@@ -45,7 +45,7 @@ impl Model for Task {
 
     ghost coded = { task_code };
 
-    ghost use Rattle.moo_frame.specs.Effects.{waiting_of};
+    ghost use Rattle.moo_task.specs.Effects.{waiting_of};
     ghost use Rattle.moo_task.specs.Keeping.{task_of, IsKept};
 
     ghost view = { λ a. task_of a.player (waiting_of a.waiting) (arc_value a.verbs) };

@@ -3,17 +3,17 @@ ghost use Rattle.std.specs.Prelude.{◌≡◌, IfOk, codes};
 ghost use Rattle.spec_world.specs.World.{object_at};
 ghost use Rattle.spec_world.specs.Naming.{contents_of};
 ghost use Rattle.inherit.specs.Lines.{AreWellFormed};
-ghost use Rattle.view.specs.Law.{Lasts, Tells};
+ghost use Rattle.world.specs.Law.{Lasts, Tells};
 ghost use Rattle.object_match.specs.Fits.{some_fit, named_in, object_fit, with_objects};
 
 use crate::fit::{Fit, NO_FIT};
 use crate::tally::Matches;
-use footprint::header::Header;
 use inherit::property::find_property;
 use moo_value::text::Text;
 use std::alloc::AllocError;
-use view::law::View;
-use view::readers::{read_contents, read_header};
+use world::header::Header;
+use world::law::View;
+use world::readers::{read_contents, read_header};
 
 /// With those of the contents of an object that a text fits.
 pub(crate) fn with_contents<V: View>(

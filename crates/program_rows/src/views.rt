@@ -1,14 +1,14 @@
 //! What no clause of the views says: that calls with ample memory succeed.
-use footprint::slot::Slot;
 use moo_value::compare::equal;
 use moo_value::text::Text;
 use moo_value::value::Value;
 use std::alloc::{AllocError, Global};
 use std::test::Fail;
-use view::law::View;
-use view::live::Live;
-use view::readers::{read_slot, write_value};
-use view::tracked::Tracked;
+use world::law::View;
+use world::live::Live;
+use world::readers::{read_slot, write_value};
+use world::slot::Slot;
+use world::tracked::Tracked;
 use world_fixture::fixture::fixture;
 
 /// The room of the fixture.

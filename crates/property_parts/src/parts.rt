@@ -4,7 +4,7 @@ ghost use Rattle.spec_moo.specs.Effects.Lists.{length_in};
 ghost use Rattle.moo_value.specs.Answers.{answer_of};
 ghost use Rattle.moo_targets.specs.Targets.{part_answer, whole_answer};
 ghost use Rattle.inherit.specs.Lines.{AreWellFormed};
-ghost use Rattle.view.specs.Law.{Goes, Lasts, Tells};
+ghost use Rattle.world.specs.Law.{Goes, Lasts, Tells};
 ghost use Rattle.access.specs.Writing.{IsWritten};
 ghost use Rattle.property_parts.specs.Parts.{part_there, part_written};
 
@@ -17,7 +17,7 @@ use moo_value::answer::Answer;
 use moo_value::error::MooError;
 use moo_value::value::Value;
 use std::alloc::{AllocError, Global};
-use view::law::View;
+use world::law::View;
 
 /// The length, for `$`, of what stands behind brackets of what a property holds.
 pub fn length_there<V: View>(

@@ -3,8 +3,8 @@ ghost use Rattle.std.specs.Prelude.{◌≡◌, ◌++◌, [], ◌∷◌, filter, 
 ghost use Rattle.std.specs.Ordering.{int_eq};
 ghost use Rattle.spec_world.specs.WellFormed.{lists};
 
-use footprint::lists::Objects;
 use std::alloc::{AllocError, Global};
+use world::lists::Objects;
 
 /// Objects but for one.
 pub fn without(alloc: Global, objects: &[i32], object: &i32) -> Result<Objects, AllocError>

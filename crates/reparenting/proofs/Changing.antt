@@ -5,7 +5,7 @@ use Rattle.spec_world.specs.World.{World, Slot, object_at}
 use Rattle.spec_world.specs.Families.{parent_of, put_below, with_heirs, reparented}
 use Rattle.inherit.specs.Lines.{AreWellFormed}
 use Rattle.family.specs.Below.{IsFamily}
-use Rattle.view.specs.Law.{Goes, Tells}
+use Rattle.world.specs.Law.{Goes, Tells}
 use Rattle.reparenting.specs.Heirs.{names_beside, slots_beside, lose_each, inherit_each}
 use Rattle.reparenting.proofs.Descent.{heirs_so}
 

@@ -4,17 +4,17 @@ ghost use Rattle.spec_world.specs.Inherit.{slot_at};
 ghost use Rattle.spec_world.specs.WellFormed.{lists};
 ghost use Rattle.spec_view.specs.Questions.{defines_at};
 ghost use Rattle.inherit.specs.Lines.{AreWellFormed};
-ghost use Rattle.view.specs.Law.{Lasts, Tells};
+ghost use Rattle.world.specs.Law.{Lasts, Tells};
 ghost use Rattle.reparenting.specs.Along.{given, names_on, slots_of, with_found};
 ghost use Rattle.reparenting.specs.Heirs.{heritage, names_beside as names_beside_of, slots_beside as slots_beside_of};
 
-use footprint::slot::Slot;
 use inherit::line::ancestors;
 use moo_value::text::Text;
 use relatives::lists::is_among;
 use std::alloc::{AllocError, Global};
-use view::law::View;
-use view::readers::{read_defines, read_slot};
+use world::law::View;
+use world::readers::{read_defines, read_slot};
+use world::slot::Slot;
 
 /// The slots of an object that its children inherit, with the names under which they are defined: none where it is not there.
 pub fn inherited_slots<V: View>(

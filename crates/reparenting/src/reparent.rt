@@ -4,13 +4,13 @@ ghost use Rattle.spec_world.specs.World.{object_at};
 ghost use Rattle.spec_world.specs.Families.{parent_of, with_heirs, reparented};
 ghost use Rattle.inherit.specs.Lines.{AreWellFormed};
 ghost use Rattle.family.specs.Below.{IsFamily};
-ghost use Rattle.view.specs.Law.{Goes, Lasts};
+ghost use Rattle.world.specs.Law.{Goes, Lasts};
 
 use crate::along::{names_beside, slots_beside};
 use crate::heirs::{inherit_each, lose_each};
 use relatives::children::put_below;
 use std::alloc::{AllocError, Global};
-use view::law::View;
+use world::law::View;
 
 /// An object, which with all below it is this family, goes over from its parent to another one.
 pub fn reparent<V: View>(

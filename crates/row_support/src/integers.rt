@@ -1,6 +1,6 @@
 //! The integers in values and properties.
-use footprint::slot::Slot;
 use moo_value::value::{Shown, Value};
+use world::slot::Slot;
 
 /// The integer that a value is.
 pub fn integer(value: &Value) -> Option<i32> {

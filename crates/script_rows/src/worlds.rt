@@ -1,6 +1,5 @@
 //! Worlds before and after a run.
 use crate::row::{KEY, TWO_COUNTED, TWO_COUNTS, play, script};
-use footprint::question::{Answer, Question};
 use moo_value::text::Text;
 use moo_value::value::Value;
 use row_support::integers::integer_in;
@@ -9,8 +8,9 @@ use std::alloc::{AllocError, Global};
 use std::sync::Wait;
 use std::test::Fail;
 use std::thread::Threads;
-use view::live::Live;
-use view::readers::write_value;
+use world::live::Live;
+use world::question::{Answer, Question};
+use world::readers::write_value;
 use world::worlds::World;
 use world_fixture::fixture::fixture;
 use world_fixture::rooms::fixture_with_endless_verb;

@@ -5,8 +5,8 @@ use Rattle.spec_view.specs.Questions.{Read, Change}
 use Rattle.spec_step.specs.Step.{Step}
 use Rattle.spec_step.specs.Outcome.{Outcome}
 use Rattle.spec_task.specs.Step.{play1}
-use Rattle.view.specs.Law.{Goes}
-use Rattle.view.specs.Trace.{Trace, IsStart, world_now}
+use Rattle.world.specs.Law.{Goes}
+use Rattle.world.specs.Trace.{Trace, IsStart, world_now}
 use Rattle.task_run.specs.Performed.{StepsTo}
 use Rattle.speculate.specs.Right.{IsRight}
 

@@ -7,7 +7,7 @@ use Rattle.spec_step.specs.Step.{Step}
 use Rattle.spec_step.specs.Outcome.{Outcome}
 use Rattle.spec_task.specs.Step.{play1}
 use Rattle.spec_step.specs.StepCode.{step_code, outcome_code}
-use Rattle.footprint.specs.QuestionCode.{read_code, change_code}
+use Rattle.world.specs.QuestionCode.{read_code, change_code}
 use Rattle.world.specs.Sound.{IsSound}
 
 -- a step, what it read, what it is to change, and its outcome

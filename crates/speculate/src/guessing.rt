@@ -8,7 +8,7 @@ use crate::guesses::Guess;
 use std::alloc::{AllocError, Global};
 use task_run::step::run_step;
 use task_step::step::Step;
-use view::tracked::Tracked;
+use world::tracked::Tracked;
 use world::worlds::Snapshot;
 
 /// Runs a step on a snapshot, which stays as it is. The guess is right for every world, whatever became of it since.

@@ -15,9 +15,9 @@ use Rattle.spec_world.proofs.WorldsKept.{link_closed_keeps, well_formed_agrees, 
 use Rattle.spec_view.specs.Laws.{first}
 use Rattle.spec_view.specs.Questions.{apply, new_task, new_link}
 use Rattle.spec_moo.specs.Linking.{connection_closed, link_closed}
-use Rattle.moo_frame.specs.Deeds.{scene_of}
-use Rattle.moo_frame.specs.declared.deeds.Deeds.{Deeds}
-use Rattle.view.specs.Law.{Goes, Tells}
+use Rattle.moo_task.specs.Deeds.{scene_of}
+use Rattle.moo_task.specs.declared.deeds.Deeds.{Deeds}
+use Rattle.world.specs.Law.{Goes, Tells}
 use Rattle.inherit.specs.Lines.{AreWellFormed}
 use Rattle.step_deeds.specs.Closing.{without_readers}
 

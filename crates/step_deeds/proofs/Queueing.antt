@@ -7,11 +7,11 @@ use Rattle.spec_view.specs.Questions.{apply, new_task}
 use Rattle.spec_step.specs.Outcome as outcome
 use Rattle.spec_moo.specs.Scene.{enqueued}
 use Rattle.spec_moo.specs.Scene as scene
-use Rattle.moo_frame.specs.Deeds.{scene_of, due_of, queued_of}
-use Rattle.moo_frame.specs.declared.deeds.Deeds.{Deeds}
-use Rattle.moo_frame.specs.declared.deeds.Due.{Due}
-use Rattle.moo_frame.specs.declared.deeds.Queued.{Queued}
-use Rattle.view.specs.Law.{Goes}
+use Rattle.moo_task.specs.Deeds.{scene_of, due_of, queued_of}
+use Rattle.moo_task.specs.declared.deeds.Deeds.{Deeds}
+use Rattle.moo_task.specs.declared.deeds.Due.{Due}
+use Rattle.moo_task.specs.declared.deeds.Queued.{Queued}
+use Rattle.world.specs.Law.{Goes}
 
 pub put_into_queue : {V : Type 0} (holds : V → World → Type 0) (now : V → World → World) (a b : V) (d : Deeds) (qs : List Queued) (due : Due) (i : ℤ) (t : Task)
     → qs ≡ d.queued.items ++ record { id = i; due = due } ∷ [] → due_of due ≡ scene.due_of t.waiting

@@ -6,10 +6,10 @@ use Rattle.spec_world.specs.World.{World}
 use Rattle.spec_world.specs.Links.{connection_of}
 use Rattle.spec_moo.specs.Scene.{Scene}
 use Rattle.spec_moo.specs.Steps.Running.{lines_to, told_on, told}
-use Rattle.moo_frame.specs.Deeds.{scene_of, told_of}
-use Rattle.moo_frame.specs.declared.deeds.Deeds.{Deeds}
-use Rattle.moo_frame.specs.declared.deeds.Told.{Told}
-use Rattle.view.specs.Law.{Tells}
+use Rattle.moo_task.specs.Deeds.{scene_of, told_of}
+use Rattle.moo_task.specs.declared.deeds.Deeds.{Deeds}
+use Rattle.moo_task.specs.declared.deeds.Told.{Told}
+use Rattle.world.specs.Law.{Tells}
 
 lines_more : (c : ℤ) (ts : List Text) (x : Text) → lines_to c (ts ++ x ∷ []) ≡ lines_to c ts ++ (c, x) ∷ []
 lines_more c [] x = refl

@@ -13,9 +13,9 @@ use Rattle.spec_ready.proofs.GoingOn.{beginnings_stand}
 use Rattle.moo_code.specs.Machine.{Kept, Outer}
 use Rattle.moo_code.specs.Stands.{AllWait, Verb, Stands, first_size}
 use Rattle.moo_code.proofs.Runs.{verbs_begin}
-use Rattle.moo_frame.specs.Frames as frames
-use Rattle.moo_frame.specs.Outcomes.{running_kept}
-use Rattle.moo_frame.specs.declared.running.Running.{Running}
+use Rattle.moo_task.specs.Frames as frames
+use Rattle.moo_task.specs.Outcomes.{running_kept}
+use Rattle.moo_task.specs.declared.running.Running.{Running}
 use Rattle.moo_task.specs.UnderWay.{GoesOn, verb_of, IsUnderWay, begins}
 use Rattle.step_tasks.specs.Tasks.{MayRun, called_as}
 

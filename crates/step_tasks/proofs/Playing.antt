@@ -5,9 +5,9 @@ use Rattle.spec_world.specs.World.{World}
 use Rattle.spec_step.specs.Outcome.{Outcome}
 use Rattle.spec_moo.specs.Scene.{Scene}
 use Rattle.spec_ready.specs.Ready.{IsReady}
-use Rattle.moo_frame.specs.Deeds.{scene_of}
-use Rattle.moo_frame.specs.declared.deeds.Deeds.{Deeds}
-use Rattle.view.specs.Law.{Goes, Tells}
+use Rattle.moo_task.specs.Deeds.{scene_of}
+use Rattle.moo_task.specs.declared.deeds.Deeds.{Deeds}
+use Rattle.world.specs.Law.{Goes, Tells}
 use Rattle.step_tasks.specs.Performed.{StepsTo}
 use Rattle.step_tasks.specs.Ready.{AreReady}
 

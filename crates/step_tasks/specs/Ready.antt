@@ -2,8 +2,8 @@
 use Rattle.std.specs.Prelude.{ℕ}
 use Rattle.spec_world.specs.World.{World}
 use Rattle.spec_ready.specs.Ready.{IsReady}
-use Rattle.moo_frame.specs.Deeds.{scene_of}
-use Rattle.moo_frame.specs.declared.deeds.Deeds.{Deeds}
+use Rattle.moo_task.specs.Deeds.{scene_of}
+use Rattle.moo_task.specs.declared.deeds.Deeds.{Deeds}
 
 -- whatever the ticks are
 abbrev pub AreReady : {V : Type 0} → (V → World → Type 0) → (V → World → World) → V → Deeds → Type 0

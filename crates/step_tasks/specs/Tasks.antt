@@ -3,8 +3,8 @@ use Rattle.spec_value.specs.Datum.{Text}
 use Rattle.spec_world.specs.World.{Call}
 use Rattle.spec_moo.specs.Pending.{Pending}
 use Rattle.spec_moo.specs.Worlds as worlds
-use Rattle.moo_frame.specs.Outcomes.{running_kept}
-use Rattle.moo_frame.specs.declared.running.Running.{Running}
+use Rattle.moo_task.specs.Outcomes.{running_kept}
+use Rattle.moo_task.specs.declared.running.Running.{Running}
 use Rattle.moo_task.specs.UnderWay.{IsPending, IsUnderWay}
 
 pub record MayRun (task : Running) (p : Pending) : Type 0 where

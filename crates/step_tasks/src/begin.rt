@@ -2,14 +2,14 @@
 ghost use Rattle.std.specs.Prelude.{◌≡◌, IfOk};
 ghost use Rattle.spec_value.specs.Datum.{Data, list};
 ghost use Rattle.spec_moo.specs.Steps.Running.{begun};
-ghost use Rattle.moo_frame.specs.Outcomes.{ticks_of};
+ghost use Rattle.moo_task.specs.Outcomes.{ticks_of};
 ghost use Rattle.step_tasks.specs.Tasks.{MayRun, called_as as called_as_of};
 
 use inherit::verb::FoundVerb;
-use moo_frame::running::Running;
-use moo_frame::start::SharedStart;
 use moo_machine::call::{Call, Start};
 use moo_program::program::Program;
+use moo_task::running::Running;
+use moo_task::start::SharedStart;
 use moo_value::text::Text;
 use moo_value::value::Value;
 use std::alloc::{AllocError, Global};

@@ -5,11 +5,11 @@ ghost use Rattle.spec_world.specs.World.{World};
 ghost use Rattle.spec_moo.specs.Steps.Events.{nothing_runs};
 ghost use Rattle.spec_moo.specs.Steps.Programming.{says as says_to};
 ghost use Rattle.spec_moo.specs.Steps.Running.{told_on};
-ghost use Rattle.moo_frame.specs.Deeds.{scene_of};
+ghost use Rattle.moo_task.specs.Deeds.{scene_of};
 ghost use Rattle.step_tasks.specs.Opens.{IsOpening};
 
 use crate::outcome::outcome;
-use moo_frame::deeds::Deeds;
+use moo_task::deeds::Deeds;
 use moo_value::text::Text;
 use std::alloc::{AllocError, Global};
 use step_deeds::telling::tell_on;

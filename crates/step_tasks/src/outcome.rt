@@ -2,11 +2,11 @@
 ghost use Rattle.std.specs.Prelude.{◌≡◌, ℕ, map, pos, MatchOption, IfOk};
 ghost use Rattle.spec_world.specs.World.{World};
 ghost use Rattle.spec_moo.specs.Steps.Outcomes.{comes_to, idle_with};
-ghost use Rattle.moo_frame.specs.Deeds.{scene_of, due_of as due_meant, queued_of as queued_meant, told_of};
+ghost use Rattle.moo_task.specs.Deeds.{scene_of, due_of as due_meant, queued_of as queued_meant, told_of};
 ghost use Rattle.task_step.specs.OutcomeView.{result_of, lines_of, queued_of, due_of, closed_of};
 
-use moo_frame::deeds;
-use moo_frame::deeds::{Deeds, Told};
+use moo_task::deeds;
+use moo_task::deeds::{Deeds, Told};
 use std::alloc::{AllocError, Global};
 use task_step::outcome::{Due, Ending, Outcome, OutputLine, Queued};
 

@@ -4,18 +4,18 @@ ghost use Rattle.spec_value.specs.Datum.{Data, list, is_text};
 ghost use Rattle.spec_world.specs.VerbsSought.{find_verb as find_verb_of};
 ghost use Rattle.spec_moo.specs.Steps.Running.{system, system_call, system_task as system_task_of, unnamed as unnamed_of};
 ghost use Rattle.inherit.specs.Lines.{AreWellFormed};
-ghost use Rattle.moo_frame.specs.Outcomes.{ticks_of};
-ghost use Rattle.view.specs.Law.{Lasts, Tells};
+ghost use Rattle.moo_task.specs.Outcomes.{ticks_of};
+ghost use Rattle.world.specs.Law.{Lasts, Tells};
 ghost use Rattle.step_tasks.specs.Tasks.{MayRun};
 
 use crate::begin::{begin, program_of};
 use inherit::verb::{FoundVerb, find_verb};
-use moo_frame::running::Running;
 use moo_machine::call::{Call, Start};
+use moo_task::running::Running;
 use moo_value::text::Text;
 use moo_value::value::Value;
 use std::alloc::{AllocError, Global};
-use view::law::View;
+use world::law::View;
 
 /// The object whose verbs the server calls.
 pub const SYSTEM: i32 = 0;

@@ -9,7 +9,7 @@ use Rattle.spec_step.specs.Step.{Step, Event, in_range, event_in_range}
 use Rattle.spec_step.specs.Outcome.{Outcome, none, ended}
 use Rattle.spec_task.specs.Step.{performed, plain, run_event, run_person, run_word, run_verb, verbs_of}
 use Rattle.spec_value.proofs.Entries.{second_holds}
-use Rattle.view.specs.Law.{Goes}
+use Rattle.world.specs.Law.{Goes}
 use Rattle.task_run.specs.Performed.{StepsTo}
 use Rattle.task_run.proofs.Stepping.{went_on}
 

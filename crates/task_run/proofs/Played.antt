@@ -6,7 +6,7 @@ use Rattle.spec_task.specs.Segment.{Stop, Ended, segment, stopped}
 use Rattle.spec_step.specs.Outcome.{Outcome}
 use Rattle.spec_task.specs.Step.{after_segment}
 use Rattle.machine.specs.declared.task.Run.{Run}
-use Rattle.view.specs.Law.{Goes}
+use Rattle.world.specs.Law.{Goes}
 use Rattle.task_run.specs.Performed.{StepsTo}
 use Rattle.task_run.specs.Tasks.{IsRunOf, outcome_of}
 

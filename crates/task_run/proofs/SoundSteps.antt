@@ -7,7 +7,7 @@ use Rattle.spec_step.specs.Outcome.{Outcome}
 use Rattle.spec_task.specs.Step.{performed}
 use Rattle.world.specs.Sound.{IsSound}
 use Rattle.world.proofs.SoundKeeps.{sound_performed}
-use Rattle.view.specs.Law.{Goes, AreSound}
+use Rattle.world.specs.Law.{Goes, AreSound}
 use Rattle.task_run.specs.Performed.{StepsTo}
 
 pub sound_after_step : {V E : Type 0} (holds : V → World → Type 0) (now : V → World → World) (old new : V) (x : Event) (r : Result Outcome E)

@@ -5,7 +5,7 @@ use Rattle.spec_task.specs.Turn.{Pending}
 use Rattle.spec_task.specs.Segment.{Stop, Ended, segment, stopped}
 use Rattle.world.specs.Sound.{IsSound}
 use Rattle.world.proofs.SoundKeeps.{sound_segment}
-use Rattle.view.specs.Law.{Goes, AreSound}
+use Rattle.world.specs.Law.{Goes, AreSound}
 
 pub sound_after : {V : Type 0} (holds : V → World → Type 0) (now : V → World → World) (old new : V) (t : ℕ) (p : Pending) (stop : Stop) (left : ℕ)
     → AreSound holds now old → Goes holds now old new (λ before after. segment t before p ≡ stopped after stop left) → AreSound holds now new

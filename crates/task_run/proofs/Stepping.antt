@@ -6,7 +6,7 @@ use Rattle.spec_world.specs.World.{World}
 use Rattle.spec_step.specs.Step.{Step}
 use Rattle.spec_step.specs.Outcome.{Outcome}
 use Rattle.spec_task.specs.Step.{performed, play1}
-use Rattle.view.specs.Law.{Goes}
+use Rattle.world.specs.Law.{Goes}
 use Rattle.task_run.specs.Performed.{StepsTo}
 
 -- where nothing was read

@@ -5,13 +5,12 @@ ghost use Rattle.spec_task.specs.Segment.{segment, raised as raised_by};
 ghost use Rattle.spec_task.specs.Commands.{command as command_of, one_word as one_word_start};
 ghost use Rattle.spec_task.specs.Step.{run_verb as verb_run, after_segment, plain, stop_result, stop_lines};
 ghost use Rattle.machine.specs.Stands.{stop_meant, failure_meant};
-ghost use Rattle.view.specs.Law.{Goes, AreSound};
+ghost use Rattle.world.specs.Law.{Goes, AreSound};
 ghost use Rattle.task_run.specs.Performed.{StepsTo};
 ghost use Rattle.task_run.specs.Tasks.{IsRunOf, outcome_of};
 
 use crate::ending::telling;
 use crate::told::traceback;
-use footprint::verb::Verb;
 use machine::call::{Call, Start};
 use machine::natives::NoNatives;
 use machine::run::run;
@@ -20,7 +19,8 @@ use machine::task::Run;
 use moo_value::text::Text;
 use std::alloc::{AllocError, Global};
 use task_step::outcome::{Ending, Outcome};
-use view::law::View;
+use world::law::View;
+use world::verb::Verb;
 
 /// The ticks of a command.
 pub const COMMAND_TICKS: u32 = 30_000;

@@ -9,7 +9,7 @@ use task_step::list::may_play;
 use task_step::outcome::Outcome;
 use task_step::partial::{Partial, Refusal, refused};
 use task_step::step::Step;
-use view::live::Live;
+use world::live::Live;
 use world::worlds::World;
 
 /// Runs the steps one after another. After want of memory, the first part was run.

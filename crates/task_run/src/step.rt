@@ -5,20 +5,20 @@ ghost use Rattle.spec_value.specs.Table.{at};
 ghost use Rattle.spec_step.specs.Step.{in_range, event_in_range};
 ghost use Rattle.spec_task.specs.Step.{play1, performed, run_event as event_run, run_line as line_run, run_person as person_run, run_word as word_run, run_verb as verb_run};
 ghost use Rattle.task_step.specs.StepView.{event_of};
-ghost use Rattle.view.specs.Law.{Goes, AreSound};
+ghost use Rattle.world.specs.Law.{Goes, AreSound};
 ghost use Rattle.task_run.specs.Performed.{StepsTo};
 
 use crate::command::run_verb;
 use crate::ending::{not_understood, nothing, without_task};
 use crate::verb::find_verb;
 use crate::word::without_spaces;
-use footprint::verb::Verb;
 use moo_value::text::Text;
 use std::alloc::{AllocError, Global};
 use task_step::outcome::{Ending, Outcome};
 use task_step::step::{Event, Step};
-use view::law::View;
-use view::readers::{raise_next, read_ending, read_header, read_link, read_verbs};
+use world::law::View;
+use world::readers::{raise_next, read_ending, read_header, read_link, read_verbs};
+use world::verb::Verb;
 
 /// Runs a step over the view. After an error the view is to be undone or dropped.
 pub fn run_step<V: View>(alloc: Global, view: &mut V, step: &Step) -> Result<Outcome, AllocError>

@@ -3,8 +3,8 @@ ghost use Rattle.std.specs.Prelude.{◌≡◌, option_map};
 ghost use Rattle.spec_value.specs.Datum.{same_text, fold_case};
 ghost use Rattle.spec_task.specs.Commands.{verb_named};
 
-use footprint::verb::Verb;
 use moo_value::text::Text;
+use world::verb::Verb;
 
 /// The first of these verbs whose name is this very word, the case of letters ignored.
 #[tactic(auto, using(crate::proofs::Verbs::verb_here, crate::proofs::Verbs::verb_later, crate::proofs::Verbs::verb_nowhere))]

@@ -9,16 +9,16 @@ ghost use Rattle.spec_world.specs.World.{World as Plain};
 ghost use Rattle.spec_world.specs.Inherit.{slot_at};
 ghost use Rattle.spec_view.specs.Questions.{Agrees, apply, apply_all, new_value};
 ghost use Rattle.world.specs.Sound.{IsSound};
-ghost use Rattle.view.specs.Law.{Goes, Lasts, StaysSound};
+ghost use Rattle.world.specs.Law.{Goes, Lasts, StaysSound};
 
-use footprint::reads::{Changes, Reads};
 use moo_value::text::Text;
 use moo_value::value::Value;
 use std::alloc::{AllocError, Global};
-use view::law::View;
-use view::live::Live;
-use view::readers::{read_slot, write_value};
-use view::tracked::Tracked;
+use world::law::View;
+use world::live::Live;
+use world::readers::{read_slot, write_value};
+use world::reads::{Changes, Reads};
+use world::tracked::Tracked;
 use world::worlds::{Snapshot, World};
 
 /// The step, over any view.

@@ -1,3 +1,13 @@
+pub mod Local
+pub mod History
+pub mod Goings
+pub mod StaysSound
+pub mod Slots
+pub mod Records
+pub mod Named
+pub mod Filled
+pub mod Wholes
+pub mod Spots
 pub mod Crossing
 pub mod Maps
 pub mod Applied

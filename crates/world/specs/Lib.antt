@@ -1,3 +1,9 @@
+pub mod Law
+pub mod Trace
+pub mod Meanings
+pub mod Parts
+pub mod QuestionCode
+pub mod ReadMeaning
 pub mod Counted
 pub mod Counts
 pub mod Numbered

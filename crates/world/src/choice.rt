@@ -5,9 +5,9 @@ ghost use Rattle.std.specs.Ordering.{int_eq};
 ghost use Rattle.world.specs.Numbered.{signed_key};
 ghost use Rattle.world.specs.Picked.{chosen};
 
+use crate::link::Link;
 use crate::records::Compared;
 use crate::tasks::id_of;
-use footprint::link::Link;
 use moo_task::task::Task;
 use std::alloc::{AllocError, Global};
 use world_table::Table;

@@ -1,14 +1,14 @@
 //! A world with changes that are kept or forgotten at their end.
 ghost use Rattle.std.specs.Prelude.{◌≡◌, ◌+◌, IfOk, OnOk};
 ghost use Rattle.spec_view.specs.Questions.{ask, apply};
-ghost use Rattle.footprint.specs.Meanings.{question_of, answer_of, change_of};
+ghost use Rattle.world.specs.Meanings.{question_of, answer_of, change_of};
 ghost use Rattle.world.specs.Sound.{IsSound};
 ghost use Rattle.world.specs.Forks.{start_of, changed_in, borrow_of, IsKeepable};
 
+use crate::change::Change;
 use crate::draft::Draft;
+use crate::question::{Answer, Question};
 use crate::worlds::World;
-use footprint::change::Change;
-use footprint::question::{Answer, Question};
 use std::alloc::AllocError;
 
 /// The changes stand in a fork of the world's records until they are kept. Dropped, it leaves the world as it was.

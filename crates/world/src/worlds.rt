@@ -1,14 +1,14 @@
 //! Worlds and snapshots.
 ghost use Rattle.std.specs.Prelude.{◌≡◌, ◌↔◌, ◌+◌, ◌≤◌, ℕ, negsuc, false, [], max, IfOk, OnOk, OnErr, IsTrue};
 ghost use Rattle.spec_view.specs.Questions.{ask, Agrees, apply_all};
-ghost use Rattle.footprint.specs.Meanings.{question_of, answer_of};
+ghost use Rattle.world.specs.Meanings.{question_of, answer_of};
 ghost use Rattle.world.specs.Sound.{IsSound};
 
 use crate::count::Count;
 use crate::draft::Draft;
 use crate::prepared::Prepared;
-use footprint::question::{Answer, Question};
-use footprint::reads::{Changes, Reads};
+use crate::question::{Answer, Question};
+use crate::reads::{Changes, Reads};
 use std::alloc::{AllocError, Global};
 use std::marker::Model;
 use std::snapshot::Snapshot as Remembered;

@@ -4,16 +4,16 @@ ghost use Rattle.spec_value.specs.Datum.{is_text};
 ghost use Rattle.spec_rows.specs.Fixture as meant;
 
 use crate::fixture_verbs::{box_verbs, room_verbs};
-use footprint::header::Header;
-use footprint::link::Link;
-use footprint::object::{Lists, Object};
-use footprint::slot::Slot;
-use footprint::slots::Slots;
-use footprint::verb::Verbs;
 use moo_value::text::Text;
 use moo_value::value::Value;
 use std::alloc::{AllocError, Global};
 use world::draft::Draft;
+use world::header::Header;
+use world::link::Link;
+use world::object::{Lists, Object};
+use world::slot::Slot;
+use world::slots::Slots;
+use world::verb::Verbs;
 use world::worlds::World;
 
 pub(crate) const NOWHERE: i32 = -1;

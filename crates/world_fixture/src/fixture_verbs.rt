@@ -5,7 +5,6 @@ ghost use Rattle.spec_program.specs.Tree.{literal, variable};
 ghost use Rattle.spec_rows.specs.Fixture as meant;
 
 use crate::fixture::WIZARD;
-use footprint::verb::{ObjectPart, PrepositionPart, Verb, Verbs};
 use moo_compiler::program::Program;
 use moo_tree::expression::{Expression, ExpressionNode, Target, TargetNode};
 use moo_tree::statement::{Statement, StatementNode, Tree};
@@ -13,6 +12,7 @@ use moo_value::operator::BinaryOperator;
 use moo_value::text::Text;
 use moo_value::value::Value;
 use std::alloc::{AllocError, Global};
+use world::verb::{ObjectPart, PrepositionPart, Verb, Verbs};
 
 // The verbs of the room.
 pub(crate) fn room_verbs(alloc: Global) -> Result<Verbs, AllocError>

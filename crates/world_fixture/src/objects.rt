@@ -4,9 +4,9 @@ ghost use Rattle.spec_rows.specs.Fixture.{fixture};
 ghost use Rattle.world_fixture.specs.Objects as meant;
 
 use crate::fixture::{NOWHERE, header, plain, records};
-use footprint::object::Object;
 use std::alloc::{AllocError, Global};
 use world::draft::Draft;
+use world::object::Object;
 use world::worlds::World;
 
 /// The number of the first object behind those of the fixture.

@@ -7,11 +7,11 @@ ghost use Rattle.spec_value.specs.Datum.{is_text};
 ghost use Rattle.world_fixture.specs.Rooms as meant;
 
 use crate::fixture_verbs::{count, one, plain_verb};
-use footprint::verb::{Verb, Verbs};
 use moo_tree::expression::{Expression, ExpressionNode};
 use moo_tree::statement::{Statement, StatementNode, Tree};
 use moo_value::operator::BinaryOperator;
 use std::alloc::{AllocError, Global};
+use world::verb::{Verb, Verbs};
 
 /// How often the verb `total` adds. A tick more is its `return`.
 const ADDITIONS: u32 = 999;

@@ -5,11 +5,11 @@ ghost use Rattle.world_fixture.specs.Rooms as meant;
 
 use crate::fixture::{NOWHERE, header, plain, records, room_of};
 use crate::room_verbs::{counting_verbs, endless_verbs};
-use footprint::link::Link;
-use footprint::object::Object;
-use footprint::verb::Verbs;
 use std::alloc::{AllocError, Global};
 use world::draft::Draft;
+use world::link::Link;
+use world::object::Object;
+use world::verb::Verbs;
 use world::worlds::World;
 
 /// The fixture with 64 more rooms. In each a player with a link is alone, and may count as in the fixture's own room or run the verb `total`, which

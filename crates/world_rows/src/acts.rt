@@ -4,7 +4,7 @@ use permissions::act::Act;
 use permissions::may::may;
 use std::alloc::{AllocError, Global};
 use std::test::Fail;
-use view::live::Live;
+use world::live::Live;
 use world_fixture::fixture::fixture;
 
 /// The wizard of the fixture, who owns all of it.

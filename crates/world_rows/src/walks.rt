@@ -7,7 +7,7 @@ use moo_value::text::Text;
 use moo_value::value::Value;
 use std::alloc::{AllocError, Global};
 use std::test::Fail;
-use view::live::Live;
+use world::live::Live;
 use world_fixture::fixture::fixture;
 
 #[tactic(auto, using(crate::proofs::Opened::well_formed))]

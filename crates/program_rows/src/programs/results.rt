@@ -1,5 +1,5 @@
 //! The results of programs, on both views.
-ghost use Rattle.view.specs.Law.{AreSound};
+ghost use Rattle.world.specs.Law.{AreSound};
 
 use machine::call::{Call, Start};
 use machine::natives::NoNatives;
@@ -12,9 +12,9 @@ use moo_value::text::Text;
 use moo_value::value::Value;
 use moo_value::write::to_literal;
 use std::alloc::{AllocError, Global};
-use view::law::View;
-use view::live::Live;
-use view::tracked::Tracked;
+use world::law::View;
+use world::live::Live;
+use world::tracked::Tracked;
 use world_fixture::fixture::fixture;
 
 /// Whether a verb has the d bit, by its letter; its ticks, its program, the result, and the ticks that are used.

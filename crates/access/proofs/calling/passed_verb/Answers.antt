@@ -4,7 +4,7 @@ use Rattle.spec_world.specs.World.{Header, object_at}
 use Rattle.spec_view.specs.Questions.{header_at}
 use Rattle.spec_world.specs.VerbsSought.{find_verb}
 use Rattle.spec_moo.specs.Effects.Calls.{above_definer}
-use Rattle.view.specs.Law.{Tells}
+use Rattle.world.specs.Law.{Tells}
 use Rattle.inherit.proofs.Tellings.{if_ok_as, told_as, told_on}
 use Rattle.access.proofs.CallRules.{passed_above, passed_nowhere}
 use Rattle.access.proofs.StaysSound.{lasts_on, sound_told}

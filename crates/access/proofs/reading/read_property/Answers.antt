@@ -4,7 +4,7 @@ use Rattle.spec_value.specs.Datum.{Text, text}
 use Rattle.spec_world.specs.World.{object_at}
 use Rattle.spec_moo.specs.Properties.{read, read_object}
 use Rattle.moo_value.specs.Answers.{answer_of}
-use Rattle.view.specs.Law.{Tells}
+use Rattle.world.specs.Law.{Tells}
 use Rattle.inherit.proofs.Tellings.{if_ok_as, told_as}
 use Rattle.access.proofs.ReadRules.{read_as}
 use Rattle.access.proofs.reading.read_property.Goals as goal

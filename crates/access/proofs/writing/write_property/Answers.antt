@@ -3,7 +3,7 @@ use Rattle.std.proofs.lemmas.Int.{to_z-of_z}
 use Rattle.spec_value.specs.Datum.{Text, text}
 use Rattle.spec_world.specs.World.{object_at}
 use Rattle.spec_moo.specs.Properties.{write, write_object}
-use Rattle.view.specs.Law.{Goes}
+use Rattle.world.specs.Law.{Goes}
 use Rattle.inherit.proofs.Tellings.{if_ok_as}
 use Rattle.access.specs.Writing.{IsWritten}
 use Rattle.access.proofs.WriteRules.{write_as, written_as}

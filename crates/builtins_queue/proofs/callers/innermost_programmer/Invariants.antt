@@ -2,7 +2,7 @@ use Rattle.std.proofs.Common.{◌≡◌, ◌≤◌, length, take}
 use Rattle.spec_moo.specs.Pending.{calls_of}
 use Rattle.spec_moo.specs.Natives.Tasks.{first_of, programmer_of}
 use Rattle.moo_code.specs.Machine.{entries}
-use Rattle.moo_frame.specs.Frames.{outers_of}
+use Rattle.moo_task.specs.Frames.{outers_of}
 use Rattle.builtins_queue.proofs.callers.innermost_programmer.Given as goal
 
 abbrev pub invariant-each : goal.invariant-each

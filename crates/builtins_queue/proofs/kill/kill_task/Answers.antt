@@ -1,6 +1,6 @@
 use Rattle.std.proofs.Common.{sym, ◌∙◌, w32}
 use Rattle.std.proofs.lemmas.Int.{to_z-of_z}
-use Rattle.moo_frame.specs.declared.effect.NativeEffect.TheVariants.{Answers}
+use Rattle.moo_task.specs.declared.effect.NativeEffect.TheVariants.{Answers}
 use Rattle.builtins_queue.proofs.Rows.{dies_itself, kills_other}
 use Rattle.builtins_queue.proofs.Keeps.{killed_well}
 use Rattle.builtins_queue.proofs.kill.kill_task.Goals as goal

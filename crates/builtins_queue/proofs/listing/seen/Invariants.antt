@@ -1,5 +1,5 @@
 use Rattle.std.proofs.Common.{◌≡◌, ◌++◌, drop}
-use Rattle.view.specs.Law.{Tells}
+use Rattle.world.specs.Law.{Tells}
 use Rattle.builtins_queue.specs.Listed.{seen_of}
 use Rattle.builtins_queue.proofs.listing.seen.Given as goal
 

@@ -1,6 +1,6 @@
 use Rattle.std.proofs.Common.{w32, le-leb}
 use Rattle.std.proofs.lemmas.Int.{to_z-of_z}
-use Rattle.moo_frame.specs.declared.effect.NativeEffect.TheVariants.{Answers}
+use Rattle.moo_task.specs.declared.effect.NativeEffect.TheVariants.{Answers}
 use Rattle.builtins_queue.proofs.Keeps.{resumed_well}
 use Rattle.builtins_queue.proofs.resume.resume_with.Goals as goal
 

@@ -1,6 +1,6 @@
 use Rattle.std.proofs.Common.{w32, to_z, of_z}
 use Rattle.std.proofs.lemmas.Int.{to_z-of_z}
-use Rattle.footprint.specs.Meanings.{part_of}
+use Rattle.world.specs.Meanings.{part_of}
 use Rattle.builtins_world.proofs.Changes.{put_told}
 use Rattle.builtins_world.proofs.properties.put_slot.Goals as goal
 

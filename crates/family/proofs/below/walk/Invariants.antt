@@ -1,5 +1,5 @@
 use Rattle.std.proofs.Common.{◌≡◌}
-use Rattle.view.specs.Law.{Tells}
+use Rattle.world.specs.Law.{Tells}
 use Rattle.inherit.specs.Lines.{AreWellFormed}
 use Rattle.family.specs.Below.{Walked}
 use Rattle.family.proofs.below.walk.Given as goal

@@ -1,6 +1,6 @@
 use Rattle.std.proofs.Common.{w32, to_z, of_z}
 use Rattle.std.proofs.lemmas.Int.{to_z-of_z}
-use Rattle.footprint.specs.Meanings.{part_of}
+use Rattle.world.specs.Meanings.{part_of}
 use Rattle.family.proofs.OneByOne.{lost_told}
 use Rattle.family.proofs.losing.lose_slot.Goals as goal
 

@@ -1,5 +1,5 @@
 use Rattle.std.proofs.Common.{◌≡◌, drop}
-use Rattle.view.specs.Law.{Goes}
+use Rattle.world.specs.Law.{Goes}
 use Rattle.family.specs.InTurn.{in_turn}
 use Rattle.family.specs.Losing.{losing}
 use Rattle.family.proofs.losing.lose_slots.Given as goal

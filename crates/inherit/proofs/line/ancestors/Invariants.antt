@@ -1,6 +1,6 @@
 use Rattle.std.proofs.Common.{◌≡◌, ◌++◌}
 use Rattle.spec_world.specs.Inherit.{ancestors}
-use Rattle.view.specs.Law.{Tells}
+use Rattle.world.specs.Law.{Tells}
 use Rattle.inherit.specs.Lines.{AreWellFormed, from, size}
 use Rattle.inherit.proofs.line.ancestors.Given as goal
 

@@ -1,6 +1,6 @@
 use Rattle.std.proofs.Common.{◌≡◌, drop}
 use Rattle.spec_world.specs.Inherit.{ancestors, first_value}
-use Rattle.view.specs.Law.{Tells}
+use Rattle.world.specs.Law.{Tells}
 use Rattle.inherit.specs.Lines.{AreWellFormed, from, size}
 use Rattle.inherit.proofs.property.inherited.Given as goal
 

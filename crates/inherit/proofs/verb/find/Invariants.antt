@@ -1,7 +1,7 @@
 use Rattle.std.proofs.Common.{◌≡◌}
 use Rattle.spec_world.specs.Inherit.{ancestors}
 use Rattle.spec_world.specs.VerbsSought.{first_on}
-use Rattle.view.specs.Law.{Tells}
+use Rattle.world.specs.Law.{Tells}
 use Rattle.inherit.specs.Lines.{AreWellFormed, from, size}
 use Rattle.inherit.specs.Sought.{passes}
 use Rattle.inherit.proofs.verb.find.Given as goal

@@ -1,5 +1,5 @@
 use Rattle.std.proofs.Common.{◌≡◌, ◌∙◌, ap, subst}
-use Rattle.moo_frame.specs.Outcomes.{around}
+use Rattle.moo_task.specs.Outcomes.{around}
 use Rattle.moo_objects.specs.Called.{shown_called, HasList}
 use Rattle.moo_asking.proofs.Asked.{entered}
 use Rattle.moo_asking.proofs.leading.led_by_call.Goals as goal

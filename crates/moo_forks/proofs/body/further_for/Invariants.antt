@@ -1,7 +1,7 @@
 use Rattle.std.proofs.Common.{◌++◌, drop, map}
 use Rattle.moo_program.specs.Names.{known}
-use Rattle.moo_frame.specs.Frames.{kept_of}
-use Rattle.moo_frame.specs.Variables.{variable_of}
+use Rattle.moo_task.specs.Frames.{kept_of}
+use Rattle.moo_task.specs.Variables.{variable_of}
 use Rattle.moo_forks.specs.Copying.{HasCopied}
 use Rattle.moo_forks.proofs.Copying.{keys}
 use Rattle.moo_forks.proofs.body.further_for.Given as goal

@@ -1,6 +1,6 @@
 use Rattle.std.proofs.Common.{◌∙◌, ◌≤◌, ap, arith, length}
 use Rattle.spec_value.specs.Table.{named}
-use Rattle.moo_frame.specs.Frames.{kept_of}
+use Rattle.moo_task.specs.Frames.{kept_of}
 use Rattle.moo_forks.proofs.Copying.{next_own, all_values}
 use Rattle.moo_forks.proofs.body.slots_for.Goals as goal
 

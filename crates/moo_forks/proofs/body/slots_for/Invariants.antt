@@ -1,7 +1,7 @@
 use Rattle.std.proofs.Common.{◌≡◌, ◌++◌, map, take}
 use Rattle.spec_value.specs.Table.{named}
 use Rattle.moo_code.specs.Names.{starting_names}
-use Rattle.moo_frame.specs.Frames.{kept_of}
+use Rattle.moo_task.specs.Frames.{kept_of}
 use Rattle.moo_forks.proofs.body.slots_for.Given as goal
 
 abbrev pub invariant-loop-name : goal.invariant-loop-name

@@ -1,6 +1,6 @@
 use Rattle.std.proofs.Common.{◌≡◌, ℕ, List, map, take, Bor}
 use Rattle.spec_value.specs.Table.{named}
-use Rattle.moo_frame.specs.Frames.{kept_of}
+use Rattle.moo_task.specs.Frames.{kept_of}
 use Rattle.moo_forks.proofs.body.starting_values.Given as goal
 
 abbrev pub invariant-loop-name : goal.invariant-loop-name

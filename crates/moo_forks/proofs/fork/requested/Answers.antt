@@ -8,7 +8,7 @@ use Rattle.spec_moo.specs.Scene.{moment_after}
 use Rattle.moo_code.specs.Instruction.{skipped}
 use Rattle.moo_machine.specs.Shown.{fails_of}
 use Rattle.moo_machine.proofs.Next.{next_place}
-use Rattle.moo_frame.specs.Deeds.{scene_of}
+use Rattle.moo_task.specs.Deeds.{scene_of}
 use Rattle.moo_forks.specs.Queueing.{IsNextId}
 use Rattle.moo_forks.specs.Forking.{in_scene}
 use Rattle.moo_forks.proofs.Forks.{fork_of_no_integer, fork_in_past, fork_without_id, fork_granted}

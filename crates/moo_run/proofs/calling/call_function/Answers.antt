@@ -2,8 +2,8 @@ use Rattle.std.proofs.Common.{◌≡◌, ◌∙◌, ap, sym, suc, ◌-◌, arith
 use Rattle.spec_moo.specs.Leaving.{failure}
 use Rattle.moo_value.specs.Errors.{code_of}
 use Rattle.moo_machine.proofs.Next.{next_place}
-use Rattle.moo_frame.specs.Outcomes.{around, fails_at}
-use Rattle.moo_frame.specs.declared.running.Running.{Running}
+use Rattle.moo_task.specs.Outcomes.{around, fails_at}
+use Rattle.moo_task.specs.declared.running.Running.{Running}
 use Rattle.moo_run.specs.Calls.{calls_native_at}
 use Rattle.moo_run.specs.Scenes.{scene_at}
 use Rattle.moo_run.proofs.Calls.{paid, call_is_paid, refused_call, native_call}

@@ -1,6 +1,6 @@
 use Rattle.std.proofs.Common.{◌∙◌, ap, ◌∷◌}
-use Rattle.moo_frame.specs.Frames.{native_of, outer_of}
-use Rattle.moo_frame.specs.declared.frame.Outer.{Outer}
+use Rattle.moo_task.specs.Frames.{native_of, outer_of}
+use Rattle.moo_task.specs.declared.frame.Outer.{Outer}
 use Rattle.moo_run.specs.Scenes.{scene_at}
 use Rattle.moo_run.proofs.Out.{native_back}
 use Rattle.moo_run.proofs.leaving.give_native.Goals as goal

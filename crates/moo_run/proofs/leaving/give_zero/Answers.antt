@@ -1,7 +1,7 @@
 use Rattle.std.proofs.Common.{◌∙◌, ap, sym}
 use Rattle.spec_value.specs.Datum.{Datum}
 use Rattle.spec_moo.specs.Leaving.{returned}
-use Rattle.moo_frame.specs.Outcomes.{ticks_of}
+use Rattle.moo_task.specs.Outcomes.{ticks_of}
 use Rattle.moo_run.specs.Scenes.{scene_at}
 use Rattle.moo_run.specs.Steps.{out_at}
 use Rattle.moo_run.proofs.Out.{broken_out, continued_out}

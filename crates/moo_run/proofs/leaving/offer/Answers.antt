@@ -1,7 +1,7 @@
 use Rattle.std.proofs.Common.{◌≡◌, ◌≤◌, ◌∙◌, length, arith}
 use Rattle.moo_code.specs.Machine.{out_of}
 use Rattle.moo_code.specs.Names.{names_of}
-use Rattle.moo_frame.specs.Outcomes.{around, ticks_of}
+use Rattle.moo_task.specs.Outcomes.{around, ticks_of}
 use Rattle.moo_run.proofs.Handlers.{handlers_within, offered_so}
 use Rattle.moo_run.proofs.leaving.offer.Goals as goal
 

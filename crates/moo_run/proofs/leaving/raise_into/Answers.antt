@@ -2,8 +2,8 @@ use Rattle.std.proofs.Common.{◌≡◌, ◌∙◌, ap, sym, ℤ, w32, to_z, of_
 use Rattle.spec_moo.specs.Leaving.{Failure, failed, come_by}
 use Rattle.moo_machine.specs.Meant.{failure_meant}
 use Rattle.moo_machine.specs.Shown.{leaves}
-use Rattle.moo_frame.specs.Outcomes.{around}
-use Rattle.moo_frame.specs.declared.running.Running.{Running}
+use Rattle.moo_task.specs.Outcomes.{around}
+use Rattle.moo_task.specs.declared.running.Running.{Running}
 use Rattle.moo_run.proofs.leaving.raise_into.Goals as goal
 
 pub returns-clause-out : goal.returns-clause-out

@@ -5,8 +5,8 @@ use Rattle.spec_moo.specs.Segment.{stopped}
 use Rattle.moo_code.specs.Machine.{halts, lacks_operand}
 use Rattle.moo_code.specs.Lasting.{lasting}
 use Rattle.moo_code.specs.Runs.{ran, IsOver}
-use Rattle.moo_frame.specs.Outcomes.{ticks_of, running_kept}
-use Rattle.moo_frame.specs.declared.outcome.Outcome.{Outcome}
+use Rattle.moo_task.specs.Outcomes.{ticks_of, running_kept}
+use Rattle.moo_task.specs.declared.outcome.Outcome.{Outcome}
 use Rattle.moo_run.specs.Scenes.{scene_at, led_at}
 use Rattle.moo_run.specs.Stopping.{bound_of, begun_at, stopped_at}
 use Rattle.moo_run.proofs.Running.{comes_on, comes_first, falls_on, over_on, operands_there, over_first, stops, step_to}

@@ -1,7 +1,7 @@
 use Rattle.std.proofs.Common.{◌≡◌, ◌≤◌, ◌++◌, length, take}
 use Rattle.spec_moo.specs.Pending.{outer_trace}
 use Rattle.moo_code.specs.Machine.{entries}
-use Rattle.moo_frame.specs.Frames.{outers_of}
+use Rattle.moo_task.specs.Frames.{outers_of}
 use Rattle.moo_run.proofs.tracing.add_traces.Given as goal
 
 abbrev pub invariant-each : goal.invariant-each

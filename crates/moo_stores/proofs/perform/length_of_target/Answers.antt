@@ -3,7 +3,7 @@ use Rattle.moo_code.specs.Instruction.{length_of, target_at, in_variable}
 use Rattle.moo_code.specs.Names.{names_of}
 use Rattle.moo_program.specs.Meaning.{bracketed, base_of, name_at, some_name_at}
 use Rattle.moo_machine.specs.Shown.{performs_of}
-use Rattle.moo_frame.proofs.Performing.{name_there}
+use Rattle.moo_task.proofs.Performing.{name_there}
 use Rattle.moo_stores.proofs.perform.length_of_target.Goals as goal
 
 pub returns : goal.returns

@@ -1,6 +1,6 @@
 use Rattle.std.proofs.Common.{map}
 use Rattle.moo_program.specs.Names.{known}
-use Rattle.moo_frame.specs.Variables.{variable_of}
+use Rattle.moo_task.specs.Variables.{variable_of}
 use Rattle.moo_task.specs.Sameness.{AgreeOn}
 use Rattle.moo_task.proofs.same.agree_on.Given as goal
 

@@ -1,5 +1,5 @@
 use Rattle.std.proofs.Common.{◌≡◌, drop}
-use Rattle.view.specs.Law.{Tells}
+use Rattle.world.specs.Law.{Tells}
 use Rattle.inherit.specs.Lines.{AreWellFormed}
 use Rattle.object_match.specs.Fits.{with_objects}
 use Rattle.object_match.proofs.reach.with_each.Given as goal

@@ -2,7 +2,7 @@ use Rattle.std.proofs.Common.{◌≡◌, ◌∷◌, sym, subst, arith, rules, �
 use Rattle.spec_value.specs.Datum.{Datum}
 use Rattle.spec_moo.specs.Effects.Lists.{length_in}
 use Rattle.moo_value.specs.Answers.{answer_of}
-use Rattle.view.specs.Law.{Tells}
+use Rattle.world.specs.Law.{Tells}
 use Rattle.property_parts.specs.Parts.{part_there}
 use Rattle.property_parts.proofs.Writing.{parted, others, none_told, length_told}
 use Rattle.property_parts.proofs.parts.length_there.Goals as goal

@@ -1,5 +1,5 @@
 use Rattle.std.proofs.Common.{◌≡◌, ◌++◌, drop}
-use Rattle.view.specs.Law.{Tells}
+use Rattle.world.specs.Law.{Tells}
 use Rattle.reparenting.specs.Along.{names_on}
 use Rattle.reparenting.proofs.along.names_along.Given as goal
 

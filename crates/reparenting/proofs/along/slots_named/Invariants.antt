@@ -1,5 +1,5 @@
 use Rattle.std.proofs.Common.{◌≡◌, ◌++◌, drop}
-use Rattle.view.specs.Law.{Tells}
+use Rattle.world.specs.Law.{Tells}
 use Rattle.reparenting.specs.Along.{slots_of}
 use Rattle.reparenting.proofs.along.slots_named.Given as goal
 

@@ -1,5 +1,5 @@
 use Rattle.std.proofs.Common.{◌≡◌, drop}
-use Rattle.view.specs.Law.{Tells}
+use Rattle.world.specs.Law.{Tells}
 use Rattle.reparenting.specs.Clashes.{any_clashes}
 use Rattle.reparenting.proofs.clashes.any_clashes.Given as goal
 

@@ -1,5 +1,5 @@
 use Rattle.std.proofs.Common.{◌≡◌, drop}
-use Rattle.view.specs.Law.{Tells}
+use Rattle.world.specs.Law.{Tells}
 use Rattle.std.specs.List.{list_any}
 use Rattle.reparenting.specs.Clashes.{has_slot}
 use Rattle.reparenting.proofs.clashes.has_any.Given as goal

@@ -1,5 +1,5 @@
 use Rattle.std.proofs.Common.{◌≡◌, drop}
-use Rattle.view.specs.Law.{Goes}
+use Rattle.world.specs.Law.{Goes}
 use Rattle.reparenting.specs.Heirs.{inherit_each}
 use Rattle.reparenting.proofs.heirs.inherit_each.Given as goal
 

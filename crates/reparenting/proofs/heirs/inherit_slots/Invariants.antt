@@ -1,5 +1,5 @@
 use Rattle.std.proofs.Common.{◌≡◌, drop}
-use Rattle.view.specs.Law.{Goes}
+use Rattle.world.specs.Law.{Goes}
 use Rattle.reparenting.specs.Heirs.{inherit_down}
 use Rattle.reparenting.proofs.heirs.inherit_slots.Given as goal
 

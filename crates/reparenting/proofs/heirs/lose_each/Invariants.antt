@@ -1,5 +1,5 @@
 use Rattle.std.proofs.Common.{◌≡◌, drop}
-use Rattle.view.specs.Law.{Goes}
+use Rattle.world.specs.Law.{Goes}
 use Rattle.reparenting.specs.Heirs.{lose_each}
 use Rattle.reparenting.proofs.heirs.lose_each.Given as goal
 

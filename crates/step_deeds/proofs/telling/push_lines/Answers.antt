@@ -2,7 +2,7 @@ use Rattle.std.proofs.Common.{◌≡◌, ◌∷◌, [], ◌++◌, refl, sym, ap,
 use Rattle.std.proofs.lemmas.Int.{to_z-of_z}
 use Rattle.std.specs.Vec.Iter.{into_iter_items}
 use Rattle.spec_moo.specs.Steps.Running.{lines_to}
-use Rattle.moo_frame.specs.Deeds.{told_of}
+use Rattle.moo_task.specs.Deeds.{told_of}
 use Rattle.step_deeds.proofs.ToldLines.{line_pushed, nothing_left}
 use Rattle.step_deeds.proofs.telling.push_lines.Goals as goal
 

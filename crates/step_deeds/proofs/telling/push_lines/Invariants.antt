@@ -1,7 +1,7 @@
 use Rattle.std.proofs.Common.{◌≡◌, ◌++◌, map, length}
 use Rattle.std.specs.Vec.Iter.{into_iter_items, into_iter_len}
 use Rattle.spec_moo.specs.Steps.Running.{lines_to}
-use Rattle.moo_frame.specs.Deeds.{told_of}
+use Rattle.moo_task.specs.Deeds.{told_of}
 use Rattle.step_deeds.proofs.telling.push_lines.Given as goal
 
 abbrev pub invariant-loop-line : goal.invariant-loop-line

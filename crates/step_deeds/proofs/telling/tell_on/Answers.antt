@@ -1,6 +1,6 @@
 use Rattle.std.proofs.Common.{ap, w32}
 use Rattle.std.proofs.lemmas.Int.{to_z-of_z}
-use Rattle.moo_frame.specs.Deeds.{scene_of}
+use Rattle.moo_task.specs.Deeds.{scene_of}
 use Rattle.step_deeds.proofs.telling.tell_on.Goals as goal
 
 pub returns : goal.returns

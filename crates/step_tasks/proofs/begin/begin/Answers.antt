@@ -1,8 +1,8 @@
 use Rattle.std.proofs.Common.{◌≡◌, ◌∙◌, ℤ, ap, refl, w32, to_z, of_z}
 use Rattle.std.proofs.lemmas.Int.{to_z-of_z}
 use Rattle.spec_world.specs.World.{Call, Start}
-use Rattle.moo_frame.specs.Frames.{begun}
-use Rattle.moo_frame.specs.Outcomes.{running_kept}
+use Rattle.moo_task.specs.Frames.{begun}
+use Rattle.moo_task.specs.Outcomes.{running_kept}
 use Rattle.step_tasks.specs.Tasks.{called_as}
 use Rattle.step_tasks.proofs.Beginnings.{may_begin}
 use Rattle.step_tasks.proofs.begin.begin.Goals as goal

@@ -2,7 +2,7 @@ use Rattle.std.proofs.Common.{◌≡◌, ◌∙◌, ◌∷◌, ◌++◌, [], ap,
 use Rattle.std.proofs.lemmas.Int.{to_z-of_z}
 use Rattle.spec_value.specs.Datum.{Text}
 use Rattle.spec_moo.specs.Steps.Running.{told_on}
-use Rattle.moo_frame.specs.Deeds.{scene_of}
+use Rattle.moo_task.specs.Deeds.{scene_of}
 use Rattle.step_tasks.proofs.Playing.{on_ok}
 use Rattle.step_tasks.proofs.opening.tell_line.Goals as goal
 

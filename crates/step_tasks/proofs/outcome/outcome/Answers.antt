@@ -1,5 +1,5 @@
 use Rattle.std.proofs.Common.{◌∙◌, ap, sym, map}
-use Rattle.moo_frame.specs.Deeds.{told_of, queued_of}
+use Rattle.moo_task.specs.Deeds.{told_of, queued_of}
 use Rattle.task_step.specs.OutcomeView.{result_of}
 use Rattle.step_tasks.proofs.outcome.outcome.Goals as goal
 

@@ -1,5 +1,5 @@
 use Rattle.std.proofs.Common.{◌≡◌, map, take}
-use Rattle.moo_frame.specs.Deeds.{told_of}
+use Rattle.moo_task.specs.Deeds.{told_of}
 use Rattle.task_step.specs.OutcomeView.{lines_of}
 use Rattle.step_tasks.proofs.outcome.output_lines.Given as goal
 

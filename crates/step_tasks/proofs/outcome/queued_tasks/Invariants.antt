@@ -1,5 +1,5 @@
 use Rattle.std.proofs.Common.{◌≡◌, map, take}
-use Rattle.moo_frame.specs.Deeds.{queued_of as queued_meant}
+use Rattle.moo_task.specs.Deeds.{queued_of as queued_meant}
 use Rattle.task_step.specs.OutcomeView.{queued_of}
 use Rattle.step_tasks.proofs.outcome.queued_tasks.Given as goal
 

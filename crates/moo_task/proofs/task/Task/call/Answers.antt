@@ -2,9 +2,9 @@ use Rattle.std.proofs.Common.{◌≡◌, ◌∙◌, ap, sym, ◌-◌, length, ta
 use Rattle.std.specs.Prelude.{slice_get}
 use Rattle.std.specs.Arc.{arc_value}
 use Rattle.std.specs.Option.{option_copied}
-use Rattle.moo_frame.specs.Effects.{waiting_of}
-use Rattle.moo_frame.specs.Frames.{kept_of, outers_of}
-use Rattle.moo_frame.specs.declared.frame.Outer.TheVariants.{Verb}
+use Rattle.moo_task.specs.Effects.{waiting_of}
+use Rattle.moo_task.specs.Frames.{kept_of, outers_of}
+use Rattle.moo_task.specs.declared.frame.Outer.TheVariants.{Verb}
 use Rattle.moo_task.proofs.Kept.{innermost_told}
 use Rattle.moo_task.proofs.Stacks.{last_is_first}
 use Rattle.moo_task.proofs.task.Task.call.Goals as goal

@@ -1,8 +1,8 @@
 use Rattle.std.proofs.Common.{◌≡◌, ◌∙◌, ap, sym, refl, to_z, of_z, w32, rules}
 use Rattle.std.specs.Arc.{arc_value}
-use Rattle.moo_frame.specs.Effects.{waiting_of}
-use Rattle.moo_frame.specs.Frames.{kept_of}
-use Rattle.moo_frame.specs.Outcomes.{running_kept}
+use Rattle.moo_task.specs.Effects.{waiting_of}
+use Rattle.moo_task.specs.Frames.{kept_of}
+use Rattle.moo_task.specs.Outcomes.{running_kept}
 use Rattle.moo_task.proofs.Going.{fork_goes_on, other_goes_on, goes_pending, goes_under_way}
 use Rattle.moo_task.proofs.task.Task.go_on.Goals as goal
 

@@ -1,7 +1,7 @@
 use Rattle.std.proofs.Common.{◌≡◌, ◌∙◌, sym, of_z, w32, arith, rules}
 use Rattle.std.proofs.lemmas.Bool.{eqb-true}
 use Rattle.std.specs.Arc.{arc_value}
-use Rattle.moo_frame.specs.Effects.{waiting_of}
+use Rattle.moo_task.specs.Effects.{waiting_of}
 use Rattle.moo_task.proofs.Kept.{alike_told}
 use Rattle.moo_task.proofs.task.Task.same.Goals.{then-self-other, else-self-other}
 use Rattle.moo_task.proofs.task.Task.same.Goals as goal

@@ -1,8 +1,8 @@
 use Rattle.std.proofs.Common.{◌≡◌, ◌∙◌, ◌∷◌, to_z, of_z, w32, rules}
 use Rattle.std.specs.Arc.{arc_value}
 use Rattle.moo_code.specs.Machine.{verb}
-use Rattle.moo_frame.specs.Effects.{waiting_of}
-use Rattle.moo_frame.specs.Frames.{kept_of}
+use Rattle.moo_task.specs.Effects.{waiting_of}
+use Rattle.moo_task.specs.Frames.{kept_of}
 use Rattle.moo_task.specs.Keeping.{task_of}
 use Rattle.moo_task.proofs.Kept.{stops_as}
 use Rattle.moo_task.proofs.task.Task.stopped.Goals as goal

@@ -1,4 +1,0 @@
-pub mod Meanings
-pub mod Parts
-pub mod QuestionCode
-pub mod ReadMeaning

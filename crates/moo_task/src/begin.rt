@@ -1,0 +1,86 @@
+//! Verbs at their beginning.
+ghost use Rattle.std.specs.Prelude.{◌≡◌, ◌++◌, None, length, replicate, IfOk};
+ghost use Rattle.spec_value.specs.Datum.{Data, list};
+ghost use Rattle.moo_code.specs.Slots.{starting_slots as starting_slots_of};
+ghost use Rattle.moo_task.specs.Frames.{kept_of, begun};
+
+use crate::frame::Frame;
+use crate::start::SharedStart;
+use crate::variables::SharedVariables;
+use moo_machine::call::{Call, Start};
+use moo_machine::operands::Operands;
+use moo_machine::verb::State;
+use moo_program::program::Program;
+use moo_value::value::Value;
+use std::alloc::{AllocError, Global};
+
+/// A verb at its beginning, with these arguments and so many ticks.
+pub fn begin(
+    alloc: Global,
+    player: i32,
+    start: SharedStart,
+    call: Call,
+    program: Program,
+    arguments: Value,
+    ticks: u32,
+) -> Result<Frame, AllocError>
+    ensures frame { IfOk result (λ f. (args : Data) → arguments ≡ list args → kept_of f ≡ begun player start call program args) }
+    ensures shared { IfOk result (λ f. f.start ≡ start) }
+    ensures ticks { IfOk result (λ f. f.state.ticks ≡ ticks) }
+{
+    let own = program.names().len();
+    let slots = starting_slots(alloc, player, &call, start.as_start(), arguments, own)?;
+    Ok(Frame {
+        call,
+        start,
+        program,
+        further: SharedVariables::none(),
+        state: State {
+            place: 0,
+            operands: Operands::new(alloc),
+            slots,
+            ticks,
+        },
+    })
+}
+
+// The starting variables by the order of their names, and then the program's own, unset.
+#[tactic(auto, using(crate::proofs::Beginning::one_more))]
+fn starting_slots(
+    alloc: Global,
+    player: i32,
+    call: &Call,
+    start: &Start,
+    arguments: Value,
+    own: usize,
+) -> Result<Vec<Option<Value>>, AllocError>
+    ensures { IfOk result (λ slots. (args : Data) → arguments ≡ list args
+        → slots.items ≡ starting_slots_of player call.now call.now.verb start.now args ++ replicate own None) }
+{
+    let mut slots = Vec::from_array(
+        alloc,
+        [
+            Some(arguments),
+            Some(Value::text(start.argstr.clone()?)),
+            Some(Value::object(call.caller)),
+            Some(Value::object(start.dobj)),
+            Some(Value::text(start.dobjstr.clone()?)),
+            Some(Value::integer(3)),
+            Some(Value::integer(0)),
+            Some(Value::object(start.iobj)),
+            Some(Value::text(start.iobjstr.clone()?)),
+            Some(Value::integer(4)),
+            Some(Value::integer(0)),
+            Some(Value::integer(1)),
+            Some(Value::object(player)),
+            Some(Value::text(start.prepstr.clone()?)),
+            Some(Value::integer(2)),
+            Some(Value::object(call.this)),
+            Some(Value::text(call.verb.clone()?)),
+        ],
+    )?;
+    'own: for _name in 0..own {
+        slots.push(None)?;
+    }
+    Ok(slots)
+}

@@ -1,0 +1,94 @@
+//! What waits for the verb that runs.
+ghost use Rattle.std.specs.Prelude.{◌≡◌, OnOk, OnErr, MatchOption, [], ◌∷◌};
+ghost use Rattle.moo_code.specs.Machine.{verb, native, verbs as verbs_of};
+ghost use Rattle.moo_task.specs.Frames.{native_of, kept_of, outer_of, outers_of};
+
+use crate::frame::{Frame, Outer};
+use crate::native::Native;
+use std::alloc::{AllocError, Global};
+use std::marker::Model;
+
+/// What waits for the verb that runs. Verbs are counted as they come and go.
+#[derive(Drop)]
+pub struct Outers {
+    // the innermost last
+    stack: Vec<Outer>,
+    verbs: usize,
+}
+
+impl Model for Outers {
+    ghost use Rattle.std.specs.Prelude.{◌≡◌, List};
+    ghost use Rattle.std.specs.Coded.{coded_list};
+    ghost use Rattle.moo_code.specs.Machine.{Outer as Meant, verbs as verbs_of};
+    ghost use Rattle.moo_task.specs.Codes.{outer_code};
+
+    ghost Value = { List Meant };
+
+    ghost coded = { coded_list outer_code };
+
+    ghost use Rattle.moo_task.specs.Frames.{outers_of};
+
+    ghost view = { λ a. outers_of a.stack.items };
+
+    ghost invariant = { λ a. a.verbs ≡ verbs_of (outers_of a.stack.items) };
+}
+
+#[tactic(auto, using(crate::proofs::Waiting::one_more, crate::proofs::Waiting::few_verbs))]
+impl Outers {
+    /// Nothing waits.
+    pub fn new(alloc: Global) -> Outers
+        ensures { result ≡ [] }
+    {
+        Outers {
+            stack: Vec::new(alloc),
+            verbs: 0,
+        }
+    }
+
+    /// How many verbs wait.
+    pub fn verbs(&self) -> usize
+        ensures { result ≡ verbs_of self.now }
+    {
+        self.verbs
+    }
+
+    /// What waits, the innermost last.
+    pub fn as_slice(&self) -> &[Outer]
+        ensures { outers_of result.now ≡ self.now }
+    {
+        self.stack.as_slice()
+    }
+
+    /// One more verb waits.
+    pub fn push_verb(&mut self, frame: Frame) -> Result<(), AllocError>
+        ensures ok { OnOk result (self.new ≡ verb (kept_of frame) ∷ self.old) }
+        ensures err { OnErr result (self.new ≡ self.old) }
+    {
+        self.stack.push(Outer::Verb(frame))?;
+        self.verbs += 1;
+        Ok(())
+    }
+
+    /// One more built-in function waits.
+    pub fn push_native(&mut self, waiting: Native) -> Result<(), AllocError>
+        ensures ok { OnOk result (self.new ≡ native (native_of waiting) ∷ self.old) }
+        ensures err { OnErr result (self.new ≡ self.old) }
+    {
+        self.stack.push(Outer::Native(waiting))?;
+        Ok(())
+    }
+
+    /// The innermost that waits.
+    pub fn pop(&mut self) -> Option<Outer>
+        ensures { MatchOption result ((self.old ≡ []) × (self.new ≡ [])) (λ o. self.old ≡ outer_of o ∷ self.new) }
+    {
+        match self.stack.pop() {
+            None => None,
+            Some(Outer::Verb(frame)) => {
+                self.verbs -= 1;
+                Some(Outer::Verb(frame))
+            }
+            Some(Outer::Native(native)) => Some(Outer::Native(native)),
+        }
+    }
+}

@@ -1,0 +1,219 @@
+//! A task under way.
+ghost use Rattle.std.specs.Prelude.{◌≡◌, ◌∷◌, [], suc, IfOk};
+ghost use Rattle.spec_value.specs.Datum.{Data, list};
+ghost use Rattle.spec_moo.specs.Scene.{Scene};
+ghost use Rattle.spec_moo.specs.Leaving.{failure};
+ghost use Rattle.moo_value.specs.Errors.{code_of};
+ghost use Rattle.moo_value.specs.Answers.{answer_of};
+ghost use Rattle.moo_code.specs.Machine.{at_place};
+ghost use Rattle.moo_machine.specs.Meant.{failure_meant};
+ghost use Rattle.moo_task.specs.Frames.{kept_of, begun};
+ghost use Rattle.moo_task.specs.Outcomes.{led, running_kept, ticks_of, Keeps};
+ghost use Rattle.moo_task.specs.Outcomes.{goes_at, fails_at, native_between, enters_at, native_answers_at, natively_at};
+
+use crate::begin::begin;
+use crate::effect::NativeEffect;
+use crate::frame::Frame;
+use crate::native::Native;
+use crate::outcome::{End, Outcome};
+use crate::outers::Outers;
+use crate::start::SharedStart;
+use moo_machine::call::Call;
+use moo_machine::leaving::{Failure, Leaving};
+use moo_machine::raising::raised;
+use moo_program::program::Program;
+use moo_value::answer::{Answer, limited};
+use moo_value::error::MooError;
+use moo_value::value::Value;
+use std::alloc::{AllocError, Global};
+use std::mem;
+
+/// The greatest number of verbs that may wait for another one.
+pub const MOST_WAITING: usize = 49;
+
+/// A task under way: for whom, the verb that runs, and what waits for it.
+#[derive(Drop)]
+pub struct Running {
+    pub player: i32,
+    pub frame: Frame,
+    pub outer: Outers,
+}
+
+impl Running {
+    /// A task that begins with a verb, with these arguments and so many ticks.
+    pub fn start(
+        alloc: Global,
+        player: i32,
+        start: SharedStart,
+        call: Call,
+        program: Program,
+        arguments: Value,
+        ticks: u32,
+    ) -> Result<Running, AllocError>
+        ensures kept { IfOk result (λ r. (args : Data) → arguments ≡ list args → running_kept r ≡ begun player start call program args) }
+        ensures player { IfOk result (λ r. r.player ≡ player) }
+        ensures alone { IfOk result (λ r. r.outer ≡ []) }
+        ensures ticks { IfOk result (λ r. ticks_of r ≡ ticks) }
+    {
+        let frame = begin(alloc, player, start, call, program, arguments, ticks)?;
+        Ok(Running {
+            player,
+            frame,
+            outer: Outers::new(alloc),
+        })
+    }
+
+    /// A task that waited at a call goes on behind it, with a value there and so many ticks.
+    pub fn go_on(
+        player: i32,
+        frame: Frame,
+        outer: Outers,
+        value: Value,
+        ticks: u32,
+    ) -> Result<Running, AllocError>
+        ensures kept { IfOk result (λ r. running_kept r ≡ at_place (kept_of frame) (suc frame.state.place) (value ∷ frame.state.operands)) }
+        ensures player { IfOk result (λ r. r.player ≡ player) }
+        ensures outer { IfOk result (λ r. r.outer ≡ outer) }
+        ensures ticks { IfOk result (λ r. ticks_of r ≡ ticks) }
+    {
+        let mut frame = frame;
+        let end = frame.call_end()?;
+        frame.state.operands.push(value)?;
+        frame.state.place = end;
+        frame.state.ticks = ticks;
+        Ok(Running {
+            player,
+            frame,
+            outer,
+        })
+    }
+
+    /// The verb goes on at a place with one more operand.
+    pub fn goes(&mut self, end: usize, value: Value) -> Result<Outcome, AllocError>
+        ensures led { IfOk result (λ o. (s : Scene) → goes_at self.old s end value ≡ led o s self.new) }
+        ensures keeps { IfOk result (λ o. Keeps o self.old self.new) }
+    {
+        self.frame.state.operands.push(value)?;
+        self.frame.state.place = end;
+        Ok(Outcome::On)
+    }
+
+    /// An error of an expression that ends at a place: by the d bit it is raised, else its code is the value.
+    pub fn fails(
+        &mut self,
+        alloc: Global,
+        end: usize,
+        error: MooError,
+    ) -> Result<Outcome, AllocError>
+        ensures led { IfOk result (λ o. (s : Scene) → fails_at self.old s end (failure (code_of error)) ≡ led o s self.new) }
+        ensures keeps { IfOk result (λ o. Keeps o self.old self.new) }
+    {
+        if self.frame.call.debug {
+            let failure = raised(alloc, error, self.player, &self.frame.call)?;
+            return Ok(Outcome::Leaves(Leaving::Failed(failure)));
+        }
+        self.frame.state.operands.push(Value::error(error))?;
+        self.frame.state.place = end;
+        Ok(Outcome::On)
+    }
+
+    /// The same of an error with its own message and value.
+    pub fn complains(&mut self, end: usize, mut failure: Failure) -> Result<Outcome, AllocError>
+        ensures led { IfOk result (λ o. (s : Scene) → fails_at self.old s end (failure_meant failure) ≡ led o s self.new) }
+        ensures keeps { IfOk result (λ o. Keeps o self.old self.new) }
+    {
+        if self.frame.call.debug {
+            failure.come_by(self.player, &self.frame.call)?;
+            return Ok(Outcome::Leaves(Leaving::Failed(failure)));
+        }
+        let Failure {
+            code,
+            message: _,
+            value: _,
+            traceback: _,
+        } = failure;
+        self.frame.state.operands.push(code)?;
+        self.frame.state.place = end;
+        Ok(Outcome::On)
+    }
+
+    /// A verb is entered with these arguments, or with a built-in function that waits for it between: `E_MAXREC` where too
+    /// many verbs are under way. The call ends at a place.
+    pub fn enter(
+        &mut self,
+        alloc: Global,
+        between: Option<Native>,
+        end: usize,
+        call: Call,
+        program: Program,
+        arguments: Value,
+    ) -> Result<Outcome, AllocError>
+        ensures led { IfOk result (λ o. (s : Scene) (args : Data) → arguments ≡ list args
+            → enters_at self.old s (native_between between) end call program args ≡ led o s self.new) }
+        ensures keeps { IfOk result (λ o. Keeps o self.old self.new) }
+    {
+        if self.outer.verbs() >= MOST_WAITING {
+            return self.fails(alloc, end, MooError::TooManyCalls);
+        }
+        let start = self.frame.start.clone()?;
+        let ticks = self.frame.state.ticks;
+        let called = begin(alloc, self.player, start, call, program, arguments, ticks)?;
+        let caller = mem::replace(&mut self.frame, called);
+        self.outer.push_verb(caller)?;
+        match between {
+            Some(native) => {
+                self.outer.push_native(native)?;
+                Ok(Outcome::On)
+            }
+            None => Ok(Outcome::On),
+        }
+    }
+}
+
+#[tactic(auto, unfolding(moo_code::specs::Machine::natively_does))]
+impl Running {
+    /// What a built-in function does, whose call ends at a place.
+    pub fn natively(
+        &mut self,
+        alloc: Global,
+        end: usize,
+        effect: NativeEffect,
+    ) -> Result<Outcome, AllocError>
+        ensures led { IfOk result (λ o. (s : Scene) → natively_at self.old s end effect ≡ led o s self.new) }
+        ensures keeps { IfOk result (λ o. Keeps o self.old self.new) }
+    {
+        match effect {
+            NativeEffect::Answers(answer) => self.answers(alloc, end, answer),
+            NativeEffect::Complains(failure) => self.complains(end, failure),
+            NativeEffect::Begins {
+                native,
+                call,
+                program,
+                arguments,
+            } => {
+                let arguments = Value::list(arguments)?;
+                self.enter(alloc, Some(native), end, call, program, arguments)
+            }
+            NativeEffect::Waits(waiting) => Ok(Outcome::Waits(waiting)),
+            NativeEffect::Dies => Ok(Outcome::Ends(End::Killed)),
+            NativeEffect::Becomes(programmer) => {
+                self.frame.call.programmer = programmer;
+                self.goes(end, Value::integer(0))
+            }
+        }
+    }
+
+    // What a built-in function answers, whose value may not weigh too much.
+    fn answers(&mut self, alloc: Global, end: usize, answer: Answer) -> Result<Outcome, AllocError>
+        ensures led { IfOk result (λ o. (s : Scene) → native_answers_at self.old s end (answer_of answer) ≡ led o s self.new) }
+        ensures keeps { IfOk result (λ o. Keeps o self.old self.new) }
+    {
+        match answer {
+            Ok(value) => match limited(value) {
+                Ok(value) => self.goes(end, value),
+                Err(error) => self.fails(alloc, end, error),
+            },
+            Err(error) => self.fails(alloc, end, error),
+        }
+    }
+}

@@ -1,5 +1,0 @@
-pub mod Local
-pub mod History
-pub mod Goings
-pub mod StaysSound
-pub mod Slots

@@ -1,0 +1,31 @@
+-- Reads and changes, one more at a time.
+use Rattle.std.proofs.Common.{◌≡◌, List, [], ◌∷◌, ◌++◌, refl, sym, ◌∙◌}
+use Rattle.spec_world.specs.World.{World}
+use Rattle.spec_view.specs.Questions.{Question, Answer, ask, Read, Agrees, Change, apply, apply_all}
+use Rattle.world.specs.Sound.{IsSound}
+use Rattle.world.proofs.Local.{InOrder, alike_after}
+
+pub apply_all_last : (cs : List Change) (c : Change) (w : World) → apply_all (cs ++ c ∷ []) w ≡ apply c (apply_all cs w)
+apply_all_last [] c w = refl
+apply_all_last (d ∷ cs) c w = apply_all_last cs c (apply d w)
+
+pub agrees_more : (w : World) (rs : List Read) (r : Read) → Agrees w rs → ask w r.question ≡ r.answer → Agrees w (rs ++ r ∷ [])
+agrees_more w [] r h e = (e, tt)
+agrees_more w (s ∷ rs) r h e = (h.0, agrees_more w rs r h.1 e)
+
+pub agrees_before : (w : World) (rs : List Read) (r : Read) → Agrees w (rs ++ r ∷ []) → Agrees w rs
+agrees_before w [] r h = tt
+agrees_before w (s ∷ rs) r h = (h.0, agrees_before w rs r h.1)
+
+pub agrees_last : (w : World) (rs : List Read) (r : Read) → Agrees w (rs ++ r ∷ []) → ask w r.question ≡ r.answer
+agrees_last w [] r h = h.0
+agrees_last w (s ∷ rs) r h = agrees_last w rs r h.1
+
+in_order : (w : World) → IsSound w → InOrder w
+in_order w h = record { tasks = h.well_formed.tasks_in_order; links = h.well_formed.links_in_order }
+
+-- what home answers now is what each start answers now that answered as home
+pub answered_now : (w home : World) (cs : List Change) (rs : List Read) (q : Question) (base a : Answer) → IsSound w → IsSound home
+    → Agrees w (rs ++ record { question = q; answer = base } ∷ []) → base ≡ ask home q → a ≡ ask (apply_all cs home) q → ask (apply_all cs w) q ≡ a
+answered_now w home cs rs q base a sound home_sound h is now =
+    alike_after cs w home q (in_order w sound) (in_order home home_sound) (agrees_last w rs (record { question = q; answer = base }) h ∙ is) ∙ sym now

@@ -1,0 +1,34 @@
+//! A view of the world itself.
+ghost use Rattle.std.specs.Prelude.{◌≡◌, IfOk, OnOk};
+ghost use Rattle.spec_view.specs.Questions.{ask, apply};
+ghost use Rattle.world.specs.Meanings.{question_of, answer_of, change_of};
+ghost use Rattle.world.specs.Law.{Goes, Keeps};
+ghost use Rattle.world.specs.Forks.{start_of, changed_in, borrow_of};
+
+use crate::change::Change;
+use crate::draft::Draft;
+use crate::fork::{Fork, Forked};
+use crate::law::View;
+use crate::question::{Answer, Question};
+use std::alloc::AllocError;
+
+/// A view of the world itself.
+pub type Live<'w> = Fork<'w>;
+
+impl<'w> View for Forked<'w, Draft> {
+    ghost holds = { λ l w. w ≡ (start_of l).plain };
+
+    ghost now = { λ l _. changed_in l };
+
+    ghost home = { λ l. (start_of l).plain };
+
+    ghost anchor = { λ l. (borrow_of l, (start_of l).opened) };
+
+    fn get(&mut self, question: &Question) -> Result<Answer, AllocError> {
+        self.ask(question)
+    }
+
+    fn put(&mut self, change: Change) -> Result<(), AllocError> {
+        Forked::put(self, change)
+    }
+}

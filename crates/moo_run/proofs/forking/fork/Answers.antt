@@ -28,4 +28,4 @@ returns-in_ok-write_task-in-Started-clause-led g c w h =
 pub returns-in_ok-write_task-in-Started-clause-well_formed : goal.returns-in_ok-write_task-in-Started-clause-well_formed
 returns-in_ok-write_task-in-Started-clause-well_formed g c =
     let whole : to_z w32 (of_z w32 c.in-Started.id) ≡ c.in-Started.id = search rules in
-    queued_agree g.V.View.holds g.V.View.now c.args.view.now c.write_task-in-Started.new.view c.in-Started.id c.in-Started.started c.requires.well_formed (rw whole at c.in_ok-write_task-in-Started.ensures.left)
+    queued_agree g.V.View.holds g.V.View.now c.args.view.now c.write_task.new.view c.in-Started.id c.in-Started.started c.requires.well_formed (rw whole at c.in_ok-write_task-in-Started.ensures.left)

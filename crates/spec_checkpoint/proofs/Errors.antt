@@ -1,5 +1,5 @@
 -- No name of an error begins another.
-use Rattle.std.proofs.Common.{◌≡◌, ℕ, List, [], ◌∷◌, ◌++◌, get_or, refl, ap, sym, subst, ◌∙◌, ◌==◌, cond}
+use Rattle.std.proofs.Common.{◌≡◌, ℕ, ◌++◌, get_or, refl, ap, sym, subst, ◌∙◌, ◌==◌, cond}
 use Rattle.std.proofs.lemmas.List.{append_cancel_left}
 use Rattle.spec_value.specs.Datum.{Text, ErrorCode, no_error, type_mismatch, zero_division, permission_denied, property_not_found, verb_not_found, variable_not_found, invalid_indirection, recursive_move, too_many_calls, range_error, wrong_argument_count, move_refused, invalid_argument, limit_exceeded, float_error}
 use Rattle.spec_value.specs.Literal.{error_name}

@@ -1,6 +1,5 @@
 -- Each line ends at the first line end.
-use Rattle.std.proofs.Common.{◌≡◌, ℕ, suc, List, [], ◌∷◌, ◌++◌, length, IsTrue, Bool, true, false, not, ◌==◌, refl, ap, sym, subst, ◌∙◌, arith, append_assoc}
-use Rattle.std.proofs.lemmas.Bool.{eq-eqb}
+use Rattle.std.proofs.Common.{◌≡◌, ℕ, suc, List, [], ◌∷◌, ◌++◌, length, IsTrue, not, ◌==◌, refl, sym, subst, ◌∙◌, arith, append_assoc}
 use Rattle.spec_value.specs.Datum.{Text}
 use Rattle.spec_value.proofs.Entries.{first_holds, second_holds}
 use Rattle.spec_world.specs.Checkpoint.{with_line_ends}

@@ -1,5 +1,5 @@
 -- Those worlds are well formed, and have one text.
-use Rattle.std.proofs.Common.{◌≡◌, ℕ, ◌^◌, ◌*◌, ℤ, pos, Bool, true, false, List, [], ◌∷◌, Option, Some, None, IsTrue, refl, ap, sym, subst, cond}
+use Rattle.std.proofs.Common.{◌≡◌, ℕ, ◌^◌, ◌*◌, ℤ, pos, Bool, true, false, [], ◌∷◌, Option, Some, None, IsTrue, refl, ap, sym, subst, cond}
 use Rattle.std.specs.Ordering.{int_eq}
 use Rattle.std.specs.Fmt.{digits}
 use Rattle.spec_value.specs.Table.{Numbered, at}

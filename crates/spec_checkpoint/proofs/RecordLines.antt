@@ -1,11 +1,10 @@
 -- The fields of a line in their order, and then line by line.
-use Rattle.std.proofs.Common.{◌≡◌, ℤ, pos, List, [], ◌∷◌, ◌++◌, Option, Some, None, IsTrue, ◌&&◌, refl, ap, sym, ◌∙◌, append_assoc}
+use Rattle.std.proofs.Common.{◌≡◌, ℤ, List, [], ◌∷◌, ◌++◌, Option, Some, None, IsTrue, ◌&&◌, refl, ap, sym, ◌∙◌, append_assoc}
 use Rattle.std.proofs.lemmas.List.{append-nil}
 use Rattle.std.specs.List.{list_all}
 use Rattle.std.specs.Fmt.{signed_decimal}
-use Rattle.spec_value.specs.Datum.{Text, Datum, integer, object, text, list, Data, no_data, item, of_list, in_number_range, is_value}
+use Rattle.spec_value.specs.Datum.{Text, Datum, object, text, list, Data, no_data, item, of_list, in_number_range, is_value}
 use Rattle.spec_value.specs.Literal.{escaped, literal}
-use Rattle.spec_value.specs.Table.{Numbered, Named}
 use Rattle.spec_value.proofs.Entries.{first_holds, second_holds}
 use Rattle.spec_world.specs.World.{Link, Programming}
 use Rattle.spec_world.specs.Checkpoint.{object_text, text_list, lines_held, programming_held, link_lines, variable_lines, literal_lines}

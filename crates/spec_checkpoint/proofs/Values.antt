@@ -1,8 +1,7 @@
 -- A value ends by itself, a number where no digit follows.
-use Rattle.std.proofs.Common.{◌≡◌, ℕ, ◌<◌, ◌^◌, ℤ, pos, negsuc, List, [], ◌∷◌, ◌++◌, IsTrue, Bool, true, false, ◌&&◌, refl, ap, sym, subst, ◌∙◌, arith, append_assoc, ◌==◌, cond}
-use Rattle.std.proofs.lemmas.Bool.Decides.{nat_tests}
+use Rattle.std.proofs.Common.{◌≡◌, ℕ, pos, negsuc, [], ◌∷◌, ◌++◌, IsTrue, refl, ap, sym, ◌∙◌, arith, append_assoc, ◌==◌, cond}
 use Rattle.std.specs.Fmt.{decimal, signed_decimal}
-use Rattle.spec_value.specs.Datum.{Text, ErrorCode, no_error, type_mismatch, zero_division, permission_denied, property_not_found, verb_not_found, variable_not_found, invalid_indirection, recursive_move, too_many_calls, range_error, wrong_argument_count, move_refused, invalid_argument, limit_exceeded, float_error, Datum, integer, object, text, error, list, Data, no_data, item, in_number_range, is_value, are_values}
+use Rattle.spec_value.specs.Datum.{Text, ErrorCode, no_error, type_mismatch, zero_division, permission_denied, property_not_found, verb_not_found, variable_not_found, invalid_indirection, recursive_move, too_many_calls, range_error, wrong_argument_count, move_refused, invalid_argument, limit_exceeded, float_error, Datum, integer, object, text, error, list, Data, no_data, item, is_value, are_values}
 use Rattle.spec_value.specs.Literal.{error_name, escaped, literal, data_text, more_text}
 use Rattle.spec_value.proofs.Entries.{first_holds, second_holds}
 use Rattle.spec_program.specs.Names.{is_digit}

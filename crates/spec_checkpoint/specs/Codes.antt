@@ -1,5 +1,5 @@
 -- What the fields of a line are written with, and that it is read in one way, whatever stands behind it.
-use Rattle.std.specs.Prelude.{◌≡◌, ℕ, ◌<◌, ◌^◌, ℤ, Bool, true, not, List, [], ◌∷◌, ◌++◌, IsTrue}
+use Rattle.std.specs.Prelude.{◌≡◌, ℕ, ◌<◌, ◌^◌, ℤ, Bool, true, not, [], ◌∷◌, ◌++◌, IsTrue}
 use Rattle.std.specs.Fmt.{decimal, signed_decimal}
 use Rattle.spec_value.specs.Datum.{Text, ErrorCode, Datum, Data, in_number_range, is_value, are_values}
 use Rattle.spec_value.specs.Literal.{error_name, escaped, literal, data_text}

@@ -117,7 +117,7 @@ given_well w o flag h why =
     of_link (inl e) c k is = inl e
     of_link (inr e) c k is = inr (e c k is)
 
-closed_well : (s : Scene) (o : ℤ) → IsWellFormed s.world → IsWellFormed (link_closed s o).world
+pub closed_well : (s : Scene) (o : ℤ) → IsWellFormed s.world → IsWellFormed (link_closed s o).world
 unfolding close_link
 closed_well s o h = go (connection_of s.world o)
   where
@@ -130,7 +130,7 @@ closed_well s o h = go (connection_of s.world o)
     go None = h
     go (Some c) = closed c
 
-closed_nobodys : (s : Scene) (o : ℤ) → IsWellFormed s.world → IsNobodys (link_closed s o).world o
+pub closed_nobodys : (s : Scene) (o : ℤ) → IsWellFormed s.world → IsNobodys (link_closed s o).world o
 closed_nobodys s o h = go (connection_of s.world o) refl
   where
     go : (m : Option ℤ) → connection_of s.world o ≡ m → IsNobodys (connection_closed s m).world o

@@ -3,3 +3,4 @@ pub mod Parents
 pub mod Gone
 pub mod RowsKeep
 pub mod Flags
+pub mod Departures

@@ -5,5 +5,6 @@
 
 pub mod asked;
 pub mod chparent;
+pub mod departing;
 pub mod players;
 pub mod recycling;

@@ -3,8 +3,8 @@ use Rattle.std.specs.Prelude.{ℕ, ℤ, pos, List, [], ◌∷◌, true, false, S
 use Rattle.spec_value.specs.Datum.{integer, Text}
 use Rattle.spec_program.specs.Tree.{Program}
 use Rattle.spec_world.specs.World.{Header, World, Object, Verb, Slot, no_object, any_object, this_object, no_preposition, any_preposition, preposition_set}
-use Rattle.spec_moo.specs.Calling.{nowhere}
-use Rattle.spec_moo_rows.specs.Programs.{login_program, accept_program, count_program, grow_program, call_program, plot_program, dice_program, sum_program, spin_program, look_program, hold_program, wake_program, storm_program, tell_program, eval_program, box_look_program, put_program}
+use Rattle.spec_world.specs.Families.{nowhere}
+use Rattle.spec_fixture.specs.Programs.{login_program, accept_program, count_program, grow_program, call_program, plot_program, dice_program, sum_program, spin_program, look_program, hold_program, wake_program, storm_program, tell_program, eval_program, box_look_program, put_program}
 
 -- owned by the wizard, a child of the root, nowhere
 abbrev pub plain_header : Text → Header
@@ -49,8 +49,11 @@ plain_verb names program =
 abbrev pub this_none_this : Verb → Verb
 this_none_this v = record v { direct = this_object; indirect = this_object }
 
+abbrev pub login_verb : Verb
+login_verb = this_none_this (plain_verb (codes "do_login_command") login_program)
+
 abbrev pub system : Object
-system = record (plain_object (codes "System")) { verbs = this_none_this (plain_verb (codes "do_login_command") login_program) ∷ [] }
+system = record (plain_object (codes "System")) { verbs = login_verb ∷ [] }
 
 abbrev pub root : Object
 root = record (bare (record (plain_header (codes "Root")) { parent = nowhere })) { children = pos 0 ∷ pos 2 ∷ pos 3 ∷ pos 4 ∷ pos 5 ∷ pos 7 ∷ [] }
@@ -61,23 +64,52 @@ wizard = bare (record (plain_header (codes "Wizard")) { is_player = true; is_pro
 abbrev pub n_slot : ℤ → Slot
 n_slot n = record { content = Some (integer n); owner = pos 2; readable = true; writable = false; changeable = false }
 
+abbrev pub accept_verb : Verb
+accept_verb = this_none_this (plain_verb (codes "accept") accept_program)
+
+abbrev pub count_verb : Verb
+count_verb = plain_verb (codes "count") count_program
+
+abbrev pub grow_verb : Verb
+grow_verb = plain_verb (codes "grow") grow_program
+
+abbrev pub call_verb : Verb
+call_verb = plain_verb (codes "call") call_program
+
+abbrev pub plot_verb : Verb
+plot_verb = plain_verb (codes "plot") plot_program
+
+abbrev pub dice_verb : Verb
+dice_verb = plain_verb (codes "dice") dice_program
+
+abbrev pub sum_verb : Verb
+sum_verb = plain_verb (codes "sum") sum_program
+
+abbrev pub spin_verb : Verb
+spin_verb = plain_verb (codes "spin") spin_program
+
+abbrev pub look_verb : Verb
+look_verb = plain_verb (codes "l*ook") look_program
+
+abbrev pub hold_verb : Verb
+hold_verb = plain_verb (codes "hold") hold_program
+
+abbrev pub wake_verb : Verb
+wake_verb = plain_verb (codes "wake") wake_program
+
+abbrev pub storm_verb : Verb
+storm_verb = plain_verb (codes "storm") storm_program
+
+abbrev pub tell_verb : Verb
+tell_verb = plain_verb (codes "tell") tell_program
+
+abbrev pub eval_verb : Verb
+eval_verb = record (plain_verb (codes "eval") eval_program) { direct = any_object; preposition = any_preposition; indirect = any_object }
+
 abbrev pub room_verbs : List Verb
 room_verbs =
-    this_none_this (plain_verb (codes "accept") accept_program)
-    ∷ plain_verb (codes "count") count_program
-    ∷ plain_verb (codes "grow") grow_program
-    ∷ plain_verb (codes "call") call_program
-    ∷ plain_verb (codes "plot") plot_program
-    ∷ plain_verb (codes "dice") dice_program
-    ∷ plain_verb (codes "sum") sum_program
-    ∷ plain_verb (codes "spin") spin_program
-    ∷ plain_verb (codes "l*ook") look_program
-    ∷ plain_verb (codes "hold") hold_program
-    ∷ plain_verb (codes "wake") wake_program
-    ∷ plain_verb (codes "storm") storm_program
-    ∷ plain_verb (codes "tell") tell_program
-    ∷ record (plain_verb (codes "eval") eval_program) { direct = any_object; preposition = any_preposition; indirect = any_object }
-    ∷ []
+    accept_verb ∷ count_verb ∷ grow_verb ∷ call_verb ∷ plot_verb ∷ dice_verb ∷ sum_verb ∷ spin_verb ∷ look_verb ∷ hold_verb ∷ wake_verb ∷ storm_verb
+    ∷ tell_verb ∷ eval_verb ∷ []
 
 abbrev pub room : ℤ → List Verb → Object
 room n verbs =
@@ -86,11 +118,14 @@ room n verbs =
 abbrev pub person : Text → Object
 person name = bare (record (plain_header name) { is_player = true; location = pos 3 })
 
+abbrev pub box_look_verb : Verb
+box_look_verb = record (plain_verb (codes "l*ook") box_look_program) { preposition = preposition_set 2; indirect = this_object }
+
+abbrev pub put_verb : Verb
+put_verb = record (plain_verb (codes "put") put_program) { direct = any_object; preposition = preposition_set 3; indirect = this_object }
+
 abbrev pub box_verbs : List Verb
-box_verbs =
-    record (plain_verb (codes "l*ook") box_look_program) { preposition = preposition_set 2; indirect = this_object }
-    ∷ record (plain_verb (codes "put") put_program) { direct = any_object; preposition = preposition_set 3; indirect = this_object }
-    ∷ []
+box_verbs = box_look_verb ∷ put_verb ∷ []
 
 abbrev pub box : Object
 box = record (bare (record (plain_header (codes "box")) { parent = pos 7; location = pos 3 })) { verbs = box_verbs }

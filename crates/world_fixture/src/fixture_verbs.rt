@@ -45,7 +45,8 @@ fn push_counting(alloc: Global, verbs: &mut Vec<Verb>) -> Result<(), AllocError>
 {
     verbs.push(room_commands::count(alloc)?)?;
     verbs.push(room_commands::grow(alloc)?)?;
-    verbs.push(room_commands::call(alloc)?)
+    verbs.push(room_commands::call(alloc)?)?;
+    Ok(())
 }
 
 fn push_queueing(alloc: Global, verbs: &mut Vec<Verb>) -> Result<(), AllocError>
@@ -54,7 +55,8 @@ fn push_queueing(alloc: Global, verbs: &mut Vec<Verb>) -> Result<(), AllocError>
     verbs.push(room_commands::plot(alloc)?)?;
     verbs.push(room_commands::dice(alloc)?)?;
     verbs.push(room_commands::sum(alloc)?)?;
-    verbs.push(room_commands::spin(alloc)?)
+    verbs.push(room_commands::spin(alloc)?)?;
+    Ok(())
 }
 
 fn push_waiting(alloc: Global, verbs: &mut Vec<Verb>) -> Result<(), AllocError>
@@ -63,7 +65,8 @@ fn push_waiting(alloc: Global, verbs: &mut Vec<Verb>) -> Result<(), AllocError>
     verbs.push(room_commands::hold(alloc)?)?;
     verbs.push(room_commands::wake(alloc)?)?;
     verbs.push(room_commands::storm(alloc)?)?;
-    verbs.push(room_commands::tell(alloc)?)
+    verbs.push(room_commands::tell(alloc)?)?;
+    Ok(())
 }
 
 #[tactic(auto, unfolding(spec_fixture::specs::Opened::opened))]

@@ -1,0 +1,4 @@
+pub mod Chains
+pub mod Parents
+pub mod Gone
+pub mod RowsKeep

@@ -1,0 +1,5 @@
+pub mod Leading
+pub mod Children
+pub mod Creating
+pub mod Ways
+pub mod Telling

@@ -17,9 +17,6 @@ use crate::each::give_slots;
 use crate::naming::is_new_name;
 use builtins_change::properties::{fits, with_bits};
 use family::below::below;
-use world::lists::Names;
-use world::part::Part;
-use world::slot::Slot;
 use moo_value::answer::Answer;
 use moo_value::error::MooError;
 use moo_value::text::Text;
@@ -28,7 +25,10 @@ use permissions::act::Act;
 use permissions::may::may;
 use std::alloc::{AllocError, Global};
 use world::law::View;
+use world::lists::Names;
+use world::part::Part;
 use world::readers::{read_defines, write_part};
+use world::slot::Slot;
 
 /// `add_property`. `E_INVARG` where the object is not there, `E_PERM` where the programmer may not add to it or not give to that
 /// owner, and `E_INVARG` for a name that is empty, or that a built-in property has, or a property above or below; for other bits

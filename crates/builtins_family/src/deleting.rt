@@ -14,8 +14,6 @@ ghost use Rattle.family.specs.Below.{IsFamily};
 use builtins_world::properties::has_name;
 use family::below::below;
 use family::losing::lose_slots;
-use world::lists::Names;
-use world::part::Part;
 use moo_value::answer::Answer;
 use moo_value::error::MooError;
 use moo_value::text::Text;
@@ -25,6 +23,8 @@ use permissions::may::may;
 use std::alloc::{AllocError, Global};
 use verb_match::names::is_same;
 use world::law::View;
+use world::lists::Names;
+use world::part::Part;
 use world::readers::{read_defines, write_part};
 
 /// `delete_property`. `E_INVARG` where the object is not there, `E_PROPNF` where it does not define the property itself, `E_PERM`

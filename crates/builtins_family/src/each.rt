@@ -6,11 +6,11 @@ ghost use Rattle.family.specs.InTurn.{in_turn};
 ghost use Rattle.builtins_family.specs.Slots.{getting, slot_for as slot_for_of};
 
 use builtins_world::properties::put_slot;
-use world::slot::Slot;
 use moo_value::text::Text;
 use std::alloc::AllocError;
 use world::law::View;
 use world::readers::read_header;
+use world::slot::Slot;
 
 /// Each object gets a slot of a property: the one that defines it this slot, another one an heir's.
 pub fn give_slots<V: View>(

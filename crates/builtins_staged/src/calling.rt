@@ -7,11 +7,11 @@ ghost use Rattle.world.specs.Law.{Lasts, Tells};
 ghost use Rattle.builtins_staged.specs.Led.{MayBegin};
 
 use inherit::verb::{FoundVerb, find_verb};
-use moo_task::effect::NativeEffect;
-use moo_task::native::Native;
 use moo_machine::call::Call;
 use moo_objects::calling::callee;
 use moo_program::program::Program;
+use moo_task::effect::NativeEffect;
+use moo_task::native::Native;
 use moo_value::text::Text;
 use moo_value::value::Value;
 use std::alloc::AllocError;

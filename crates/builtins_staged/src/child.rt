@@ -7,18 +7,18 @@ ghost use Rattle.inherit.specs.Lines.{AreWellFormed};
 ghost use Rattle.world.specs.Law.{Goes, Lasts, Tells};
 ghost use Rattle.builtins_staged.specs.Children.{child_header, child_with, put_heirs, IsNext};
 
-use world::header::Header;
-use world::object::{Lists, Object};
-use world::slot::Slot;
-use world::slots::Slots;
-use world::verb::Verbs;
 use moo_value::text::Text;
 use relatives::children::add_child;
 use reparenting::along::inherited_slots;
 use reparenting::heirs::heir_slot;
 use std::alloc::{AllocError, Global};
+use world::header::Header;
 use world::law::View;
+use world::object::{Lists, Object};
 use world::readers::{write_greatest, write_object};
+use world::slot::Slot;
+use world::slots::Slots;
+use world::verb::Verbs;
 
 /// A parent, or nobody, has a new child under the next number.
 pub fn make_child<V: View>(

@@ -16,9 +16,9 @@ ghost use Rattle.builtins_staged.specs.Moves.{first_checks, later_checks, MayMov
 use crate::calling::begins;
 use crate::places::{go_over, is_inside, location};
 use builtins_objects::asked::{are_there, is_there};
+use moo_machine::call::Call;
 use moo_task::effect::NativeEffect;
 use moo_task::native::{Native, NativeName};
-use moo_machine::call::Call;
 use moo_value::error::MooError;
 use moo_value::text::Text;
 use moo_value::value::Value;

@@ -42,9 +42,10 @@ definable_is w o p owner b m n new fit = grouped (is_new_in w o p) (are_bits (co
 pub new_then : (w : World) (o : ℤ) (p : Text) (owner : ℤ) (b : Text) → is_new_in w o p ≡ false → is_definable w o p owner b ≡ false
 new_then w o p owner b new = definable_is w o p owner b false (are_bits (codes "rwc") b && is_some (object_at w owner)) new refl
 
-pub is_given : (s : Scene) (k : Caller) (o : ℤ) (p : Text) (t : Slot) (owner : ℤ) (b : Text) (ts : List Text) → defines_at s.world o ≡ Some ts
-    → may s.world k.call.programmer (change_members o) ≡ true → property_given o p t owner b s k ≡ property_owned o p t owner b s k
-is_given s k o p t owner b ts is allowed =
+is_checked : (s : Scene) (k : Caller) (o : ℤ) (p : Text) (t : Slot) (owner : ℤ) (b : Text) (ts : List Text) (m : Bool) → defines_at s.world o ≡ Some ts
+    → may s.world k.call.programmer (change_members o) ≡ m
+    → property_given o p t owner b s k ≡ (if m then property_owned o p t owner b s k else refuses s permission_denied)
+is_checked s k o p t owner b ts m is allowed =
     found (object_at s.world o) is ∙ ap (λ z. if z then property_owned o p t owner b s k else refuses s permission_denied) allowed
   where
     whole : NativeEffect
@@ -53,6 +54,42 @@ is_given s k o p t owner b ts is allowed =
     found : (y : Option Object) → option_map (λ x. x.defines) y ≡ Some ts → if_there s invalid_argument y (λ x. whole) ≡ whole
     found None e = cc
     found (Some x) e = refl
+
+pub is_given : (s : Scene) (k : Caller) (o : ℤ) (p : Text) (t : Slot) (owner : ℤ) (b : Text) (ts : List Text) → defines_at s.world o ≡ Some ts
+    → may s.world k.call.programmer (change_members o) ≡ true → property_given o p t owner b s k ≡ property_owned o p t owner b s k
+is_given s k o p t owner b ts is allowed = is_checked s k o p t owner b ts true is allowed
+
+is_absent : (s : Scene) (k : Caller) (o : ℤ) (p : Text) (t : Slot) (owner : ℤ) (b : Text) → defines_at s.world o ≡ None
+    → property_given o p t owner b s k ≡ refuses s invalid_argument
+is_absent s k o p t owner b none = found (object_at s.world o) none
+  where
+    whole : NativeEffect
+    whole = if may s.world k.call.programmer (change_members o) then property_owned o p t owner b s k else refuses s permission_denied
+
+    found : (y : Option Object) → option_map (λ x. x.defines) y ≡ None → if_there s invalid_argument y (λ x. whole) ≡ refuses s invalid_argument
+    found None e = refl
+    found (Some x) e = cc
+
+module _ {V : Type 0} (holds : V → World → Type 0) (now : V → World → World) (o : ℤ) (p : Text) (t : Slot) (owner : ℤ) (b : Text) (who : ℤ) where
+  -- there is no such object
+  pub absent_given : (x y : V) → Tells holds now x y (λ w. defines_at w o ≡ None)
+      → Goes holds now x y (λ before after. Does (property_given o p t owner b) before after who (raises invalid_argument))
+  absent_given x y asked w left =
+      let r = asked w left in (
+        r.0,
+        λ s k. is_absent (in_world s (now x w)) (with_programmer k who) o p t owner b r.1.1 ∙ ap (λ v. refuses (in_world s v) invalid_argument) (sym r.1.0),
+      )
+
+  -- it may not have more properties
+  pub refused_given : (x y z : V) (ts : List Text) → Tells holds now x y (λ w. defines_at w o ≡ Some ts) → Tells holds now y z (λ w. may w who (change_members o) ≡ false)
+      → Goes holds now x z (λ before after. Does (property_given o p t owner b) before after who (raises permission_denied))
+  refused_given x y z ts first second w left =
+      let u = second w left in
+      let r = first w u.0 in (
+        r.0,
+        λ s k. is_checked (in_world s (now x w)) (with_programmer k who) o p t owner b ts false r.1.1 (subst (λ v. may v who (change_members o) ≡ false) r.1.0 u.1.1)
+            ∙ ap (λ v. refuses (in_world s v) permission_denied) (sym (u.1.0 ∙ r.1.0)),
+      )
 
 -- ---- a property that is there and may be taken out
 

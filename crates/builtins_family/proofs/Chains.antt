@@ -5,7 +5,8 @@ use Rattle.spec_value.specs.Datum.{Datum, Text, object, text, fold_case, invalid
 use Rattle.spec_value.specs.Answer.{gives, raises}
 use Rattle.spec_world.specs.World.{World, Object, Slot, object_at}
 use Rattle.spec_world.specs.Inherit.{slot_at}
-use Rattle.spec_world.specs.WellFormed.{IsWellFormed, has_name}
+use Rattle.spec_world.specs.WellFormed.{has_name}
+use Rattle.spec_world.specs.Agreeing.{ObjectsAgree}
 use Rattle.spec_world.specs.Permissions.{may, change_members}
 use Rattle.spec_world.specs.Members.{property_deleted}
 use Rattle.spec_view.specs.Questions.{defines_at}
@@ -15,7 +16,7 @@ use Rattle.spec_moo.specs.NativeEffect.{Caller, NativeEffect, answers, refuses}
 use Rattle.spec_moo.specs.Natives.Rows.{if_there, answers_with, zero_value}
 use Rattle.spec_moo.specs.Natives.Properties.{are_bits, is_empty, defines_it, delete_property_row}
 use Rattle.spec_world.proofs.Trees.{some_same}
-use Rattle.inherit.specs.Lines.{AreWellFormed}
+use Rattle.inherit.specs.Lines.{AreAgreeing}
 use Rattle.world.specs.Law.{Goes, Tells}
 use Rattle.builtins_world.specs.Said.{Does, with_programmer}
 use Rattle.family.specs.Below.{IsFamily}
@@ -25,7 +26,7 @@ use Rattle.builtins_family.proofs.Slots.{defined_is}
 
 -- ---- a property that may be defined
 
-pub new_is : (w : World) (o : ℤ) (p : Text) (ds : List ℤ) (m : Bool) → IsWellFormed w → IsFamily w o ds
+pub new_is : (w : World) (o : ℤ) (p : Text) (ds : List ℤ) (m : Bool) → ObjectsAgree w → IsFamily w o ds
     → (not (is_empty p) && is_none (built_in p) && is_none (slot_at w o p) && not (any_defines w p ds)) ≡ m → is_new_in w o p ≡ m
 new_is w o p ds m sound family told =
     ap (λ d. not (is_empty p) && is_none (built_in p) && is_none (slot_at w o p) && not d) (sym (defined_is w sound o p ds family)) ∙ told
@@ -122,9 +123,9 @@ refused_does holds now a b c o p ts who first named second w left =
     )
 
 pub deleted_does : {V : Type 0} (holds : V → World → Type 0) (now : V → World → World) (a b c d e : V) (o : ℤ) (p : Text) (ts : List Text) (ds : List ℤ) (who : ℤ) (v : Datum)
-    → v ≡ zero_value → AreWellFormed holds now a → Tells holds now a b (λ w. defines_at w o ≡ Some ts) → has_name (map fold_case ts) (fold_case p) ≡ true
+    → v ≡ zero_value → AreAgreeing holds now a → Tells holds now a b (λ w. defines_at w o ≡ Some ts) → has_name (map fold_case ts) (fold_case p) ≡ true
     → Tells holds now b c (λ w. may w who (change_members o) ≡ true) → Tells holds now c d (λ w. IsFamily w o ds)
-    → Goes holds now d e (λ before after. IsWellFormed before → IsFamily before o ds → defines_at before o ≡ Some ts → after ≡ property_deleted before o p)
+    → Goes holds now d e (λ before after. ObjectsAgree before → IsFamily before o ds → defines_at before o ≡ Some ts → after ≡ property_deleted before o p)
     → Goes holds now a e (λ before after. Does (λ s k. delete_property_row s k (object o ∷ text p ∷ [])) before after who (gives v))
 deleted_does holds now a b c d e o p ts ds who v zero known first named second third done w left =
     let u = done w left in
@@ -133,7 +134,7 @@ deleted_does holds now a b c d e o p ts ds who v zero known first named second t
     let r = first w s.0 in
     let same : now d w ≡ now a w = t.1.0 ∙ s.1.0 ∙ r.1.0 in
     let after : now e w ≡ property_deleted (now d w) o p =
-    u.1 (subst IsWellFormed (sym same) (known w r.0)) (subst (λ v. IsFamily v o ds) (sym t.1.0) t.1.1) (subst (λ v. defines_at v o ≡ Some ts) (sym same) r.1.1)
+    u.1 (subst ObjectsAgree (sym same) (known w r.0)) (subst (λ v. IsFamily v o ds) (sym t.1.0) t.1.1) (subst (λ v. defines_at v o ≡ Some ts) (sym same) r.1.1)
     in
     let changed : property_deleted (now a w) o p ≡ now e w = sym (after ∙ ap (λ v. property_deleted v o p) same) in (
       r.0,

@@ -1,3 +1,0 @@
-pub mod Led
-pub mod Children
-pub mod Moves

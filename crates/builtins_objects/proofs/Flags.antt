@@ -119,10 +119,10 @@ given_well w o flag h why =
     of_link (inr e) c k is = inr (e c k is)
 
 closed_well : (s : Scene) (o : ℤ) → IsWellFormed s.world → IsWellFormed (link_closed s o).world
+unfolding close_link
 closed_well s o h = go (connection_of s.world o)
   where
     closed : (c : ℤ) → IsWellFormed (close_link s.world c)
-    unfolding close_link
     closed c =
         let parts = well_formed_agrees s.world h in
         agrees_is_well_formed (close_link s.world c) (link_closed_keeps s.world c parts.0) (λ i t e. parts.1 i t (at_left (λ (m : ℤ × Task). not (reads_on c (m.1).waiting)) s.world.tasks h.tasks_in_order i t e).0)

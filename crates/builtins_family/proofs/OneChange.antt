@@ -10,7 +10,8 @@ use Rattle.spec_value.specs.Table.{Numbered, at, is_numbered}
 use Rattle.spec_value.proofs.Keys.{as_type}
 use Rattle.spec_value.proofs.Same.{integer_itself}
 use Rattle.spec_world.specs.World.{World, Object, object_at}
-use Rattle.spec_world.specs.WellFormed.{IsWellFormed, lists}
+use Rattle.spec_world.specs.WellFormed.{lists}
+use Rattle.spec_world.specs.Agreeing.{ObjectsAgree}
 use Rattle.spec_world.specs.Families.{change_at, change_object, change_each, changed_each, is_below}
 use Rattle.spec_view.specs.Questions.{defines_at, apply, new_part, new_defines}
 use Rattle.spec_world.proofs.Trees.{same_or_not, some_same}
@@ -29,7 +30,7 @@ abbrev pub family_changed : World → ℤ → (List Text → List Text) → (Obj
 family_changed w o names first each =
     change_each w (λ d x. cond (int_eq d o) (first (record x { defines = names x.defines })) (cond (is_below w o d) (each d x) x))
 
-module _ (w : World) (sound : IsWellFormed w) (o : ℤ) (ds : List ℤ) (all : IsFamily w o ds) (ts : List Text) (is : defines_at w o ≡ Some ts) (names : List Text → List Text)
+module _ (w : World) (sound : ObjectsAgree w) (o : ℤ) (ds : List ℤ) (all : IsFamily w o ds) (ts : List Text) (is : defines_at w o ≡ Some ts) (names : List Text → List Text)
     (f : ℤ → Object → Object) (first : Object → Object) (each : ℤ → Object → Object) (again : (d : ℤ) (x : Object) → f d (f d x) ≡ f d x)
     (at_first : (x : Object) → f o x ≡ first x) (at_each_other : (d : ℤ) (x : Object) → int_eq d o ≡ false → f d x ≡ each d x) where
   abbrev renamed : Object → Object
@@ -107,7 +108,7 @@ pub family_told : {V A E : Type 0} (holds : V → World → Type 0) (now : V →
     → ((d : ℤ) (x : Object) → int_eq d o ≡ false → f d x ≡ each d x) → us ≡ names ts
     → Goes holds now a b (λ before after. after ≡ apply (new_part o (new_defines us)) before)
     → OnOk r (Goes holds now b c (λ before after. after ≡ in_turn f ds before))
-    → OnOk r (Goes holds now a c (λ before after. IsWellFormed before → IsFamily before o ds → defines_at before o ≡ Some ts → after ≡ family_changed before o names first each))
+    → OnOk r (Goes holds now a c (λ before after. ObjectsAgree before → IsFamily before o ds → defines_at before o ≡ Some ts → after ≡ family_changed before o names first each))
 family_told holds now a b c (Err e) o ds ts us names f first each again one other so named done = tt
 family_told holds now a b c (Ok x) o ds ts us names f first each again one other so named done = λ w left.
     let u = done w left in

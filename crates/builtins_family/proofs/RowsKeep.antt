@@ -1,30 +1,20 @@
--- Properties that come and go leave a well-formed world so.
+-- Properties that come and go: what a world's objects agreed on they agree on afterwards.
 use Rattle.std.proofs.Common.{◌≡◌, ℤ, Bool, true, false, not, ◌&&◌, List, [], ◌∷◌, Option, Some, None, refl, sym, ap, ◌∙◌, is_none}
 use Rattle.std.specs.Prelude.{codes}
 use Rattle.spec_value.specs.Datum.{Datum, object, text, list, no_data, item, Text, invalid_argument}
 use Rattle.spec_value.proofs.Entries.{first_holds, second_holds}
 use Rattle.spec_world.specs.World.{World, Object, Slot, object_at}
 use Rattle.spec_world.specs.Inherit.{slot_at}
-use Rattle.spec_world.specs.WellFormed.{IsWellFormed}
+use Rattle.spec_world.specs.Agreeing.{ObjectsAgree}
 use Rattle.spec_world.specs.Permissions.{change_members, change_owner, may}
 use Rattle.spec_world.specs.Families.{is_below}
 use Rattle.spec_world.specs.Members.{property_added, property_deleted}
 use Rattle.spec_world.proofs.PropertyChanges.{none_passes}
 use Rattle.spec_world.proofs.ObjectsKept.{property_added_keeps, property_deleted_keeps}
-use Rattle.spec_world.proofs.WorldsKept.{Rest, added_players, deleted_players, agrees_of}
 use Rattle.spec_moo.specs.Scene.{Scene, in_world}
 use Rattle.spec_moo.specs.Natives.Rows.{is_valid}
 use Rattle.spec_moo.specs.Natives.Properties.{are_bits, defines_it, defined_below, is_new_name, slot_with, add_property_row, delete_property_row}
-use Rattle.inherit.proofs.Keeping.{stays_so}
 use Rattle.builtins_world.proofs.Keeping.{LeavesWell, Keeping, tested, there}
-
-added_rest : (w : World) (o : ℤ) (p : Text) (t : Slot) → Rest w (property_added w o p t)
-unfolding property_added
-added_rest w o p t = record { links = refl; tasks = refl; next = refl }
-
-deleted_rest : (w : World) (o : ℤ) (p : Text) → Rest w (property_deleted w o p)
-unfolding property_deleted
-deleted_rest w o p = record { links = refl; tasks = refl; next = refl }
 
 is_not : (b : Bool) → not b ≡ true → b ≡ false
 is_not true h = cc
@@ -41,14 +31,12 @@ add_property_keeps (object o ∷ text p ∷ v ∷ list (item (object owner) (ite
     tested (may s.world c.call.programmer (change_owner c.call.programmer owner)) _ _ h (λ k2.
     tested (is_new_name s o p && are_bits (codes "rwc") b && is_valid s owner) _ _ h (λ k3. go x e (first_holds (is_new_name s o p) _ (first_holds _ (is_valid s owner) k3))))))
   where
-    go : (x : Object) → object_at s.world o ≡ Some x → is_new_name s o p ≡ true → IsWellFormed (property_added s.world o p (slot_with v owner b))
+    go : (x : Object) → object_at s.world o ≡ Some x → is_new_name s o p ≡ true → ObjectsAgree (property_added s.world o p (slot_with v owner b))
     go x e k =
         let above : slot_at s.world o p ≡ None = nothing _ (second_holds _ (is_none (slot_at s.world o p)) (first_holds _ (not (defined_below s.world o p)) k)) in
         let below : defined_below s.world o p ≡ false = is_not _ (second_holds _ (not (defined_below s.world o p)) k) in
-        stays_so s.world (property_added s.world o p (slot_with v owner b)) h
-        (property_added_keeps s.world o p (slot_with v owner b) x e (agrees_of s.world h).objects refl above
-        (λ q y is under. sym (ap (λ a. a && defines_it y p) under) ∙ none_passes (λ d z. is_below s.world o d && defines_it z p) s.world.objects below q y is))
-        (added_rest s.world o p (slot_with v owner b)) (added_players s.world o p (slot_with v owner b))
+        property_added_keeps s.world o p (slot_with v owner b) x e h refl above
+        (λ q y is under. sym (ap (λ a. a && defines_it y p) under) ∙ none_passes (λ d z. is_below s.world o d && defines_it z p) s.world.objects below q y is)
 add_property_keeps _ s c h = h
 
 pub delete_property_keeps : (args : List Datum) → Keeping (λ s c. delete_property_row s c args)
@@ -56,5 +44,5 @@ delete_property_keeps (object o ∷ text p ∷ []) s c h =
     there s invalid_argument (object_at s.world o) _ h (λ x e.
     tested (defines_it x p) _ _ h (λ k1.
     tested (may s.world c.call.programmer (change_members o)) _ _ h (λ k2.
-    stays_so s.world (property_deleted s.world o p) h (property_deleted_keeps s.world o p x e (agrees_of s.world h).objects k1) (deleted_rest s.world o p) (deleted_players s.world o p))))
+    property_deleted_keeps s.world o p x e h k1)))
 delete_property_keeps _ s c h = h

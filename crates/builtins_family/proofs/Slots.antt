@@ -11,7 +11,8 @@ use Rattle.spec_value.specs.Table.{Numbered, Named, with_name, at, is_numbered}
 use Rattle.spec_value.proofs.Same.{integer_itself}
 use Rattle.spec_world.specs.World.{World, Header, Object, Slot, object_at, with_object}
 use Rattle.spec_world.specs.Inherit.{with_slot, put_slot}
-use Rattle.spec_world.specs.WellFormed.{IsWellFormed, passes}
+use Rattle.spec_world.specs.WellFormed.{passes}
+use Rattle.spec_world.specs.Agreeing.{ObjectsAgree}
 use Rattle.spec_world.specs.Families.{change_at, change_object, heir_slot, is_below}
 use Rattle.spec_world.specs.Members.{property_added, property_deleted, with_own_slot, lose_slot}
 use Rattle.spec_view.specs.Questions.{Part, header_at, defines_at, apply, new_part, new_slot}
@@ -100,25 +101,25 @@ any_defines_is w p (d ∷ ds) = λ i. go (object_at w d) i || any_defines_is w p
     go None = refl
     go (Some x) = refl
 
-pub defined_is : (w : World) → IsWellFormed w → (o : ℤ) (p : Text) (ds : List ℤ) → IsFamily w o ds → any_defines w p ds ≡ defined_below w o p
+pub defined_is : (w : World) → ObjectsAgree w → (o : ℤ) (p : Text) (ds : List ℤ) → IsFamily w o ds → any_defines w p ds ≡ defined_below w o p
 defined_is w sound o p ds all = any_defines_is w p ds ∙ any_is w sound o ds all (λ x. defines_it x p)
 
 -- ---- the whole change, over a view
 
 module _ {V A E : Type 0} (holds : V → World → Type 0) (now : V → World → World) (old new : V) where
   as_meant : (r : Result A E) (o : ℤ) (ds : List ℤ) (ts : List Text) (f g : World → World) → ((w : World) → f w ≡ g w)
-      → OnOk r (Goes holds now old new (λ before after. IsWellFormed before → IsFamily before o ds → defines_at before o ≡ Some ts → after ≡ f before))
-      → OnOk r (Goes holds now old new (λ before after. IsWellFormed before → IsFamily before o ds → defines_at before o ≡ Some ts → after ≡ g before))
+      → OnOk r (Goes holds now old new (λ before after. ObjectsAgree before → IsFamily before o ds → defines_at before o ≡ Some ts → after ≡ f before))
+      → OnOk r (Goes holds now old new (λ before after. ObjectsAgree before → IsFamily before o ds → defines_at before o ≡ Some ts → after ≡ g before))
   as_meant (Err e) o ds ts f g same told = tt
   as_meant (Ok x) o ds ts f g same told = λ w left. let t = told w left in (t.0, λ sound family is. t.1 sound family is ∙ same (now old w))
 
   pub deleted_told : (r : Result A E) (o : ℤ) (ds : List ℤ) (ts : List Text) (p : Text)
-      → OnOk r (Goes holds now old new (λ before after. IsWellFormed before → IsFamily before o ds → defines_at before o ≡ Some ts
+      → OnOk r (Goes holds now old new (λ before after. ObjectsAgree before → IsFamily before o ds → defines_at before o ≡ Some ts
       → after ≡ family_changed before o (filter (λ q. not (same_text (fold_case p) (fold_case q)))) (losing p o) (losing p)))
-      → OnOk r (Goes holds now old new (λ before after. IsWellFormed before → IsFamily before o ds → defines_at before o ≡ Some ts → after ≡ property_deleted before o p))
+      → OnOk r (Goes holds now old new (λ before after. ObjectsAgree before → IsFamily before o ds → defines_at before o ≡ Some ts → after ≡ property_deleted before o p))
   deleted_told r o ds ts p told = as_meant r o ds ts _ (λ w. property_deleted w o p) (λ w. deleted_is w o p) told
 
   pub added_told : (r : Result A E) (o : ℤ) (ds : List ℤ) (ts : List Text) (p : Text) (s : Slot)
-      → OnOk r (Goes holds now old new (λ before after. IsWellFormed before → IsFamily before o ds → defines_at before o ≡ Some ts → after ≡ family_changed before o (λ us. us ++ p ∷ []) (own p s) (heir p s)))
-      → OnOk r (Goes holds now old new (λ before after. IsWellFormed before → IsFamily before o ds → defines_at before o ≡ Some ts → after ≡ property_added before o p s))
+      → OnOk r (Goes holds now old new (λ before after. ObjectsAgree before → IsFamily before o ds → defines_at before o ≡ Some ts → after ≡ family_changed before o (λ us. us ++ p ∷ []) (own p s) (heir p s)))
+      → OnOk r (Goes holds now old new (λ before after. ObjectsAgree before → IsFamily before o ds → defines_at before o ≡ Some ts → after ≡ property_added before o p s))
   added_told r o ds ts p s told = as_meant r o ds ts _ (λ w. property_added w o p s) (λ w. added_is w o p s) told

@@ -1,12 +1,12 @@
 //! Properties that come (Programmer's Manual, `add_property()`).
 ghost use Rattle.std.specs.Prelude.{◌≡◌, ◌++◌, [], ◌∷◌, Some, IfOk, OnOk, option_map};
 ghost use Rattle.spec_value.specs.Datum.{object as object_of, text as text_value};
-ghost use Rattle.spec_world.specs.WellFormed.{IsWellFormed};
+ghost use Rattle.spec_world.specs.Agreeing.{ObjectsAgree};
 ghost use Rattle.spec_world.specs.Members.{property_added};
 ghost use Rattle.spec_view.specs.Questions.{defines_at};
 ghost use Rattle.spec_moo.specs.Natives.Properties.{add_property_row, slot_with as slot_with_of};
 ghost use Rattle.moo_value.specs.Answers.{answer_of};
-ghost use Rattle.inherit.specs.Lines.{AreWellFormed};
+ghost use Rattle.inherit.specs.Lines.{AreAgreeing};
 ghost use Rattle.world.specs.Law.{Goes, Lasts, Tells};
 ghost use Rattle.builtins_world.specs.Said.{Does};
 ghost use Rattle.builtins_change.specs.Listed.{owner_and_bits};
@@ -44,12 +44,12 @@ pub fn add_property<V: View>(
     bits: &Text,
 ) -> Result<Answer, AllocError>
     requires home { V.holds view.old (V.home view.old) }
-    requires well_formed { AreWellFormed V.holds V.now view.old }
+    requires well_formed { AreAgreeing V.holds V.now view.old }
     ensures lasts { Lasts V.holds V.home V.anchor view.old view.new result }
     ensures left { IfOk result (λ a. Goes V.holds V.now view.old view.new
         (λ before after. Does (λ s c. add_property_row s c (object_of object ∷ text_value name.now ∷ value ∷ owner_and_bits owner bits.now ∷ []))
         before after programmer (answer_of a))) }
-    ensures well_formed { OnOk result (AreWellFormed V.holds V.now view.new) }
+    ensures well_formed { OnOk result (AreAgreeing V.holds V.now view.new) }
 {
     let slot = slot_with(value, owner, bits);
     add(alloc, view, programmer, object, name, slot, owner, bits)
@@ -81,7 +81,7 @@ fn add<V: View>(
     bits: &Text,
 ) -> Result<Answer, AllocError>
     requires home { V.holds view.old (V.home view.old) }
-    requires well_formed { AreWellFormed V.holds V.now view.old }
+    requires well_formed { AreAgreeing V.holds V.now view.old }
     ensures lasts { Lasts V.holds V.home V.anchor view.old view.new result }
     ensures left { IfOk result (λ a. Goes V.holds V.now view.old view.new
         (λ before after. Does (property_given object name.now slot owner bits.now) before after programmer (answer_of a))) }
@@ -120,7 +120,7 @@ fn add_owned<V: View>(
     bits: &Text,
 ) -> Result<Answer, AllocError>
     requires home { V.holds view.old (V.home view.old) }
-    requires well_formed { AreWellFormed V.holds V.now view.old }
+    requires well_formed { AreAgreeing V.holds V.now view.old }
     ensures lasts { Lasts V.holds V.home V.anchor view.old view.new result }
     ensures left { IfOk result (λ a. Goes V.holds V.now view.old view.new (λ before after. defines_at before object ≡ Some names.now →
         Does (property_owned object name.now slot.now owner bits.now) before after programmer (answer_of a))) }
@@ -147,7 +147,7 @@ fn definable<V: View>(
     bits: &Text,
 ) -> Result<Option<Vec<i32>>, AllocError>
     requires home { V.holds view.old (V.home view.old) }
-    requires well_formed { AreWellFormed V.holds V.now view.old }
+    requires well_formed { AreAgreeing V.holds V.now view.old }
     ensures lasts { Lasts V.holds V.home V.anchor view.old view.new result }
     ensures left { IfOk result (λ f. Tells V.holds V.now view.old view.new
         (λ w. DefinableOn w object name.now owner bits.now (option_map (λ ds. ds.items) f))) }
@@ -177,7 +177,7 @@ fn define<V: View>(
     requires home { V.holds view.old (V.home view.old) }
     ensures lasts { Lasts V.holds V.home V.anchor view.old view.new result }
     ensures left { OnOk result (Goes V.holds V.now view.old view.new (λ before after.
-        IsWellFormed before → IsFamily before object family.now → defines_at before object ≡ Some names.now → after ≡ property_added before object name.now slot.now)) }
+        ObjectsAgree before → IsFamily before object family.now → defines_at before object ≡ Some names.now → after ≡ property_added before object name.now slot.now)) }
 {
     let more = with_more(alloc, names, name)?;
     write_part(view, object, Part::Defines(more))?;

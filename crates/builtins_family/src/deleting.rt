@@ -1,12 +1,12 @@
 //! Properties that go (Programmer's Manual, `delete_property()`).
 ghost use Rattle.std.specs.Prelude.{◌≡◌, [], ◌∷◌, filter, not, Some, IfOk, OnOk};
 ghost use Rattle.spec_value.specs.Datum.{object as object_of, text as text_value, fold_case, same_text};
-ghost use Rattle.spec_world.specs.WellFormed.{IsWellFormed};
+ghost use Rattle.spec_world.specs.Agreeing.{ObjectsAgree};
 ghost use Rattle.spec_world.specs.Members.{property_deleted};
 ghost use Rattle.spec_view.specs.Questions.{defines_at};
 ghost use Rattle.spec_moo.specs.Natives.Properties.{delete_property_row};
 ghost use Rattle.moo_value.specs.Answers.{answer_of};
-ghost use Rattle.inherit.specs.Lines.{AreWellFormed};
+ghost use Rattle.inherit.specs.Lines.{AreAgreeing};
 ghost use Rattle.world.specs.Law.{Goes, Lasts};
 ghost use Rattle.builtins_world.specs.Said.{Does};
 ghost use Rattle.family.specs.Below.{IsFamily};
@@ -37,11 +37,11 @@ pub fn delete_property<V: View>(
     name: &Text,
 ) -> Result<Answer, AllocError>
     requires home { V.holds view.old (V.home view.old) }
-    requires well_formed { AreWellFormed V.holds V.now view.old }
+    requires well_formed { AreAgreeing V.holds V.now view.old }
     ensures lasts { Lasts V.holds V.home V.anchor view.old view.new result }
     ensures left { IfOk result (λ a. Goes V.holds V.now view.old view.new
         (λ before after. Does (λ s c. delete_property_row s c (object_of object ∷ text_value name.now ∷ [])) before after programmer (answer_of a))) }
-    ensures well_formed { OnOk result (AreWellFormed V.holds V.now view.new) }
+    ensures well_formed { OnOk result (AreAgreeing V.holds V.now view.new) }
 {
     delete(alloc, view, programmer, object, name)
 }
@@ -54,7 +54,7 @@ fn delete<V: View>(
     name: &Text,
 ) -> Result<Answer, AllocError>
     requires home { V.holds view.old (V.home view.old) }
-    requires well_formed { AreWellFormed V.holds V.now view.old }
+    requires well_formed { AreAgreeing V.holds V.now view.old }
     ensures lasts { Lasts V.holds V.home V.anchor view.old view.new result }
     ensures left { IfOk result (λ a. Goes V.holds V.now view.old view.new
         (λ before after. Does (λ s c. delete_property_row s c (object_of object ∷ text_value name.now ∷ [])) before after programmer (answer_of a))) }
@@ -94,7 +94,7 @@ fn take_out<V: View>(
     requires home { V.holds view.old (V.home view.old) }
     ensures lasts { Lasts V.holds V.home V.anchor view.old view.new result }
     ensures left { OnOk result (Goes V.holds V.now view.old view.new (λ before after.
-        IsWellFormed before → IsFamily before object family.now → defines_at before object ≡ Some names.now → after ≡ property_deleted before object name.now)) }
+        ObjectsAgree before → IsFamily before object family.now → defines_at before object ≡ Some names.now → after ≡ property_deleted before object name.now)) }
 {
     let others = without(alloc, names, name)?;
     write_part(view, object, Part::Defines(others))?;

@@ -1,28 +1,28 @@
 -- An object goes, call by call.
-use Rattle.std.proofs.Common.{◌≡◌, ℤ, true, List, [], ◌∷◌, drop, Option, Some, None, Result, Ok, Err, OnOk, refl, sym, ap, ◌∙◌, subst, IsTrue, is_some}
+use Rattle.std.proofs.Common.{◌≡◌, ℕ, suc, ◌+◌, ◌<◌, ℤ, pos, true, List, [], ◌∷◌, length, get_or, drop, Option, Some, None, Result, Ok, Err, OnOk, refl, sym, ap, ◌∙◌, subst, IsTrue, is_some, arith}
+use Rattle.std.proofs.Math.Seq.{drop-cons}
 use Rattle.std.specs.Prelude.{option_map}
 use Rattle.std.specs.Ordering.{int_eq}
 use Rattle.spec_value.proofs.Same.{integer_itself}
 use Rattle.spec_world.specs.World.{World, Header, Object, object_at}
-use Rattle.spec_world.specs.WellFormed.{IsWellFormed}
-use Rattle.spec_world.specs.Families.{parent_of, reparented, reparented_each, to_nowhere, recycled_object, recycled}
+use Rattle.spec_world.specs.Agreeing.{ObjectsAgree}
+use Rattle.spec_world.specs.Families.{parent_of, reparented, reparented_each, to_nowhere, lose_child, out_of_place, recycled_object, recycled}
+use Rattle.spec_world.proofs.ObjectsKept.{recycled_keeps}
 use Rattle.spec_world.proofs.Trees.{some_same, first_of}
 use Rattle.spec_world.proofs.WorldTrees.{object_there}
-use Rattle.spec_world.proofs.Households.{Household, household, objects_agree, objects_of}
-use Rattle.spec_world.proofs.WorldsKept.{reparented_rest, reparented_players}
+use Rattle.spec_world.proofs.Households.{Household, household, objects_agree}
 use Rattle.spec_world.proofs.Recycling.{child_household, fewer_children}
-use Rattle.spec_view.specs.Questions.{header_at, children_at, contents_at}
-use Rattle.inherit.specs.Lines.{AreWellFormed}
-use Rattle.inherit.proofs.Keeping.{stays_so}
+use Rattle.spec_view.specs.Questions.{header_at, children_at, contents_at, apply, new_object}
+use Rattle.inherit.specs.Lines.{AreAgreeing}
 use Rattle.family.specs.Below.{IsFamily}
 use Rattle.world.specs.Law.{Goes, Tells}
 use Rattle.builtins_objects.specs.Going.{HasChildren, forgotten}
 
 -- ---- one child goes
 
-module _ (w : World) (sound : IsWellFormed w) (o p c : ℤ) (cs : List ℤ) (has : HasChildren w o p (c ∷ cs)) where
+module _ (w : World) (sound : ObjectsAgree w) (o p c : ℤ) (cs : List ℤ) (has : HasChildren w o p (c ∷ cs)) where
   house : Household w
-  house = household w (objects_of w sound)
+  house = household w sound
 
   pub child_of : parent_of (object_at w c) ≡ o
   child_of =
@@ -30,9 +30,8 @@ module _ (w : World) (sound : IsWellFormed w) (o p c : ℤ) (cs : List ℤ) (has
       let x = object_there (λ z. z.header.parent) (λ z. z.children) w c y.0 y.1 in
       ap parent_of x.1 ∙ sym (ap (λ (n : ℤ × List ℤ). n.0) x.2) ∙ y.2
 
-  pub raised_well : IsWellFormed (reparented w c p)
-  raised_well =
-      stays_so w (reparented w c p) sound (objects_agree (reparented w c p) (child_household w o p c cs house has)) (reparented_rest w c p) (reparented_players w c p)
+  pub raised_well : ObjectsAgree (reparented w c p)
+  raised_well = objects_agree (reparented w c p) (child_household w o p c cs house has)
 
   pub raised_has : HasChildren (reparented w c p) o p cs
   raised_has = fewer_children w o p c cs house has
@@ -88,6 +87,37 @@ absent_told get holds now a b o told w left = let t = told w left in (t.0, t.1.0
     go None e = refl
     go (Some x) e = cc
 
+-- its parent and its place forget it, and it is gone
+pub forgot_told : {V A E : Type 0} (holds : V → World → Type 0) (now : V → World → World) (a b c d : V) (r : Result A E) (o parent place : ℤ)
+    → Goes holds now a b (λ was is. is ≡ lose_child was parent o) → Goes holds now b c (λ was is. is ≡ out_of_place was place o)
+    → OnOk r (Goes holds now c d (λ was is. is ≡ apply (new_object o None) was)) → OnOk r (Goes holds now a d (λ was is. is ≡ forgotten was o parent place))
+forgot_told holds now a b c d (Err x) o parent place first second third = tt
+forgot_told holds now a b c d (Ok x) o parent place first second third = λ w left.
+    let t = third w left in
+    let u = second w t.0 in
+    let v = first w u.0 in
+    (v.0, t.1 ∙ ap (apply (new_object o None)) (u.1 ∙ ap (λ y. out_of_place y place o) v.1))
+
+-- those that are left agree
+pub gone_well : {V A E : Type 0} (holds : V → World → Type 0) (now : V → World → World) (a b : V) (r : Result A E) (o : ℤ) → OnOk r (Goes holds now a b (λ was is. is ≡ recycled was o))
+    → AreAgreeing holds now a → OnOk r (AreAgreeing holds now b)
+gone_well holds now a b (Err x) o told known = tt
+gone_well holds now a b (Ok x) o told known = λ w left. let t = told w left in subst ObjectsAgree (sym t.1) (recycled_keeps (now a w) o (known w t.0))
+
+-- ---- the children that are left
+
+next : (cs : List ℤ) (i : ℕ) → i < length cs → drop i cs ≡ get_or cs i (pos 0) ∷ drop (i + 1) cs
+next cs i h = let e : suc i ≡ i + 1 = omega arith in drop-cons cs i (pos 0) h ∙ ap (λ j. get_or cs i (pos 0) ∷ drop j cs) e
+
+pub has_next : {V : Type 0} (holds : V → World → Type 0) (now : V → World → World) (a : V) (o p : ℤ) (cs : List ℤ) (i : ℕ) → i < length cs
+    → ((w : World) → holds a w → HasChildren (now a w) o p (drop i cs)) → (w : World) → holds a w → HasChildren (now a w) o p (get_or cs i (pos 0) ∷ drop (i + 1) cs)
+has_next holds now a o p cs i h has w left = subst (HasChildren (now a w) o p) (next cs i h) (has w left)
+
+pub each_next : {V : Type 0} (holds : V → World → Type 0) (now : V → World → World) (start a : V) (p : ℤ) (cs : List ℤ) (i : ℕ) → i < length cs
+    → Goes holds now start a (λ was is. reparented_each is (drop i cs) p ≡ reparented_each was cs p)
+    → Goes holds now start a (λ was is. reparented_each is (get_or cs i (pos 0) ∷ drop (i + 1) cs) p ≡ reparented_each was cs p)
+each_next holds now start a p cs i h before w left = let t = before w left in (t.0, ap (λ ds. reparented_each (now a w) ds p) (sym (next cs i h)) ∙ t.1)
+
 -- ---- over a view, child by child
 
 pub raise_told : {V A E : Type 0} (holds : V → World → Type 0) (now : V → World → World) (a b c : V) (r : Result A E) (o child p : ℤ) (ds : List ℤ)
@@ -100,13 +130,21 @@ raise_told holds now a b c (Ok x) o child p ds family told = λ w left.
     let u = family w t.0 in
     (u.0, λ e. t.1 (subst (λ y. IsFamily y child ds) (sym u.1.0) u.1.1) (ap (λ y. parent_of (object_at y child)) u.1.0 ∙ e) ∙ ap (λ y. reparented y child p) u.1.0)
 
-module _ {V : Type 0} (holds : V → World → Type 0) (now : V → World → World) (a b : V) (o p c : ℤ) (cs : List ℤ) (known : AreWellFormed holds now a)
+module _ {V : Type 0} (holds : V → World → Type 0) (now : V → World → World) (a b : V) (o p c : ℤ) (cs : List ℤ) (known : AreAgreeing holds now a)
     (has : (w : World) → holds a w → HasChildren (now a w) o p (c ∷ cs)) (told : Goes holds now a b (λ was is. parent_of (object_at was c) ≡ o → is ≡ reparented was c p)) where
   pub after_one : (w : World) → holds b w → now b w ≡ reparented (now a w) c p
   after_one w left = let t = told w left in t.1 (child_of (now a w) (known w t.0) o p c cs (has w t.0))
 
-  pub well_after : AreWellFormed holds now b
-  well_after w left = let t = told w left in subst IsWellFormed (sym (after_one w left)) (raised_well (now a w) (known w t.0) o p c cs (has w t.0))
+  pub well_after : AreAgreeing holds now b
+  well_after w left = let t = told w left in subst ObjectsAgree (sym (after_one w left)) (raised_well (now a w) (known w t.0) o p c cs (has w t.0))
 
   pub has_after : (w : World) → holds b w → HasChildren (now b w) o p cs
   has_after w left = let t = told w left in subst (λ y. HasChildren y o p cs) (sym (after_one w left)) (raised_has (now a w) (known w t.0) o p c cs (has w t.0))
+
+  -- and those that are still to go
+  pub each_after : (start : V) (all : List ℤ) → Goes holds now start a (λ was is. reparented_each is (c ∷ cs) p ≡ reparented_each was all p)
+      → Goes holds now start b (λ was is. reparented_each is cs p ≡ reparented_each was all p)
+  each_after start all before w left =
+      let t = told w left in
+      let u = before w t.0 in
+      (u.0, ap (λ y. reparented_each y cs p) (after_one w left) ∙ u.1)

@@ -2,3 +2,4 @@ pub mod Chains
 pub mod Parents
 pub mod Gone
 pub mod RowsKeep
+pub mod Flags

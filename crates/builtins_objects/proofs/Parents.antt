@@ -4,14 +4,14 @@ use Rattle.std.specs.Ordering.{int_eq}
 use Rattle.spec_value.specs.Datum.{Datum, object, invalid_argument, ErrorCode}
 use Rattle.spec_value.specs.Answer.{gives, raises}
 use Rattle.spec_world.specs.World.{World, object_at}
-use Rattle.spec_world.specs.WellFormed.{IsWellFormed}
+use Rattle.spec_world.specs.Agreeing.{ObjectsAgree}
 use Rattle.spec_world.specs.Families.{parent_of, is_below, clashes, reparented}
 use Rattle.spec_world.proofs.Trees.{same_or_not}
 use Rattle.spec_moo.specs.Scene.{Scene, in_world}
 use Rattle.spec_moo.specs.NativeEffect.{Caller, NativeEffect, answers, refuses}
 use Rattle.spec_moo.specs.Natives.Rows.{unless, wants, answers_with, zero_value}
 use Rattle.spec_moo.specs.Natives.Objects.{another_parent, chparent_row}
-use Rattle.inherit.specs.Lines.{AreWellFormed}
+use Rattle.inherit.specs.Lines.{AreAgreeing}
 use Rattle.family.specs.Below.{IsFamily}
 use Rattle.world.specs.Law.{Goes, Tells}
 use Rattle.builtins_world.specs.Said.{Does, with_programmer}
@@ -48,14 +48,14 @@ module _ {V : Type 0} (holds : V → World → Type 0) (now : V → World → Wo
       (t.0, λ s c. row_is (now a w) who o p s c ∙ ap (λ m. by_verdict (in_world s (now a w)) m (rest o p (in_world s (now a w)))) t.1.1 ∙ ap (λ v. refuses (in_world s v) e) (sym t.1.0))
 
   -- a property clashes
-  pub clashing_told : (a b c d : V) (ds : List ℤ) → AreWellFormed holds now a → Tells holds now a b (λ w. verdict (parent_checks w who o p) ≡ None)
+  pub clashing_told : (a b c d : V) (ds : List ℤ) → AreAgreeing holds now a → Tells holds now a b (λ w. verdict (parent_checks w who o p) ≡ None)
       → Tells holds now b c (λ w. IsFamily w o ds) → Tells holds now c d (λ w. any_clashes w p ds ≡ true)
       → Goes holds now a d (λ before after. Does (λ s c. chparent_row s c (object o ∷ object p ∷ [])) before after who (raises invalid_argument))
   clashing_told a b c d ds known first second third = λ w left.
       let t = third w left in
       let u = second w t.0 in
       let v = first w u.0 in
-      let sound : IsWellFormed (now a w) = known w v.0 in
+      let sound : ObjectsAgree (now a w) = known w v.0 in
       let family : IsFamily (now a w) o ds = subst (λ x. IsFamily x o ds) v.1.0 u.1.1 in
       let same : now c w ≡ now a w = u.1.0 ∙ v.1.0 in
       let clash : clashes (now a w) o p ≡ true = sym (clashes_so (now a w) sound p o ds family) ∙ ap (λ x. any_clashes x p ds) (sym same) ∙ t.1.1 in (
@@ -65,7 +65,7 @@ module _ {V : Type 0} (holds : V → World → Type 0) (now : V → World → Wo
             ∙ ap (λ x. refuses (in_world s x) invalid_argument) (sym (t.1.0 ∙ same)),
       )
 
-  pub adopted_told : (a b c d e : V) (ds : List ℤ) (v : Datum) → v ≡ zero_value → AreWellFormed holds now a → Tells holds now a b (λ w. verdict (parent_checks w who o p) ≡ None)
+  pub adopted_told : (a b c d e : V) (ds : List ℤ) (v : Datum) → v ≡ zero_value → AreAgreeing holds now a → Tells holds now a b (λ w. verdict (parent_checks w who o p) ≡ None)
       → Tells holds now b c (λ w. IsFamily w o ds) → Tells holds now c d (λ w. any_clashes w p ds ≡ false)
       → Goes holds now d e (λ was is. IsFamily was o ds → is ≡ adopted was o p)
       → Goes holds now a e (λ before after. Does (λ s c. chparent_row s c (object o ∷ object p ∷ [])) before after who (gives v))
@@ -74,7 +74,7 @@ module _ {V : Type 0} (holds : V → World → Type 0) (now : V → World → Wo
       let t = third w q.0 in
       let u = second w t.0 in
       let f = first w u.0 in
-      let sound : IsWellFormed (now a w) = known w f.0 in
+      let sound : ObjectsAgree (now a w) = known w f.0 in
       let family : IsFamily (now a w) o ds = subst (λ x. IsFamily x o ds) f.1.0 u.1.1 in
       let same : now c w ≡ now a w = u.1.0 ∙ f.1.0 in
       let all : now d w ≡ now a w = t.1.0 ∙ same in

@@ -4,7 +4,7 @@ ghost use Rattle.std.specs.Ordering.{int_eq};
 ghost use Rattle.spec_world.specs.World.{object_at};
 ghost use Rattle.spec_world.specs.Families.{is_below as is_below_of};
 ghost use Rattle.spec_world.specs.Permissions.{may as may_of};
-ghost use Rattle.inherit.specs.Lines.{AreWellFormed};
+ghost use Rattle.inherit.specs.Lines.{AreAgreeing};
 ghost use Rattle.permissions.specs.Acts.{act_of};
 ghost use Rattle.world.specs.Law.{Lasts, Tells};
 
@@ -73,7 +73,7 @@ pub fn is_below<V: View>(
     lower: i32,
 ) -> Result<bool, AllocError>
     requires home { V.holds view.old (V.home view.old) }
-    requires well_formed { AreWellFormed V.holds V.now view.old }
+    requires well_formed { AreAgreeing V.holds V.now view.old }
     ensures lasts { Lasts V.holds V.home V.anchor view.old view.new result }
     ensures left { IfOk result (λ b. Tells V.holds V.now view.old view.new (λ w. is_below_of w object lower ≡ b)) }
 {

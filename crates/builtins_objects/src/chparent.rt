@@ -6,7 +6,7 @@ ghost use Rattle.spec_world.specs.Families.{parent_of as parent_in};
 ghost use Rattle.spec_moo.specs.Natives.Objects.{chparent_row};
 ghost use Rattle.moo_value.specs.Answers.{answer_of};
 ghost use Rattle.moo_value.specs.Errors.{code_of};
-ghost use Rattle.inherit.specs.Lines.{AreWellFormed};
+ghost use Rattle.inherit.specs.Lines.{AreAgreeing};
 ghost use Rattle.family.specs.Below.{IsFamily};
 ghost use Rattle.world.specs.Law.{Goes, Lasts, Tells};
 ghost use Rattle.builtins_world.specs.Said.{Does};
@@ -36,11 +36,11 @@ pub fn chparent<V: View>(
     parent: i32,
 ) -> Result<Answer, AllocError>
     requires home { V.holds view.old (V.home view.old) }
-    requires well_formed { AreWellFormed V.holds V.now view.old }
+    requires well_formed { AreAgreeing V.holds V.now view.old }
     ensures lasts { Lasts V.holds V.home V.anchor view.old view.new result }
     ensures left { IfOk result (λ a. Goes V.holds V.now view.old view.new
         (λ before after. Does (λ s c. chparent_row s c (object_of object ∷ object_of parent ∷ [])) before after programmer (answer_of a))) }
-    ensures well_formed { OnOk result (AreWellFormed V.holds V.now view.new) }
+    ensures well_formed { OnOk result (AreAgreeing V.holds V.now view.new) }
 {
     change_parent(alloc, view, programmer, object, parent)
 }
@@ -53,7 +53,7 @@ fn change_parent<V: View>(
     parent: i32,
 ) -> Result<Answer, AllocError>
     requires home { V.holds view.old (V.home view.old) }
-    requires well_formed { AreWellFormed V.holds V.now view.old }
+    requires well_formed { AreAgreeing V.holds V.now view.old }
     ensures lasts { Lasts V.holds V.home V.anchor view.old view.new result }
     ensures left { IfOk result (λ a. Goes V.holds V.now view.old view.new
         (λ before after. Does (λ s c. chparent_row s c (object_of object ∷ object_of parent ∷ [])) before after programmer (answer_of a))) }
@@ -80,7 +80,7 @@ fn refusal<V: View>(
     parent: i32,
 ) -> Result<Option<MooError>, AllocError>
     requires home { V.holds view.old (V.home view.old) }
-    requires well_formed { AreWellFormed V.holds V.now view.old }
+    requires well_formed { AreAgreeing V.holds V.now view.old }
     ensures lasts { Lasts V.holds V.home V.anchor view.old view.new result }
     ensures left { IfOk result (λ e. Tells V.holds V.now view.old view.new
         (λ w. verdict (parent_checks w programmer object parent) ≡ option_map code_of e)) }
@@ -114,7 +114,7 @@ fn adopt<V: View>(
     parent: i32,
 ) -> Result<(), AllocError>
     requires home { V.holds view.old (V.home view.old) }
-    requires well_formed { AreWellFormed V.holds V.now view.old }
+    requires well_formed { AreAgreeing V.holds V.now view.old }
     ensures lasts { Lasts V.holds V.home V.anchor view.old view.new result }
     ensures left { OnOk result (Goes V.holds V.now view.old view.new (λ was is. IsFamily was object family.now → is ≡ adopted was object parent)) }
 {

@@ -5,4 +5,5 @@
 
 pub mod asked;
 pub mod chparent;
+pub mod players;
 pub mod recycling;

@@ -2,7 +2,7 @@
 ghost use Rattle.std.specs.Prelude.{◌≡◌, OnOk};
 ghost use Rattle.spec_world.specs.World.{World, object_at};
 ghost use Rattle.spec_world.specs.Families.{parent_of, recycled, reparented, reparented_each, to_nowhere};
-ghost use Rattle.inherit.specs.Lines.{AreWellFormed};
+ghost use Rattle.inherit.specs.Lines.{AreAgreeing};
 ghost use Rattle.world.specs.Law.{Goes, Lasts};
 ghost use Rattle.builtins_objects.specs.Going.{forgotten, HasChildren};
 
@@ -17,7 +17,17 @@ use world::readers::{read_children, read_contents, read_header, write_object};
 /// An object goes, if it is there: its children go to its parent, and its contents to no place.
 pub fn recycle_object<V: View>(alloc: Global, view: &mut V, object: i32) -> Result<(), AllocError>
     requires home { V.holds view.old (V.home view.old) }
-    requires well_formed { AreWellFormed V.holds V.now view.old }
+    requires well_formed { AreAgreeing V.holds V.now view.old }
+    ensures lasts { Lasts V.holds V.home V.anchor view.old view.new result }
+    ensures left { OnOk result (Goes V.holds V.now view.old view.new (λ was is. is ≡ recycled was object)) }
+    ensures well_formed { OnOk result (AreAgreeing V.holds V.now view.new) }
+{
+    let_go(alloc, view, object)
+}
+
+fn let_go<V: View>(alloc: Global, view: &mut V, object: i32) -> Result<(), AllocError>
+    requires home { V.holds view.old (V.home view.old) }
+    requires well_formed { AreAgreeing V.holds V.now view.old }
     ensures lasts { Lasts V.holds V.home V.anchor view.old view.new result }
     ensures left { OnOk result (Goes V.holds V.now view.old view.new (λ was is. is ≡ recycled was object)) }
 {
@@ -47,7 +57,7 @@ fn raise_children<V: View>(
     children: &[i32],
 ) -> Result<(), AllocError>
     requires home { V.holds view.old (V.home view.old) }
-    requires well_formed { AreWellFormed V.holds V.now view.old }
+    requires well_formed { AreAgreeing V.holds V.now view.old }
     requires known { (w : World) → V.holds view.old w → HasChildren (V.now view.old w) object parent children.now }
     ensures lasts { Lasts V.holds V.home V.anchor view.old view.new result }
     ensures left { OnOk result (Goes V.holds V.now view.old view.new (λ was is. is ≡ reparented_each was children.now parent)) }
@@ -67,7 +77,7 @@ fn raise_child<V: View>(
     parent: i32,
 ) -> Result<(), AllocError>
     requires home { V.holds view.old (V.home view.old) }
-    requires well_formed { AreWellFormed V.holds V.now view.old }
+    requires well_formed { AreAgreeing V.holds V.now view.old }
     ensures lasts { Lasts V.holds V.home V.anchor view.old view.new result }
     ensures left { OnOk result (Goes V.holds V.now view.old view.new (λ was is.
         parent_of (object_at was child) ≡ object → is ≡ reparented was child parent)) }

@@ -23,7 +23,7 @@ use Rattle.spec_view.specs.Questions.{header_at}
 use Rattle.spec_moo.specs.Scene.{in_world}
 use Rattle.spec_moo.specs.Natives.Rows.{list_value, answers_with}
 use Rattle.spec_moo.specs.Natives.Objects.{as_objects, players_among, players_row}
-use Rattle.inherit.specs.Lines.{AreWellFormed}
+use Rattle.inherit.specs.Lines.{AreAgreeing}
 use Rattle.world.specs.Law.{Tells}
 use Rattle.builtins_world.specs.Said.{Says}
 use Rattle.builtins_players.specs.Counting.{numbers_to, player_in, players_from}
@@ -203,7 +203,7 @@ module _ {V : Type 0} (holds : V → World → Type 0) (now : V → World → Wo
   pub no_more : (a b : V) (n k : ℕ) (all : List ℤ) → k ≤ n → Tells holds now a b (λ w. all ++ players_from w n (k - n) ≡ players_from w 0 k) → Tells holds now a b (λ w. players_from w 0 k ≡ all)
   no_more a b n k all past so w left = let t = so w left in (t.0, (t.1.0, asked_all (now a w) n k all past t.1.1))
 
-  pub players_told : (a b c : V) (g : ℤ) (k : ℕ) (all : List ℤ) (x : Datum) → AreWellFormed holds now a → Tells holds now a b (λ w. w.greatest ≡ g) → k ≡ numbers_to g
+  pub players_told : (a b c : V) (g : ℤ) (k : ℕ) (all : List ℤ) (x : Datum) → AreAgreeing holds now a → Tells holds now a b (λ w. w.greatest ≡ g) → k ≡ numbers_to g
       → Tells holds now b c (λ w. players_from w 0 k ≡ all) → x ≡ list_value (as_objects all) → Tells holds now a c (λ w. (who : ℤ) → Says (λ s c. players_row s c []) w who (gives x))
   players_told a b c g k all x known greatest count so value w left =
       let t = so w left in

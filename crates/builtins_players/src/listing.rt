@@ -3,7 +3,7 @@ ghost use Rattle.std.specs.Prelude.{◌≡◌, ◌++◌, ◌≤◌, ℤ, [], IfO
 ghost use Rattle.spec_view.specs.Questions.{header_at};
 ghost use Rattle.spec_moo.specs.Natives.Objects.{players_row};
 ghost use Rattle.moo_value.specs.Answers.{answer_of};
-ghost use Rattle.inherit.specs.Lines.{AreWellFormed};
+ghost use Rattle.inherit.specs.Lines.{AreAgreeing};
 ghost use Rattle.world.specs.Law.{Lasts, Tells};
 ghost use Rattle.builtins_world.specs.Said.{Says};
 ghost use Rattle.builtins_players.specs.Counting.{numbers_to, player_in, players_from};
@@ -17,7 +17,7 @@ use world::readers::{read_greatest, read_header};
 /// `players`: the players, in the order of their numbers. Each number that an object has had is asked for, so this takes time and
 /// reads in proportion to the greatest of them.
 pub fn players<V: View>(alloc: Global, view: &mut V) -> Result<Answer, AllocError>
-    requires well_formed { AreWellFormed V.holds V.now view.old }
+    requires well_formed { AreAgreeing V.holds V.now view.old }
     ensures lasts { Lasts V.holds V.home V.anchor view.old view.new result }
     ensures left { IfOk result (λ a. Tells V.holds V.now view.old view.new
         (λ w. (who : ℤ) → Says (λ s c. players_row s c []) w who (answer_of a))) }

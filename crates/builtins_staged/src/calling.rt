@@ -2,7 +2,7 @@
 ghost use Rattle.std.specs.Prelude.{◌≡◌, IfOk};
 ghost use Rattle.spec_value.specs.Datum.{of_list};
 ghost use Rattle.moo_task.specs.Frames.{native_of};
-ghost use Rattle.inherit.specs.Lines.{AreWellFormed};
+ghost use Rattle.inherit.specs.Lines.{AreAgreeing};
 ghost use Rattle.world.specs.Law.{Lasts, Tells};
 ghost use Rattle.builtins_staged.specs.Led.{MayBegin};
 
@@ -27,7 +27,7 @@ pub fn begins<V: View>(
     arguments: Vec<Value>,
 ) -> Result<Option<NativeEffect>, AllocError>
     requires home { V.holds view.old (V.home view.old) }
-    requires well_formed { AreWellFormed V.holds V.now view.old }
+    requires well_formed { AreAgreeing V.holds V.now view.old }
     ensures lasts { Lasts V.holds V.home V.anchor view.old view.new result }
     ensures left { IfOk result (λ m. Tells V.holds V.now view.old view.new (λ w. MayBegin (native_of native) object word (of_list arguments.items) w call.now m)) }
 {

@@ -3,7 +3,7 @@ ghost use Rattle.std.specs.Prelude.{◌≡◌, [], Some, IfOk, OnOk};
 ghost use Rattle.spec_world.specs.World.{World, object_at};
 ghost use Rattle.spec_world.specs.Families.{created, heir_slots as heir_slots_of, slots_at};
 ghost use Rattle.spec_world.specs.ObjectLaws.{IsPlace};
-ghost use Rattle.inherit.specs.Lines.{AreWellFormed};
+ghost use Rattle.inherit.specs.Lines.{AreAgreeing};
 ghost use Rattle.world.specs.Law.{Goes, Lasts, Tells};
 ghost use Rattle.builtins_staged.specs.Children.{child_header, child_with, put_heirs, IsNext};
 
@@ -29,12 +29,12 @@ pub fn make_child<V: View>(
     number: i32,
 ) -> Result<(), AllocError>
     requires home { V.holds view.old (V.home view.old) }
-    requires well_formed { AreWellFormed V.holds V.now view.old }
+    requires well_formed { AreAgreeing V.holds V.now view.old }
     requires place { (w : World) → V.holds view.old w → IsPlace (V.now view.old w) parent }
     requires next { (w : World) → V.holds view.old w → IsNext (V.now view.old w) (Some number) }
     ensures lasts { Lasts V.holds V.home V.anchor view.old view.new result }
     ensures left { OnOk result (Goes V.holds V.now view.old view.new (λ was is. is ≡ created was parent owner)) }
-    ensures well_formed { OnOk result (AreWellFormed V.holds V.now view.new) }
+    ensures well_formed { OnOk result (AreAgreeing V.holds V.now view.new) }
 {
     let slots = heir_slots(alloc, view, parent, owner)?;
     let child = child(alloc, parent, owner, slots)?;
@@ -51,7 +51,7 @@ fn heir_slots<V: View>(
     owner: i32,
 ) -> Result<Slots, AllocError>
     requires home { V.holds view.old (V.home view.old) }
-    requires well_formed { AreWellFormed V.holds V.now view.old }
+    requires well_formed { AreAgreeing V.holds V.now view.old }
     ensures lasts { Lasts V.holds V.home V.anchor view.old view.new result }
     ensures left { IfOk result (λ ss. Tells V.holds V.now view.old view.new (λ w. ss ≡ heir_slots_of owner (slots_at (object_at w parent)))) }
 {

@@ -5,7 +5,7 @@ ghost use Rattle.spec_value.specs.Datum.{object as object_of};
 ghost use Rattle.spec_world.specs.World.{World, object_at};
 ghost use Rattle.spec_world.specs.ObjectLaws.{IsPlace};
 ghost use Rattle.spec_moo.specs.Natives.Objects.{create_for as create_for_of, create_row, create_with};
-ghost use Rattle.inherit.specs.Lines.{AreWellFormed};
+ghost use Rattle.inherit.specs.Lines.{AreAgreeing};
 ghost use Rattle.world.specs.Law.{Goes, Lasts, Tells};
 ghost use Rattle.builtins_staged.specs.Led.{Leads};
 ghost use Rattle.builtins_staged.specs.Children.{initialized, IsAfter, IsNext};
@@ -36,11 +36,11 @@ pub fn create<V: View>(
     parent: i32,
 ) -> Result<NativeEffect, AllocError>
     requires home { V.holds view.old (V.home view.old) }
-    requires well_formed { AreWellFormed V.holds V.now view.old }
+    requires well_formed { AreAgreeing V.holds V.now view.old }
     ensures lasts { Lasts V.holds V.home V.anchor view.old view.new result }
     ensures left { IfOk result (λ e. Goes V.holds V.now view.old view.new
         (λ before after. Leads (λ s c. create_row s c (object_of parent ∷ [])) before after call.now e)) }
-    ensures well_formed { OnOk result (AreWellFormed V.holds V.now view.new) }
+    ensures well_formed { OnOk result (AreAgreeing V.holds V.now view.new) }
 {
     let there = is_place(view, parent)?;
     if !there {
@@ -61,11 +61,11 @@ pub fn create_for<V: View>(
     owner: i32,
 ) -> Result<NativeEffect, AllocError>
     requires home { V.holds view.old (V.home view.old) }
-    requires well_formed { AreWellFormed V.holds V.now view.old }
+    requires well_formed { AreAgreeing V.holds V.now view.old }
     ensures lasts { Lasts V.holds V.home V.anchor view.old view.new result }
     ensures left { IfOk result (λ e. Goes V.holds V.now view.old view.new
         (λ before after. Leads (λ s c. create_row s c (object_of parent ∷ object_of owner ∷ [])) before after call.now e)) }
-    ensures well_formed { OnOk result (AreWellFormed V.holds V.now view.new) }
+    ensures well_formed { OnOk result (AreAgreeing V.holds V.now view.new) }
 {
     let there = is_place_and_there(view, parent, owner)?;
     if !there {
@@ -100,12 +100,12 @@ fn create_allowed<V: View>(
     arguments: Vec<Value>,
 ) -> Result<NativeEffect, AllocError>
     requires home { V.holds view.old (V.home view.old) }
-    requires well_formed { AreWellFormed V.holds V.now view.old }
+    requires well_formed { AreAgreeing V.holds V.now view.old }
     requires place { (w : World) → V.holds view.old w → IsPlace (V.now view.old w) parent }
     ensures lasts { Lasts V.holds V.home V.anchor view.old view.new result }
     ensures left { IfOk result (λ e. Goes V.holds V.now view.old view.new
         (λ before after. Leads (λ s c. create_for_of s c parent owner arguments.items) before after call.now e)) }
-    ensures well_formed { OnOk result (AreWellFormed V.holds V.now view.new) }
+    ensures well_formed { OnOk result (AreAgreeing V.holds V.now view.new) }
 {
     let allowed = may_both(
         view,
@@ -135,13 +135,13 @@ fn create_under<V: View>(
     arguments: Vec<Value>,
 ) -> Result<NativeEffect, AllocError>
     requires home { V.holds view.old (V.home view.old) }
-    requires well_formed { AreWellFormed V.holds V.now view.old }
+    requires well_formed { AreAgreeing V.holds V.now view.old }
     requires place { (w : World) → V.holds view.old w → IsPlace (V.now view.old w) parent }
     requires next { (w : World) → V.holds view.old w → IsNext (V.now view.old w) (Some number) }
     ensures lasts { Lasts V.holds V.home V.anchor view.old view.new result }
     ensures left { IfOk result (λ e. Goes V.holds V.now view.old view.new
         (λ before after. Leads (λ s c. create_with s c parent owner arguments.items) before after call.now e)) }
-    ensures well_formed { OnOk result (AreWellFormed V.holds V.now view.new) }
+    ensures well_formed { OnOk result (AreAgreeing V.holds V.now view.new) }
 {
     make_child(alloc, view, parent, owner, number)?;
     let effect = initialize(alloc, view, call, number, arguments)?;
@@ -157,7 +157,7 @@ fn initialize<V: View>(
     arguments: Vec<Value>,
 ) -> Result<NativeEffect, AllocError>
     requires home { V.holds view.old (V.home view.old) }
-    requires well_formed { AreWellFormed V.holds V.now view.old }
+    requires well_formed { AreAgreeing V.holds V.now view.old }
     ensures lasts { Lasts V.holds V.home V.anchor view.old view.new result }
     ensures left { IfOk result (λ e. Tells V.holds V.now view.old view.new
         (λ w. Leads (λ s c. initialized s c number arguments.items) w w call.now e)) }

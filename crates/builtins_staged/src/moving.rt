@@ -7,7 +7,7 @@ ghost use Rattle.spec_world.specs.Naming.{location_of};
 ghost use Rattle.spec_world.specs.Permissions.{is_wizard as is_wizard_of};
 ghost use Rattle.spec_moo.specs.Natives.Objects.{accepted as accepted_of, asked, gone_over as gone_over_of, move_now as move_now_of, move_row, stage, told_to_enter as told_to_enter_of};
 ghost use Rattle.moo_value.specs.Errors.{code_of};
-ghost use Rattle.inherit.specs.Lines.{AreWellFormed};
+ghost use Rattle.inherit.specs.Lines.{AreAgreeing};
 ghost use Rattle.world.specs.Law.{Goes, Lasts, Tells};
 ghost use Rattle.builtins_objects.specs.Verdict.{verdict};
 ghost use Rattle.builtins_staged.specs.Led.{Leads, MayBegin};
@@ -38,11 +38,11 @@ pub fn move_object<V: View>(
     place: i32,
 ) -> Result<NativeEffect, AllocError>
     requires home { V.holds view.old (V.home view.old) }
-    requires well_formed { AreWellFormed V.holds V.now view.old }
+    requires well_formed { AreAgreeing V.holds V.now view.old }
     ensures lasts { Lasts V.holds V.home V.anchor view.old view.new result }
     ensures left { IfOk result (λ e. Goes V.holds V.now view.old view.new
         (λ before after. Leads (λ s c. move_row s c (object_of what ∷ object_of place ∷ [])) before after call.now e)) }
-    ensures well_formed { OnOk result (AreWellFormed V.holds V.now view.new) }
+    ensures well_formed { OnOk result (AreAgreeing V.holds V.now view.new) }
 {
     let refused = first_refusal(view, call.programmer, what, place)?;
     if let Some(error) = refused {
@@ -61,12 +61,12 @@ fn ask_place<V: View>(
     place: i32,
 ) -> Result<NativeEffect, AllocError>
     requires home { V.holds view.old (V.home view.old) }
-    requires well_formed { AreWellFormed V.holds V.now view.old }
+    requires well_formed { AreAgreeing V.holds V.now view.old }
     requires may_move { (w : World) → V.holds view.old w → MayMove (V.now view.old w) what place }
     ensures lasts { Lasts V.holds V.home V.anchor view.old view.new result }
     ensures left { IfOk result (λ e. Goes V.holds V.now view.old view.new
         (λ before after. Leads (λ s c. asked s c what place) before after call.now e)) }
-    ensures well_formed { OnOk result (AreWellFormed V.holds V.now view.new) }
+    ensures well_formed { OnOk result (AreAgreeing V.holds V.now view.new) }
 {
     let there = is_there(view, place)?;
     if !there {
@@ -90,7 +90,7 @@ fn accept<V: View>(
     place: i32,
 ) -> Result<Option<NativeEffect>, AllocError>
     requires home { V.holds view.old (V.home view.old) }
-    requires well_formed { AreWellFormed V.holds V.now view.old }
+    requires well_formed { AreAgreeing V.holds V.now view.old }
     ensures lasts { Lasts V.holds V.home V.anchor view.old view.new result }
     ensures left { IfOk result (λ m. Tells V.holds V.now view.old view.new
         (λ w. MayBegin (stage move_native (object_of what ∷ object_of place ∷ [])) place (codes "accept") (item (object_of what) no_data) w call.now m)) }
@@ -118,11 +118,11 @@ pub fn accepted<V: View>(
     let_in: bool,
 ) -> Result<NativeEffect, AllocError>
     requires home { V.holds view.old (V.home view.old) }
-    requires well_formed { AreWellFormed V.holds V.now view.old }
+    requires well_formed { AreAgreeing V.holds V.now view.old }
     ensures lasts { Lasts V.holds V.home V.anchor view.old view.new result }
     ensures left { IfOk result (λ e. Goes V.holds V.now view.old view.new
         (λ before after. Leads (λ s c. accepted_of s c what place let_in) before after call.now e)) }
-    ensures well_formed { OnOk result (AreWellFormed V.holds V.now view.new) }
+    ensures well_formed { OnOk result (AreAgreeing V.holds V.now view.new) }
 {
     let welcome = is_welcome(view, call.programmer, let_in)?;
     if !welcome {
@@ -153,12 +153,12 @@ fn move_now<V: View>(
     place: i32,
 ) -> Result<NativeEffect, AllocError>
     requires home { V.holds view.old (V.home view.old) }
-    requires well_formed { AreWellFormed V.holds V.now view.old }
+    requires well_formed { AreAgreeing V.holds V.now view.old }
     requires may_move { (w : World) → V.holds view.old w → MayMove (V.now view.old w) what place }
     ensures lasts { Lasts V.holds V.home V.anchor view.old view.new result }
     ensures left { IfOk result (λ e. Goes V.holds V.now view.old view.new
         (λ before after. Leads (λ s c. move_now_of s c what place) before after call.now e)) }
-    ensures well_formed { OnOk result (AreWellFormed V.holds V.now view.new) }
+    ensures well_formed { OnOk result (AreAgreeing V.holds V.now view.new) }
 {
     let before = location(view, what)?;
     if before == place {
@@ -179,7 +179,7 @@ fn tell_left<V: View>(
     before: i32,
 ) -> Result<NativeEffect, AllocError>
     requires home { V.holds view.old (V.home view.old) }
-    requires well_formed { AreWellFormed V.holds V.now view.old }
+    requires well_formed { AreAgreeing V.holds V.now view.old }
     ensures lasts { Lasts V.holds V.home V.anchor view.old view.new result }
     ensures left { IfOk result (λ e. Tells V.holds V.now view.old view.new
         (λ w. Leads (λ s c. gone_over_of s c what place before) w w call.now e)) }
@@ -211,7 +211,7 @@ pub fn told_to_enter<V: View>(
     before: i32,
 ) -> Result<NativeEffect, AllocError>
     requires home { V.holds view.old (V.home view.old) }
-    requires well_formed { AreWellFormed V.holds V.now view.old }
+    requires well_formed { AreAgreeing V.holds V.now view.old }
     ensures lasts { Lasts V.holds V.home V.anchor view.old view.new result }
     ensures left { IfOk result (λ e. Tells V.holds V.now view.old view.new
         (λ w. Leads (λ s c. told_to_enter_of s c what place before) w w call.now e)) }
@@ -259,7 +259,7 @@ fn first_refusal<V: View>(
     place: i32,
 ) -> Result<Option<MooError>, AllocError>
     requires home { V.holds view.old (V.home view.old) }
-    requires well_formed { AreWellFormed V.holds V.now view.old }
+    requires well_formed { AreAgreeing V.holds V.now view.old }
     ensures lasts { Lasts V.holds V.home V.anchor view.old view.new result }
     ensures left { IfOk result (λ e. Tells V.holds V.now view.old view.new
         (λ w. verdict (first_checks w programmer what place) ≡ option_map code_of e)) }
@@ -286,7 +286,7 @@ fn later_refusal<V: View>(
     place: i32,
 ) -> Result<Option<MooError>, AllocError>
     requires home { V.holds view.old (V.home view.old) }
-    requires well_formed { AreWellFormed V.holds V.now view.old }
+    requires well_formed { AreAgreeing V.holds V.now view.old }
     ensures lasts { Lasts V.holds V.home V.anchor view.old view.new result }
     ensures left { IfOk result (λ e. Tells V.holds V.now view.old view.new
         (λ w. verdict (later_checks w what place) ≡ option_map code_of e)) }

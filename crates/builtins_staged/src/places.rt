@@ -3,7 +3,7 @@ ghost use Rattle.std.specs.Prelude.{◌≡◌, IfOk, OnOk};
 ghost use Rattle.spec_world.specs.World.{World, object_at};
 ghost use Rattle.spec_world.specs.Naming.{location_of};
 ghost use Rattle.spec_world.specs.Whereabouts.{is_inside as is_inside_of, moved};
-ghost use Rattle.inherit.specs.Lines.{AreWellFormed};
+ghost use Rattle.inherit.specs.Lines.{AreAgreeing};
 ghost use Rattle.world.specs.Law.{Goes, Lasts, Tells};
 ghost use Rattle.builtins_staged.specs.Moves.{MayMove};
 
@@ -29,7 +29,7 @@ pub fn location<V: View>(view: &mut V, object: i32) -> Result<i32, AllocError>
 /// Whether a place is an object, or inside of it. `Err(AllocError)` after more than a million places, which no world has.
 pub fn is_inside<V: View>(view: &mut V, what: i32, place: i32) -> Result<bool, AllocError>
     requires home { V.holds view.old (V.home view.old) }
-    requires well_formed { AreWellFormed V.holds V.now view.old }
+    requires well_formed { AreAgreeing V.holds V.now view.old }
     ensures lasts { Lasts V.holds V.home V.anchor view.old view.new result }
     ensures left { IfOk result (λ b. Tells V.holds V.now view.old view.new (λ w. is_inside_of w what place ≡ b)) }
 {
@@ -56,12 +56,12 @@ pub fn go_over<V: View>(
     place: i32,
 ) -> Result<(), AllocError>
     requires home { V.holds view.old (V.home view.old) }
-    requires well_formed { AreWellFormed V.holds V.now view.old }
+    requires well_formed { AreAgreeing V.holds V.now view.old }
     requires may_move { (w : World) → V.holds view.old w → MayMove (V.now view.old w) what place }
     requires location { (w : World) → V.holds view.old w → location_of (object_at (V.now view.old w) what) ≡ before }
     ensures lasts { Lasts V.holds V.home V.anchor view.old view.new result }
     ensures left { OnOk result (Goes V.holds V.now view.old view.new (λ was is. is ≡ moved was what place)) }
-    ensures well_formed { OnOk result (AreWellFormed V.holds V.now view.new) }
+    ensures well_formed { OnOk result (AreAgreeing V.holds V.now view.new) }
 {
     out_of_place(alloc, view, before, what)?;
     put_location(view, what, place)?;

@@ -10,7 +10,7 @@ use Rattle.std.proofs.lemmas.Bool.{ltb-true, ltb-false}
 use Rattle.std.proofs.lemmas.Cmp.{int_ranked}
 use Rattle.std.proofs.lemmas.Int.{ints}
 use Rattle.std.proofs.Math.Dec.{ltb}
-use Rattle.spec_value.specs.Datum.{Datum}
+use Rattle.spec_value.specs.Datum.{Datum, object}
 use Rattle.spec_value.specs.Answer.{gives}
 use Rattle.spec_value.specs.Table.{Numbered, at, is_numbered}
 use Rattle.spec_value.proofs.Entries.{first_holds, second_holds}
@@ -188,6 +188,10 @@ unfolding players_from
 asked_all w n k all past so =
     let none : k - n ≡ 0 = omega (arith, past) in sym so ∙ ap (λ m. all ++ players_from w n m) none ∙ append-nil all
 
+as_mapped : (os : List ℤ) → as_objects os ≡ map object os
+as_mapped [] = refl
+as_mapped (o ∷ os) = ap (λ vs. object o ∷ vs) (as_mapped os)
+
 -- ---- over a view
 
 module _ {V : Type 0} (holds : V → World → Type 0) (now : V → World → World) where
@@ -203,18 +207,19 @@ module _ {V : Type 0} (holds : V → World → Type 0) (now : V → World → Wo
   pub no_more : (a b : V) (n k : ℕ) (all : List ℤ) → k ≤ n → Tells holds now a b (λ w. all ++ players_from w n (k - n) ≡ players_from w 0 k) → Tells holds now a b (λ w. players_from w 0 k ≡ all)
   no_more a b n k all past so w left = let t = so w left in (t.0, (t.1.0, asked_all (now a w) n k all past t.1.1))
 
-  pub players_told : (a b c : V) (g : ℤ) (k : ℕ) (all : List ℤ) (x : Datum) → AreAgreeing holds now a → Tells holds now a b (λ w. w.greatest ≡ g) → k ≡ numbers_to g
-      → Tells holds now b c (λ w. players_from w 0 k ≡ all) → x ≡ list_value (as_objects all) → Tells holds now a c (λ w. (who : ℤ) → Says (λ s c. players_row s c []) w who (gives x))
-  players_told a b c g k all x known greatest count so value w left =
+  pub players_told : (a b c : V) (g : ℤ) (k : ℕ) (all : List ℤ) (vs : List Datum) (x : Datum) → AreAgreeing holds now a → Tells holds now a b (λ w. w.greatest ≡ g) → k ≡ numbers_to g
+      → Tells holds now b c (λ w. players_from w 0 k ≡ all) → vs ≡ map object all → x ≡ list_value vs → Tells holds now a c (λ w. (who : ℤ) → Says (λ s c. players_row s c []) w who (gives x))
+  players_told a b c g k all vs x known greatest count so items value w left =
       let t = so w left in
       let u = greatest w t.0 in
       let h = known w u.0 in
       let listed : players_from (now a w) 0 k ≡ all = subst (λ (v : World). players_from v 0 k ≡ all) u.1.0 t.1.1 in
       let are : players_among (now a w).objects ≡ all =
-      sym (are_players (now a w) h.objects_in_order h.numbers) ∙ ap (players_from (now a w) 0) (ap numbers_to u.1.1 ∙ sym count) ∙ listed in (
+      sym (are_players (now a w) h.objects_in_order h.numbers) ∙ ap (players_from (now a w) 0) (ap numbers_to u.1.1 ∙ sym count) ∙ listed in
+      let shown : as_objects (players_among (now a w).objects) ≡ vs = ap as_objects are ∙ as_mapped all ∙ sym items in (
         u.0,
         (
           t.1.0 ∙ u.1.0,
-          λ who s k. ap (λ os. answers_with (in_world s (now a w)) (list_value (as_objects os))) are ∙ ap (λ v. answers_with (in_world s (now a w)) v) (sym value),
+          λ who s k. ap (λ us. answers_with (in_world s (now a w)) (list_value us)) shown ∙ ap (λ v. answers_with (in_world s (now a w)) v) (sym value),
         ),
       )

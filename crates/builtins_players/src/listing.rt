@@ -1,5 +1,6 @@
 //! All players.
-ghost use Rattle.std.specs.Prelude.{◌≡◌, ◌++◌, ◌≤◌, ℤ, [], IfOk, OnOk};
+ghost use Rattle.std.specs.Prelude.{◌≡◌, ◌++◌, ◌≤◌, ℤ, [], map, IfOk, OnOk};
+ghost use Rattle.spec_value.specs.Datum.{object as object_of};
 ghost use Rattle.spec_view.specs.Questions.{header_at};
 ghost use Rattle.spec_moo.specs.Natives.Objects.{players_row};
 ghost use Rattle.moo_value.specs.Answers.{answer_of};
@@ -8,8 +9,8 @@ ghost use Rattle.world.specs.Law.{Lasts, Tells};
 ghost use Rattle.builtins_world.specs.Said.{Says};
 ghost use Rattle.builtins_players.specs.Counting.{numbers_to, player_in, players_from};
 
-use builtins_world::values::objects_value;
 use moo_value::answer::Answer;
+use moo_value::value::Value;
 use std::alloc::{AllocError, Global};
 use world::law::View;
 use world::readers::{read_greatest, read_header};
@@ -25,7 +26,8 @@ pub fn players<V: View>(alloc: Global, view: &mut V) -> Result<Answer, AllocErro
     let greatest = read_greatest(view)?;
     let count = count_of(greatest);
     let players = among(alloc, view, count)?;
-    let value = objects_value(alloc, players.as_slice())?;
+    let items = objects(alloc, players.as_slice())?;
+    let value = Value::list(items)?;
     Ok(Ok(value))
 }
 
@@ -67,4 +69,13 @@ fn add_player<V: View>(view: &mut V, players: &mut Vec<i32>, object: i32) -> Res
         players.push(object)?;
     }
     Ok(())
+}
+
+fn objects(alloc: Global, numbers: &[i32]) -> Result<Vec<Value>, AllocError>
+    ensures { IfOk result (λ vs. vs.items ≡ map object_of numbers.now) }
+{
+    numbers
+        .iter()
+        .map(|number| Value::object(*number))
+        .collect(alloc)
 }

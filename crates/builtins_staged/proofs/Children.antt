@@ -7,19 +7,18 @@ use Rattle.spec_value.proofs.Same.{text_itself}
 use Rattle.spec_value.proofs.Entries.{first_holds, both_hold}
 use Rattle.spec_world.specs.World.{World, Object, Slot, object_at, with_object}
 use Rattle.spec_world.specs.Inherit.{slot_of, slot_at, ancestors}
-use Rattle.spec_world.specs.WellFormed.{IsWellFormed, defined_on, has_name}
+use Rattle.spec_world.specs.WellFormed.{defined_on, has_name}
+use Rattle.spec_world.specs.Agreeing.{ObjectsAgree}
 use Rattle.spec_world.specs.ObjectLaws.{IsPlace}
 use Rattle.spec_world.specs.Families.{heir_slot, heir_slots, slots_at, next_object, created, add_child}
 use Rattle.spec_world.proofs.Trees.{Path, path_from}
 use Rattle.spec_world.proofs.WorldTrees.{parents, ancestors_of}
-use Rattle.spec_world.proofs.Households.{Household, household, objects_of}
+use Rattle.spec_world.proofs.Households.{Household, household}
 use Rattle.spec_world.proofs.SlotTables.{text_or_not, named_with, with_sorted, named_heirs, heirs_sorted, or_first}
 use Rattle.spec_world.proofs.Reparenting.{slots_above}
 use Rattle.spec_world.proofs.ObjectsKept.{created_keeps}
-use Rattle.spec_world.proofs.WorldsKept.{agrees_of, created_rest, created_players}
 use Rattle.spec_view.specs.Questions.{apply, new_greatest, new_object, is_number, put_record}
-use Rattle.inherit.specs.Lines.{AreWellFormed}
-use Rattle.inherit.proofs.Keeping.{stays_so}
+use Rattle.inherit.specs.Lines.{AreAgreeing}
 use Rattle.world.specs.Law.{Goes, Tells}
 use Rattle.reparenting.specs.Along.{names_on, with_found, slots_of}
 use Rattle.reparenting.specs.Heirs.{heritage}
@@ -80,13 +79,13 @@ module _ (w : World) (o owner : ℤ) (t : Text) where
           ∙ ap (λ b. or_first (cond (b || has_name (map fold_case ps) t) (option_map (heir_slot owner) own) None) (named ss t)) (sym s)
 
 -- they are the slots of an heir
-pub heirs_are : (w : World) → IsWellFormed w → (o owner : ℤ) → put_heirs owner (heritage w o) [] ≡ heir_slots owner (slots_at (object_at w o))
+pub heirs_are : (w : World) → ObjectsAgree w → (o owner : ℤ) → put_heirs owner (heritage w o) [] ≡ heir_slots owner (slots_at (object_at w o))
 heirs_are w sound o owner =
     same_slots (put_heirs owner (heritage w o) []) (heir_slots owner (slots_at (object_at w o))) (put_sorted owner (heritage w o) [] refl) (sorted (object_at w o) refl)
     (λ t. put_named w o owner t (names_on w (ancestors w o)) [] ∙ all t ∙ sym (named_heirs owner (slots_at (object_at w o)) t))
   where
     house : Household w
-    house = household w (objects_of w sound)
+    house = household w sound
 
     way : (ps : List ℤ) × Path (parents w) o ps
     way = path_from (parents w) house.family o
@@ -111,7 +110,7 @@ heirs_are w sound o owner =
 
 -- ---- the new world
 
-numbered : (w : World) → IsWellFormed w → (n : ℤ) → w.greatest +ℤ pos 1 ≡ n → int_le n (pos 999999) ≡ true → is_number n ≡ true
+numbered : (w : World) → ObjectsAgree w → (n : ℤ) → w.greatest +ℤ pos 1 ≡ n → int_le n (pos 999999) ≡ true → is_number n ≡ true
 numbered w sound n next room =
     both_hold (int_le (pos 0) n) (int_le n (pos 999999)) (subst (λ k. IsTrue (int_le (pos 0) k)) next (above w.greatest (first_holds (int_le (neg_ℤ (pos 1)) w.greatest) _ sound.greatest_in_range))) room
   where
@@ -119,7 +118,7 @@ numbered w sound n next room =
     above g h = omega (arith, h)
 
 pub made_told : {V A E : Type 0} (holds : V → World → Type 0) (now : V → World → World) (a b c d e : V) (r : Result A E) (parent owner n : ℤ) (ss : Named Slot) (x : Object)
-    → AreWellFormed holds now a → ((w : World) → holds a w → IsNext (now a w) (Some n)) → Tells holds now a b (λ w. ss ≡ heir_slots owner (slots_at (object_at w parent)))
+    → AreAgreeing holds now a → ((w : World) → holds a w → IsNext (now a w) (Some n)) → Tells holds now a b (λ w. ss ≡ heir_slots owner (slots_at (object_at w parent)))
     → x ≡ child_with parent owner ss → Goes holds now b c (λ was is. is ≡ apply (new_greatest n) was) → Goes holds now c d (λ was is. is ≡ apply (new_object n (Some x)) was)
     → OnOk r (Goes holds now d e (λ was is. is ≡ add_child was parent n)) → OnOk r (Goes holds now a e (λ was is. is ≡ created was parent owner))
 unfolding created
@@ -142,16 +141,13 @@ made_told holds now a b c d e (Ok y) parent owner n ss x known next slots child 
     )
 
 -- it is well formed
-pub made_well : {V A E : Type 0} (holds : V → World → Type 0) (now : V → World → World) (a e : V) (r : Result A E) (parent owner n : ℤ) → AreWellFormed holds now a
+pub made_well : {V A E : Type 0} (holds : V → World → Type 0) (now : V → World → World) (a e : V) (r : Result A E) (parent owner n : ℤ) → AreAgreeing holds now a
     → ((w : World) → holds a w → IsPlace (now a w) parent) → ((w : World) → holds a w → IsNext (now a w) (Some n))
-    → OnOk r (Goes holds now a e (λ was is. is ≡ created was parent owner)) → OnOk r (AreWellFormed holds now e)
+    → OnOk r (Goes holds now a e (λ was is. is ≡ created was parent owner)) → OnOk r (AreAgreeing holds now e)
 made_well holds now a e (Err y) parent owner n known place next told = tt
 made_well holds now a e (Ok y) parent owner n known place next told = λ w left.
     let t = told w left in
     let h = known w t.0 in
     let k = next w t.0 in
     let room : IsTrue (int_le (next_object (now a w)) (pos 999999)) = ap (λ z. int_le z (pos 999999)) k.0 ∙ k.1 in
-    let objects = (agrees_of (now a w) h).objects in
-    subst IsWellFormed (sym t.1)
-    (stays_so (now a w) (created (now a w) parent owner) h (created_keeps (now a w) parent owner objects room (place w t.0)) (created_rest (now a w) parent owner)
-    (created_players (now a w) parent owner objects room (place w t.0)))
+    subst ObjectsAgree (sym t.1) (created_keeps (now a w) parent owner h room (place w t.0))

@@ -4,16 +4,15 @@ use Rattle.std.specs.Prelude.{option_map}
 use Rattle.std.specs.Ordering.{int_eq}
 use Rattle.spec_world.specs.World.{World, Header, Object, object_at}
 use Rattle.spec_world.specs.Inherit.{line_bound}
-use Rattle.spec_world.specs.WellFormed.{IsWellFormed, comes_out, ends_above}
+use Rattle.spec_world.specs.WellFormed.{comes_out, ends_above}
+use Rattle.spec_world.specs.Agreeing.{ObjectsAgree}
 use Rattle.spec_world.specs.Naming.{location_of}
 use Rattle.spec_world.specs.Families.{change_object, out_of_place}
 use Rattle.spec_world.specs.Whereabouts.{in_within, is_inside, put_into, moved}
 use Rattle.spec_world.proofs.Trees.{some_same, first_of}
 use Rattle.spec_world.proofs.ObjectsKept.{moved_keeps}
-use Rattle.spec_world.proofs.WorldsKept.{agrees_of, moved_rest, moved_players}
 use Rattle.spec_view.specs.Questions.{header_at}
-use Rattle.inherit.specs.Lines.{AreWellFormed}
-use Rattle.inherit.proofs.Keeping.{stays_so}
+use Rattle.inherit.specs.Lines.{AreAgreeing}
 use Rattle.world.specs.Law.{Goes, Tells}
 use Rattle.builtins_objects.proofs.RowsKeep.{present}
 use Rattle.builtins_staged.specs.Moves.{MayMove}
@@ -28,7 +27,7 @@ pub record OnTheWay (w : World) (what place : ℤ) (n : ℕ) (at : ℤ) : Type 0
   pub same : in_within (line_bound w - n) w what at ≡ is_inside w what place
   pub ends : IsTrue (comes_out where_is (line_bound w - n) w at)
 
-pub begins_way : (w : World) → IsWellFormed w → (what place : ℤ) → OnTheWay w what place 0 place
+pub begins_way : (w : World) → ObjectsAgree w → (what place : ℤ) → OnTheWay w what place 0 place
 unfolding comes_out
 begins_way w sound what place = record { same = ap (λ n. in_within n w what place) all; ends = subst (λ n. IsTrue (comes_out where_is n w place)) (sym all) (go (object_at w place) refl) }
   where
@@ -102,13 +101,13 @@ module _ {V A E : Type 0} (holds : V → World → Type 0) (now : V → World �
             (v.1 ∙ ap (λ p. out_of_place (now a w) p what) (sym (at w v.0)))),
       )
 
-  pub went_well : (d : V) (r : Result A E) → AreWellFormed holds now a → ((w : World) → holds a w → MayMove (now a w) what place)
-      → OnOk r (Goes holds now a d (λ was is. is ≡ moved was what place)) → OnOk r (AreWellFormed holds now d)
+  pub went_well : (d : V) (r : Result A E) → AreAgreeing holds now a → ((w : World) → holds a w → MayMove (now a w) what place)
+      → OnOk r (Goes holds now a d (λ was is. is ≡ moved was what place)) → OnOk r (AreAgreeing holds now d)
   went_well d (Err x) known may told = tt
   went_well d (Ok x) known may told = λ w left.
       let t = told w left in
       let h = known w t.0 in
       let m = may w t.0 in
       let o = present (object_at (now a w) what) m.there in
-      subst IsWellFormed (sym t.1)
-      (stays_so (now a w) (moved (now a w) what place) h (moved_keeps (now a w) what place o.0 (agrees_of (now a w) h).objects o.1 m.at_place m.outside) (moved_rest (now a w) what place) (moved_players (now a w) what place))
+      subst ObjectsAgree (sym t.1)
+      (moved_keeps (now a w) what place o.0 h o.1 m.at_place m.outside)

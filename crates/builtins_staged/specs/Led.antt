@@ -1,11 +1,13 @@
 -- What a built-in function leads to: in each scene, for each caller whose verb runs by this call.
-use Rattle.std.specs.Prelude.{◌≡◌, ℤ, Option, Some, None}
+use Rattle.std.specs.Prelude.{◌≡◌, ℕ, ℤ, Option, Some, None}
 use Rattle.spec_value.specs.Datum.{Text, Data}
 use Rattle.spec_world.specs.World.{World, Call, Native}
 use Rattle.spec_moo.specs.Scene.{Scene, in_world}
 use Rattle.spec_moo.specs.NativeEffect as N
 use Rattle.spec_moo.specs.Natives.Objects.{calls_if_there}
+use Rattle.moo_task.specs.Deeds.{scene_of}
 use Rattle.moo_task.specs.Effects.{effect_of}
+use Rattle.moo_task.specs.declared.deeds.Deeds.{Deeds}
 use Rattle.moo_task.specs.declared.effect.NativeEffect.{NativeEffect}
 
 abbrev pub with_call : N.Caller → Call → N.Caller
@@ -23,3 +25,7 @@ begun_or (Some x) s e = effect_of x s
 -- the call of a verb, if it is there
 abbrev pub MayBegin : Native → ℤ → Text → Data → World → Call → Option NativeEffect → Type 0
 MayBegin n o word args w k m = (s : Scene) (c : N.Caller) (e : N.NativeEffect) → calls_if_there (in_world s w) (with_call c k) n o word args e ≡ begun_or m (in_world s w) e
+
+-- from these deeds and this world to those, in each scene of the step
+abbrev pub LeadsOver : (Scene → N.Caller → N.NativeEffect) → Deeds → World → Call → NativeEffect → Deeds → World → Type 0
+LeadsOver row old before k e new after = (t : ℕ) (c : N.Caller) → row (scene_of old before t) (with_call c k) ≡ effect_of e (scene_of new after t)

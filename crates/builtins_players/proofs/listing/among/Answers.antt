@@ -1,4 +1,4 @@
-use Rattle.std.proofs.Common.{◌≡◌, ◌-◌, ◌++◌, ◌∙◌, ap, refl, sym, [], pos, rules, arith, w32, to_z}
+use Rattle.std.proofs.Common.{◌≡◌, ◌∙◌, pos, arith, w32, to_z}
 use Rattle.std.proofs.lemmas.Int.{ints}
 use Rattle.builtins_players.proofs.Players.{one_more, no_more}
 use Rattle.builtins_players.proofs.listing.among.Goals as goal

@@ -1,5 +1,5 @@
 -- A new child.
-use Rattle.std.proofs.Common.{◌≡◌, ◌⊎◌, inl, inr, ℤ, pos, Bool, true, false, ◌&&◌, ◌||◌, List, [], ◌∷◌, map, Option, Some, None, Result, Ok, Err, OnOk, refl, sym, ap, ◌∙◌, subst, cond, arith, IsTrue, is_some, if◌then◌else◌}
+use Rattle.std.proofs.Common.{◌≡◌, ◌⊎◌, inl, inr, ℕ, zero, suc, ℤ, pos, negsuc, Bool, true, false, ◌&&◌, ◌||◌, List, [], ◌∷◌, map, Option, Some, None, Result, Ok, Err, OnOk, refl, sym, ap, ◌∙◌, subst, cond, arith, IsTrue, is_some, if◌then◌else◌}
 use Rattle.std.specs.Prelude.{option_map, neg_ℤ, int_le, ◌+ℤ◌}
 use Rattle.spec_value.specs.Datum.{Text, fold_case, same_text}
 use Rattle.spec_value.specs.Table.{Named, named, with, with_name, is_named}
@@ -115,7 +115,9 @@ numbered w sound n next room =
     both_hold (int_le (pos 0) n) (int_le n (pos 999999)) (subst (λ k. IsTrue (int_le (pos 0) k)) next (above w.greatest (first_holds (int_le (neg_ℤ (pos 1)) w.greatest) _ sound.greatest_in_range))) room
   where
     above : (g : ℤ) → IsTrue (int_le (neg_ℤ (pos 1)) g) → IsTrue (int_le (pos 0) (g +ℤ pos 1))
-    above g h = omega (arith, h)
+    above (pos g) h = refl
+    above (negsuc zero) h = refl
+    above (negsuc (suc g)) h = let no : false ≡ true = h in absurd (cc no)
 
 pub made_told : {V A E : Type 0} (holds : V → World → Type 0) (now : V → World → World) (a b c d e : V) (r : Result A E) (parent owner n : ℤ) (ss : Named Slot) (x : Object)
     → AreAgreeing holds now a → ((w : World) → holds a w → IsNext (now a w) (Some n)) → Tells holds now a b (λ w. ss ≡ heir_slots owner (slots_at (object_at w parent)))

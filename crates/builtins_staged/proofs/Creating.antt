@@ -64,7 +64,7 @@ row_with_both k parent owner s x there = ap (λ b. if b then create_for s (with_
 -- ---- over a view
 
 module _ {V : Type 0} (holds : V → World → Type 0) (now : V → World → World) (k : Call) (parent owner : ℤ) (args : List Datum) where
-  abbrev IsAllowed : Bool → World → Type 0
+  abbrev pub IsAllowed : Bool → World → Type 0
   IsAllowed b w = (may w k.programmer (have_child parent) && may w k.programmer (change_owner k.programmer owner)) ≡ b
 
   pub denied_led : (a b : V) → Tells holds now a b (IsAllowed false) → Goes holds now a b (λ before after. Leads (λ s x. create_for s x parent owner args) before after k (Answers (Err PermissionDenied)))
@@ -97,7 +97,7 @@ module _ {V : Type 0} (holds : V → World → Type 0) (now : V → World → Wo
       then_leads holds now k a b c (λ w. (int_eq parent nowhere || is_some (object_at w parent)) ≡ true) (λ s x. create_for s x parent owner args) (λ s x. create_row s x (object parent ∷ [])) e told made
       (λ s x h. row_with_parent k parent s x h ∙ (λ i. create_for s (with_call x k) parent (sym own i) (sym same i)))
 
-  abbrev AreBoth : Bool → World → Type 0
+  abbrev pub AreBoth : Bool → World → Type 0
   AreBoth b w = ((int_eq parent nowhere || is_some (object_at w parent)) && is_some (object_at w owner)) ≡ b
 
   -- or the owner is not

@@ -54,8 +54,8 @@ told_then holds now a b P told w left = let t = told w left in subst P (sym t.1.
 -- ---- where no check fails
 
 may_when : (w : World) (what place : ℤ) (a b : Bool) → (is_some (object_at w what) && (int_eq place nowhere || is_some (object_at w place))) ≡ a → is_inside w what place ≡ b → a ≡ true → b ≡ false → MayMove w what place
-may_when w what place a b there inside yes no =
-    record { there = first (is_some (object_at w what)) _ (there ∙ yes); at_place = place_of w place (second (is_some (object_at w what)) _ (there ∙ yes)); outside = inside ∙ no }
+may_when w what place a b there inside so none =
+    record { there = first (is_some (object_at w what)) _ (there ∙ so); at_place = place_of w place (second (is_some (object_at w what)) _ (there ∙ so)); outside = inside ∙ none }
   where
     first : (p q : Bool) → (p && q) ≡ true → p ≡ true
     first true q h = refl

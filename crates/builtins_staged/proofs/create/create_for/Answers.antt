@@ -17,10 +17,16 @@ returns-then-not-there-clause-left g c =
     none_led g.V.View.holds g.V.View.now c.args.call.now c.args.parent c.args.owner [] c.args.view.now c.is_place_and_there.new.view (rw (parent, owner, c.if-not-there.true) at c.in_ok-there.ensures.left)
 
 pub returns-then-not-there-clause-well_formed : goal.returns-then-not-there-clause-well_formed
-returns-then-not-there-clause-well_formed g c = told_well g.V.View.holds g.V.View.now c.args.view.now c.is_place_and_there.new.view _ c.requires.well_formed c.in_ok-there.ensures.left
+returns-then-not-there-clause-well_formed g c =
+    let parent = to_z-of_z w32 c.args.parent c.ranges.parent in
+    let owner = to_z-of_z w32 c.args.owner c.ranges.owner in
+    told_well g.V.View.holds g.V.View.now c.args.view.now c.is_place_and_there.new.view (λ w. ((int_eq c.args.parent nowhere || is_some (object_at w c.args.parent)) && is_some (object_at w c.args.owner)) ≡ false) c.requires.well_formed (rw (parent, owner, c.if-not-there.true) at c.in_ok-there.ensures.left)
 
 pub create_allowed-requires-clause-well_formed : goal.create_allowed-requires-clause-well_formed
-create_allowed-requires-clause-well_formed g c = told_well g.V.View.holds g.V.View.now c.args.view.now c.is_place_and_there.new.view _ c.requires.well_formed c.in_ok-there.ensures.left
+create_allowed-requires-clause-well_formed g c =
+    let parent = to_z-of_z w32 c.args.parent c.ranges.parent in
+    let owner = to_z-of_z w32 c.args.owner c.ranges.owner in
+    told_well g.V.View.holds g.V.View.now c.args.view.now c.is_place_and_there.new.view (λ w. ((int_eq c.args.parent nowhere || is_some (object_at w c.args.parent)) && is_some (object_at w c.args.owner)) ≡ true) c.requires.well_formed (rw (parent, owner, c.if-not-there.false) at c.in_ok-there.ensures.left)
 
 pub create_allowed-requires-clause-place : goal.create_allowed-requires-clause-place
 create_allowed-requires-clause-place g c =

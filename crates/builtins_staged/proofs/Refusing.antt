@@ -13,10 +13,10 @@ use Rattle.builtins_objects.proofs.Chains.{turned_told, check_fails, check_passe
 use Rattle.builtins_staged.specs.Moves.{is_outside, first_checks, later_checks}
 
 module _ {V : Type 0} (holds : V → World → Type 0) (now : V → World → World) (who what place : ℤ) where
-  abbrev are_there : World → Bool
+  abbrev pub are_there : World → Bool
   are_there w = is_some (object_at w what) && (int_eq place nowhere || is_some (object_at w place))
 
-  abbrev allowed : World → Bool
+  abbrev pub allowed : World → Bool
   allowed w = may w who (change_object what)
 
   abbrev outside : World → Bool

@@ -1,0 +1,38 @@
+//! Functions that call verbs, or run programs.
+ghost use Rattle.std.specs.Prelude.{IfOk, OnOk};
+ghost use Rattle.inherit.specs.Lines.{AreWellFormed};
+ghost use Rattle.world.specs.Law.{Goes, Lasts};
+ghost use Rattle.builtin_requests.specs.Requests.{calling_of, said_of};
+ghost use Rattle.builtin_natives.specs.Acting.{ActsFor};
+
+use builtin_requests::calling::Calling;
+use builtin_requests::missing::missing;
+use moo_task::deeds::Deeds;
+use moo_task::effect::NativeEffect;
+use moo_task::running::Running;
+use std::alloc::{AllocError, Global};
+use world::law::View;
+
+/// What such a call does for the verb that runs.
+pub fn call_verb<V: View>(
+    alloc: Global,
+    view: &mut V,
+    deeds: &mut Deeds,
+    task: &Running,
+    calling: Calling,
+) -> Result<NativeEffect, AllocError>
+    requires home { V.holds view.old (V.home view.old) }
+    requires well_formed { AreWellFormed V.holds V.now view.old }
+    ensures lasts { Lasts V.holds V.home V.anchor view.old view.new result }
+    ensures does { IfOk result (λ e. Goes V.holds V.now view.old view.new
+        (λ before after. ActsFor (said_of (calling_of calling)) task.now deeds.old before e deeds.new after)) }
+    ensures well_formed { OnOk result (AreWellFormed V.holds V.now view.new) }
+{
+    match calling {
+        Calling::Create(_) => missing(),
+        Calling::CreateFor(_, _) => missing(),
+        Calling::Recycle(_) => missing(),
+        Calling::Move(_, _) => missing(),
+        Calling::Eval(_) => missing(),
+    }
+}

@@ -1,0 +1,41 @@
+//! Functions that go on with the value of a verb.
+ghost use Rattle.std.specs.Prelude.{IfOk, OnOk};
+ghost use Rattle.inherit.specs.Lines.{AreWellFormed};
+ghost use Rattle.world.specs.Law.{Goes, Lasts};
+ghost use Rattle.builtin_natives.specs.Acting.{ActsFor};
+ghost use Rattle.builtin_natives.specs.Stages.{stage_does};
+
+use crate::stages::Stage;
+use builtin_requests::missing::missing;
+use moo_task::deeds::Deeds;
+use moo_task::effect::NativeEffect;
+use moo_task::running::Running;
+use moo_value::value::Value;
+use std::alloc::{AllocError, Global};
+use world::law::View;
+
+/// What a stage does, with the value of the verb that was waited for, for the verb that now runs.
+pub fn go_on<V: View>(
+    alloc: Global,
+    view: &mut V,
+    deeds: &mut Deeds,
+    task: &Running,
+    stage: Stage,
+    value: Value,
+) -> Result<NativeEffect, AllocError>
+    requires home { V.holds view.old (V.home view.old) }
+    requires well_formed { AreWellFormed V.holds V.now view.old }
+    ensures lasts { Lasts V.holds V.home V.anchor view.old view.new result }
+    ensures does { IfOk result (λ e. Goes V.holds V.now view.old view.new
+        (λ before after. ActsFor (λ s c. stage_does stage s c value) task.now deeds.old before e deeds.new after)) }
+    ensures well_formed { OnOk result (AreWellFormed V.holds V.now view.new) }
+{
+    match stage {
+        Stage::Evaluated => missing(),
+        Stage::Created(object) => Ok(NativeEffect::Answers(Ok(object))),
+        Stage::Recycled(_) => missing(),
+        Stage::Asked(_, _) => missing(),
+        Stage::Left(_, _, _) => missing(),
+        Stage::Ended => Ok(NativeEffect::Answers(Ok(Value::integer(0)))),
+    }
+}

@@ -1,15 +1,13 @@
 //! What calls that only ask the world answer.
 ghost use Rattle.std.specs.Prelude.{IfOk};
 ghost use Rattle.moo_value.specs.Answers.{answer_of};
-ghost use Rattle.inherit.specs.Lines.{AreWellFormed};
+ghost use Rattle.inherit.specs.Lines.{AreAgreeing};
 ghost use Rattle.world.specs.Law.{Lasts, Tells};
 ghost use Rattle.builtins_world.specs.Said.{Says};
 ghost use Rattle.builtin_requests.specs.Requests.{asking_of, said_of};
 
 use builtin_requests::asking::Asking;
 use builtin_requests::missing::missing;
-use builtins_links::players::connected_players;
-use builtins_queue::listing::queued_tasks;
 use builtins_world::objects::{children, is_player, max_object, parent, valid};
 use builtins_world::properties::{is_clear_property, properties, property_info};
 use builtins_world::verbs::{verb_args, verb_info, verbs};
@@ -25,7 +23,7 @@ pub fn ask<V: View>(
     asking: Asking,
 ) -> Result<Answer, AllocError>
     requires home { V.holds view.old (V.home view.old) }
-    requires well_formed { AreWellFormed V.holds V.now view.old }
+    requires well_formed { AreAgreeing V.holds V.now view.old }
     ensures lasts { Lasts V.holds V.home V.anchor view.old view.new result }
     ensures left { IfOk result (λ a. Tells V.holds V.now view.old view.new (λ w. Says (said_of (asking_of asking)) w programmer (answer_of a))) }
 {
@@ -51,7 +49,7 @@ pub fn ask<V: View>(
             Ok(verb_args(alloc, view, programmer, object, &which)?)
         }
         Asking::VerbCode(_, _) => missing(),
-        Asking::QueuedTasks => Ok(queued_tasks(alloc, view, programmer)?),
-        Asking::ConnectedPlayers => Ok(connected_players(alloc, view)?),
+        Asking::QueuedTasks => missing(),
+        Asking::ConnectedPlayers => missing(),
     }
 }

@@ -1,7 +1,7 @@
 //! What calls that change the world do.
 ghost use Rattle.std.specs.Prelude.{IfOk, OnOk};
 ghost use Rattle.moo_value.specs.Answers.{answer_of};
-ghost use Rattle.inherit.specs.Lines.{AreWellFormed};
+ghost use Rattle.inherit.specs.Lines.{AreAgreeing};
 ghost use Rattle.world.specs.Law.{Goes, Lasts};
 ghost use Rattle.builtins_world.specs.Said.{Does};
 ghost use Rattle.builtin_requests.specs.Requests.{changing_of, said_of};
@@ -24,11 +24,11 @@ pub fn change<V: View>(
     changing: Changing,
 ) -> Result<Answer, AllocError>
     requires home { V.holds view.old (V.home view.old) }
-    requires well_formed { AreWellFormed V.holds V.now view.old }
+    requires well_formed { AreAgreeing V.holds V.now view.old }
     ensures lasts { Lasts V.holds V.home V.anchor view.old view.new result }
     ensures left { IfOk result (λ a. Goes V.holds V.now view.old view.new
         (λ before after. Does (said_of (changing_of changing)) before after programmer (answer_of a))) }
-    ensures well_formed { OnOk result (AreWellFormed V.holds V.now view.new) }
+    ensures well_formed { OnOk result (AreAgreeing V.holds V.now view.new) }
 {
     match changing {
         Changing::Chparent(_, _) => missing(),

@@ -1,0 +1,72 @@
+-- Calls of built-in functions, for the verb that runs.
+use Rattle.std.proofs.Common.{◌≡◌, ℕ, ℤ, sym, subst}
+use Rattle.spec_world.specs.World.{World, Call}
+use Rattle.spec_world.specs.Agreeing.{ObjectsAgree}
+use Rattle.spec_value.specs.Datum.{Datum}
+use Rattle.std.specs.Prelude.{Result}
+use Rattle.spec_moo.specs.Scene.{Scene, in_world}
+use Rattle.spec_moo.specs.NativeEffect as N
+use Rattle.moo_value.specs.Answers.{answer_of}
+use Rattle.moo_value.specs.declared.error.MooError.{MooError}
+use Rattle.moo_task.specs.Deeds.{scene_of}
+use Rattle.moo_task.specs.Effects.{effect_of}
+use Rattle.moo_task.specs.Outcomes.{ticks_of}
+use Rattle.moo_task.specs.declared.deeds.Deeds.{Deeds}
+use Rattle.moo_task.specs.declared.effect.NativeEffect.{NativeEffect}
+use Rattle.moo_task.specs.declared.effect.NativeEffect.TheVariants.{Answers}
+use Rattle.moo_task.specs.declared.running.Running.{Running}
+use Rattle.inherit.specs.Lines.{AreAgreeing}
+use Rattle.moo_run.specs.Scenes.{scene_at, caller_of, effect_at}
+use Rattle.world.specs.Law.{Goes, Tells}
+use Rattle.builtins_world.specs.Said.{Does, Says, with_programmer}
+use Rattle.builtins_links.specs.Acting.{with_player}
+use Rattle.builtin_natives.specs.Acting.{ActsFor}
+
+abbrev Act : Type 0
+Act = Scene → N.Caller → N.NativeEffect
+
+-- for each caller with this programmer, and for each count of ticks
+abbrev Acting : Act → Deeds → World → ℤ → NativeEffect → Deeds → World → Type 0
+Acting row d before who x e after = (t : ℕ) (c : N.Caller) → row (scene_of d before t) (with_programmer c who) ≡ effect_of x (scene_of e after t)
+
+for_running : (row : Act) (d e : Deeds) (before after : World) (who : ℤ) (x : NativeEffect) (r : Running) → who ≡ r.frame.call.programmer
+    → Acting row d before who x e after → ActsFor row r d before x e after
+for_running row d e before after who x r is acts =
+    subst (λ q. row (scene_at d before r) (with_programmer (caller_of r) q) ≡ effect_at x e after r) is (acts (ticks_of r) (caller_of r))
+
+module _ {V : Type 0} (holds : V → World → Type 0) (now : V → World → World) (old new : V) (r : Running) where
+  pub goes_acts : (row : Act) (d e : Deeds) (who : ℤ) (x : NativeEffect) → who ≡ r.frame.call.programmer
+      → Goes holds now old new (λ before after. Acting row d before who x e after) → Goes holds now old new (λ before after. ActsFor row r d before x e after)
+  goes_acts row d e who x is goes w left = let g = goes w left in (g.0, for_running row d e (now old w) (now new w) who x r is g.1)
+
+  pub tells_acts : (row : Act) (d e : Deeds) (who : ℤ) (x : NativeEffect) → who ≡ r.frame.call.programmer
+      → Tells holds now old new (λ w. Acting row d w who x e w) → Goes holds now old new (λ before after. ActsFor row r d before x e after)
+  tells_acts row d e who x is tells w left =
+      let g = tells w left in
+      (g.0, subst (λ u. ActsFor row r d (now old w) x e u) (sym g.1.0) (for_running row d e (now old w) (now old w) who x r is g.1.1))
+
+  -- by answers that no scene counts for
+  pub says_acts : (row : Act) (d : Deeds) (who : ℤ) (a : Result Datum MooError) → who ≡ r.frame.call.programmer
+      → Tells holds now old new (λ w. Says row w who (answer_of a)) → Goes holds now old new (λ before after. ActsFor row r d before (Answers a) d after)
+  says_acts row d who a is tells = tells_acts row d d who (Answers a) is (λ w left. let g = tells w left in (g.0, (g.1.0, λ t c. g.1.1 (scene_of d (now old w) t) c)))
+
+  pub does_acts : (row : Act) (d : Deeds) (who : ℤ) (a : Result Datum MooError) → who ≡ r.frame.call.programmer
+      → Goes holds now old new (λ before after. Does row before after who (answer_of a)) → Goes holds now old new (λ before after. ActsFor row r d before (Answers a) d after)
+  does_acts row d who a is goes = goes_acts row d d who (Answers a) is (λ w left. let g = goes w left in (g.0, λ t c. g.1 (scene_of d (now old w) t) c))
+
+  -- in each scene of a world
+  pub shows_acts : (row : Act) (d : Deeds) (who : ℤ) (x : NativeEffect) → who ≡ r.frame.call.programmer
+      → Tells holds now old new (λ w. (s : Scene) (c : N.Caller) → row (in_world s w) (with_programmer c who) ≡ effect_of x (in_world s w))
+      → Goes holds now old new (λ before after. ActsFor row r d before x d after)
+  shows_acts row d who x is tells = tells_acts row d d who x is (λ w left. let g = tells w left in (g.0, (g.1.0, λ t c. g.1.1 (scene_of d (now old w) t) c)))
+
+  -- as this player
+  pub player_acts : (row : Act) (d e : Deeds) (player who : ℤ) (x : NativeEffect) → player ≡ r.player → who ≡ r.frame.call.programmer
+      → Tells holds now old new (λ w. Acting (λ s c. row s (with_player c player)) d w who x e w) → Goes holds now old new (λ before after. ActsFor row r d before x e after)
+  player_acts row d e player who x own is tells w left =
+      let g = tells_acts (λ s c. row s (with_player c player)) d e who x is tells w left in
+      (g.0, subst (λ p. row (scene_at d (now old w) r) (with_player (caller_of r) p) ≡ effect_at x e (now new w) r) own g.1)
+
+  -- where nothing is changed, objects still agree
+  pub told_agrees : (P : World → Type 0) → Tells holds now old new P → AreAgreeing holds now old → AreAgreeing holds now new
+  told_agrees P tells known w left = let g = tells w left in subst ObjectsAgree (sym g.1.0) (known w g.0)

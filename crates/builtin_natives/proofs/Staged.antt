@@ -5,7 +5,12 @@ use Rattle.spec_world.specs.World.{move_native, recycle_native}
 use Rattle.spec_moo.specs.Scene.{Scene}
 use Rattle.spec_moo.specs.NativeEffect.{Caller}
 use Rattle.spec_moo.specs.Natives.Rows.{answers_with, zero_value}
+use Rattle.spec_moo.specs.Natives.{native_turn, stage_of as stage_at}
 use Rattle.spec_moo.specs.Natives.Objects.{staged}
+use Rattle.moo_task.specs.Frames.{native_of, native_name_of}
+use Rattle.moo_task.specs.declared.native.Native.{Native}
+use Rattle.moo_task.specs.declared.native.NativeName.TheVariants.{Recycle}
+use Rattle.builtin_natives.specs.declared.stages.Stage.{Stage}
 use Rattle.builtin_natives.specs.Stages.{stage_does, one_object, two_objects, three_objects, recycle_stage, asked_stage, left_stage}
 
 by_one : (s : Scene) (c : Caller) (n : ℕ) (vs : List Datum) (v : Datum) → staged s c recycle_native n vs v ≡ stage_does (recycle_stage (one_object vs)) s c v
@@ -35,3 +40,11 @@ moved_so s c zero vs v a b = refl
 moved_so s c (suc zero) vs v a b = absurd (a refl)
 moved_so s c (suc (suc zero)) vs v a b = absurd (b refl)
 moved_so s c (suc (suc (suc n))) vs v a b = refl
+
+-- ---- `recycle`, whose stages do not count
+
+pub turn_recycled : (n : Native) (q : Stage) → n.name ≡ Recycle → ((s : Scene) (c : Caller) (k : ℕ) (v : Datum) → staged s c recycle_native k n.arguments.items v ≡ stage_does q s c v)
+    → (s : Scene) (c : Caller) (v : Datum) → native_turn s c (native_of n) v ≡ stage_does q s c v
+unfolding native_turn
+turn_recycled n q is so s c v =
+    ap (λ x. stage_at s c (native_name_of x) (record { name = native_name_of x; stage = n.stage; arguments = n.arguments.items }) v) is ∙ so s c n.stage v

@@ -1,6 +1,6 @@
 //! What is done to links, other tasks and the server.
 ghost use Rattle.std.specs.Prelude.{◌≡◌, IfOk, OnOk};
-ghost use Rattle.inherit.specs.Lines.{AreWellFormed};
+ghost use Rattle.inherit.specs.Lines.{AreAgreeing};
 ghost use Rattle.world.specs.Law.{Goes, Lasts};
 ghost use Rattle.builtin_requests.specs.Requests.{acting_of, said_of};
 ghost use Rattle.builtin_natives.specs.Acting.{ActsFor};
@@ -8,7 +8,7 @@ ghost use Rattle.builtin_natives.specs.Acting.{ActsFor};
 use builtin_requests::acting::Acting;
 use builtin_requests::missing::missing;
 use builtins_links::acting::set_task_perms;
-use builtins_links::links::{boot_player, read};
+use builtins_links::links::read;
 use builtins_links::notify::notify;
 use builtins_queue::kill::kill_task;
 use builtins_queue::resume::{resume, resume_with};
@@ -27,11 +27,11 @@ pub fn act<V: View>(
     acting: Acting,
 ) -> Result<NativeEffect, AllocError>
     requires home { V.holds view.old (V.home view.old) }
-    requires well_formed { AreWellFormed V.holds V.now view.old }
+    requires well_formed { AreAgreeing V.holds V.now view.old }
     ensures lasts { Lasts V.holds V.home V.anchor view.old view.new result }
     ensures does { IfOk result (λ e. Goes V.holds V.now view.old view.new
         (λ before after. ActsFor (said_of (acting_of acting)) task.now deeds.old before e deeds.new after)) }
-    ensures well_formed { OnOk result (AreWellFormed V.holds V.now view.new) }
+    ensures well_formed { OnOk result (AreAgreeing V.holds V.now view.new) }
 {
     let who = programmer(task);
     match acting {
@@ -46,9 +46,7 @@ pub fn act<V: View>(
         }
         Acting::KillTask(id) => Ok(kill_task(view, deeds, who, id)?),
         Acting::SetTaskPerms(object) => Ok(set_task_perms(view, who, object)?),
-        Acting::BootPlayer(object) => {
-            Ok(NativeEffect::Answers(boot_player(view, deeds, who, object)?))
-        }
+        Acting::BootPlayer(_) => missing(),
         Acting::DumpDatabase => Ok(NativeEffect::Answers(dump_database(view, deeds, who)?)),
     }
 }

@@ -5,7 +5,7 @@ ghost use Rattle.spec_moo.specs.Scene.{Scene};
 ghost use Rattle.spec_moo.specs.NativeEffect.{Caller};
 ghost use Rattle.spec_moo.specs.Natives.{native as native_does};
 ghost use Rattle.spec_moo.specs.Natives.Rows.{by_row};
-ghost use Rattle.inherit.specs.Lines.{AreWellFormed};
+ghost use Rattle.inherit.specs.Lines.{AreAgreeing};
 ghost use Rattle.world.specs.Law.{Goes, Lasts};
 ghost use Rattle.builtin_table.specs.Functions.{call_of, row_of_function};
 ghost use Rattle.builtin_natives.specs.Acting.{ActsFor};
@@ -78,11 +78,11 @@ fn call_function<V: View>(
     arguments: Vec<Value>,
 ) -> Result<NativeEffect, AllocError>
     requires home { V.holds view.old (V.home view.old) }
-    requires well_formed { AreWellFormed V.holds V.now view.old }
+    requires well_formed { AreAgreeing V.holds V.now view.old }
     ensures lasts { Lasts V.holds V.home V.anchor view.old view.new result }
     ensures does { IfOk result (λ e. Goes V.holds V.now view.old view.new
         (λ before after. ActsFor (λ s c. call_of s c function arguments.items) task.now deeds.old before e deeds.new after)) }
-    ensures well_formed { OnOk result (AreWellFormed V.holds V.now view.new) }
+    ensures well_formed { OnOk result (AreAgreeing V.holds V.now view.new) }
 {
     match function {
         Some(Builtin::OfValues(function)) => {
@@ -107,11 +107,11 @@ fn call_checked<V: View>(
     arguments: &[Value],
 ) -> Result<NativeEffect, AllocError>
     requires home { V.holds view.old (V.home view.old) }
-    requires well_formed { AreWellFormed V.holds V.now view.old }
+    requires well_formed { AreAgreeing V.holds V.now view.old }
     ensures lasts { Lasts V.holds V.home V.anchor view.old view.new result }
     ensures does { IfOk result (λ e. Goes V.holds V.now view.old view.new
         (λ before after. ActsFor (λ s c. by_row s c arguments.now (row_of_function function)) task.now deeds.old before e deeds.new after)) }
-    ensures well_formed { OnOk result (AreWellFormed V.holds V.now view.new) }
+    ensures well_formed { OnOk result (AreAgreeing V.holds V.now view.new) }
 {
     match function.check(arguments) {
         Ok(()) => {

@@ -1,6 +1,6 @@
 //! Functions that call verbs, or run programs.
 ghost use Rattle.std.specs.Prelude.{IfOk, OnOk};
-ghost use Rattle.inherit.specs.Lines.{AreWellFormed};
+ghost use Rattle.inherit.specs.Lines.{AreAgreeing};
 ghost use Rattle.world.specs.Law.{Goes, Lasts};
 ghost use Rattle.builtin_requests.specs.Requests.{calling_of, said_of};
 ghost use Rattle.builtin_natives.specs.Acting.{ActsFor};
@@ -22,11 +22,11 @@ pub fn call_verb<V: View>(
     calling: Calling,
 ) -> Result<NativeEffect, AllocError>
     requires home { V.holds view.old (V.home view.old) }
-    requires well_formed { AreWellFormed V.holds V.now view.old }
+    requires well_formed { AreAgreeing V.holds V.now view.old }
     ensures lasts { Lasts V.holds V.home V.anchor view.old view.new result }
     ensures does { IfOk result (λ e. Goes V.holds V.now view.old view.new
         (λ before after. ActsFor (said_of (calling_of calling)) task.now deeds.old before e deeds.new after)) }
-    ensures well_formed { OnOk result (AreWellFormed V.holds V.now view.new) }
+    ensures well_formed { OnOk result (AreAgreeing V.holds V.now view.new) }
 {
     match calling {
         Calling::Create(_) => missing(),

@@ -1,6 +1,6 @@
 //! What requests do.
 ghost use Rattle.std.specs.Prelude.{IfOk, OnOk};
-ghost use Rattle.inherit.specs.Lines.{AreWellFormed};
+ghost use Rattle.inherit.specs.Lines.{AreAgreeing};
 ghost use Rattle.world.specs.Law.{Goes, Lasts};
 ghost use Rattle.builtin_requests.specs.Requests.{asking_of, changing_of, request_of, said_of};
 ghost use Rattle.builtin_natives.specs.Acting.{ActsFor};
@@ -28,11 +28,11 @@ pub fn perform<V: View>(
     request: Request,
 ) -> Result<NativeEffect, AllocError>
     requires home { V.holds view.old (V.home view.old) }
-    requires well_formed { AreWellFormed V.holds V.now view.old }
+    requires well_formed { AreAgreeing V.holds V.now view.old }
     ensures lasts { Lasts V.holds V.home V.anchor view.old view.new result }
     ensures does { IfOk result (λ e. Goes V.holds V.now view.old view.new
         (λ before after. ActsFor (said_of (request_of request)) task.now deeds.old before e deeds.new after)) }
-    ensures well_formed { OnOk result (AreWellFormed V.holds V.now view.new) }
+    ensures well_formed { OnOk result (AreAgreeing V.holds V.now view.new) }
 {
     match request {
         Request::Asks(asking) => Ok(asked(alloc, view, deeds, task, asking)?),
@@ -51,11 +51,11 @@ fn asked<V: View>(
     asking: Asking,
 ) -> Result<NativeEffect, AllocError>
     requires home { V.holds view.old (V.home view.old) }
-    requires well_formed { AreWellFormed V.holds V.now view.old }
+    requires well_formed { AreAgreeing V.holds V.now view.old }
     ensures lasts { Lasts V.holds V.home V.anchor view.old view.new result }
     ensures does { IfOk result (λ e. Goes V.holds V.now view.old view.new
         (λ before after. ActsFor (said_of (asking_of asking)) task.now deeds.now before e deeds.now after)) }
-    ensures well_formed { OnOk result (AreWellFormed V.holds V.now view.new) }
+    ensures well_formed { OnOk result (AreAgreeing V.holds V.now view.new) }
 {
     let _known = deeds.number;
     let who = programmer(task);
@@ -71,11 +71,11 @@ fn changed<V: View>(
     changing: Changing,
 ) -> Result<NativeEffect, AllocError>
     requires home { V.holds view.old (V.home view.old) }
-    requires well_formed { AreWellFormed V.holds V.now view.old }
+    requires well_formed { AreAgreeing V.holds V.now view.old }
     ensures lasts { Lasts V.holds V.home V.anchor view.old view.new result }
     ensures does { IfOk result (λ e. Goes V.holds V.now view.old view.new
         (λ before after. ActsFor (said_of (changing_of changing)) task.now deeds.now before e deeds.now after)) }
-    ensures well_formed { OnOk result (AreWellFormed V.holds V.now view.new) }
+    ensures well_formed { OnOk result (AreAgreeing V.holds V.now view.new) }
 {
     let _known = deeds.number;
     let who = programmer(task);

@@ -1,12 +1,7 @@
 //! The built-in functions, as tasks call them (Programmer's Manual, "Built-in Functions").
 //!
-//! What is said of a view here is said of each world that it still allows.
+//! A function that is not there yet answers `Err(AllocError)`, as if memory were refused: each call of `missing` in `builtin_calls` and
+//! `builtin_deeds` is one.
 #![tactic(auto)]
 
-pub mod acting;
 pub mod builtins;
-pub mod calling;
-pub mod own;
-pub mod perform;
-pub mod resuming;
-pub mod stages;

@@ -1,5 +1,5 @@
 -- Calls of built-in functions, for the verb that runs.
-use Rattle.std.proofs.Common.{◌≡◌, ℕ, ℤ, sym, subst}
+use Rattle.std.proofs.Common.{◌≡◌, ◌∙◌, ℕ, ℤ, sym, subst}
 use Rattle.spec_world.specs.World.{World, Call}
 use Rattle.spec_world.specs.Agreeing.{ObjectsAgree}
 use Rattle.spec_value.specs.Datum.{Datum}
@@ -16,31 +16,39 @@ use Rattle.moo_task.specs.declared.effect.NativeEffect.{NativeEffect}
 use Rattle.moo_task.specs.declared.effect.NativeEffect.TheVariants.{Answers}
 use Rattle.moo_task.specs.declared.running.Running.{Running}
 use Rattle.inherit.specs.Lines.{AreAgreeing}
-use Rattle.moo_run.specs.Scenes.{scene_at, caller_of, effect_at}
 use Rattle.world.specs.Law.{Goes, Tells}
 use Rattle.builtins_world.specs.Said.{Does, Says, with_programmer}
 use Rattle.builtins_links.specs.Acting.{with_player}
-use Rattle.builtin_natives.specs.Acting.{ActsFor}
+use Rattle.builtin_requests.specs.Requests.{acting_of, own_of, request_of, said_of}
+use Rattle.builtin_requests.specs.declared.acting.Acting.{Acting}
+use Rattle.builtin_requests.specs.declared.own.Own.{Own}
+use Rattle.builtin_requests.specs.declared.request.Request.{Request}
+use Rattle.builtin_deeds.specs.Acting.{scene_for, caller_for, ActsFor}
 
 abbrev Act : Type 0
 Act = Scene → N.Caller → N.NativeEffect
 
 -- for each caller with this programmer, and for each count of ticks
-abbrev Acting : Act → Deeds → World → ℤ → NativeEffect → Deeds → World → Type 0
-Acting row d before who x e after = (t : ℕ) (c : N.Caller) → row (scene_of d before t) (with_programmer c who) ≡ effect_of x (scene_of e after t)
+abbrev ActingBy : Act → Deeds → World → ℤ → NativeEffect → Deeds → World → Type 0
+ActingBy row d before who x e after = (t : ℕ) (c : N.Caller) → row (scene_of d before t) (with_programmer c who) ≡ effect_of x (scene_of e after t)
 
 for_running : (row : Act) (d e : Deeds) (before after : World) (who : ℤ) (x : NativeEffect) (r : Running) → who ≡ r.frame.call.programmer
-    → Acting row d before who x e after → ActsFor row r d before x e after
+    → ActingBy row d before who x e after → ActsFor row r d before x e after
 for_running row d e before after who x r is acts =
-    subst (λ q. row (scene_at d before r) (with_programmer (caller_of r) q) ≡ effect_at x e after r) is (acts (ticks_of r) (caller_of r))
+    subst (λ q. row (scene_for d before r) (with_programmer (caller_for r) q) ≡ effect_of x (scene_for e after r)) is (acts (ticks_of r) (caller_for r))
+
+-- in every world
+pub own_so : (r : Running) (d e : Deeds) (x : NativeEffect) (q p : Own) → q ≡ p → ((w : World) → ActsFor (said_of (own_of p)) r d w x e w)
+    → (w : World) → ActsFor (said_of (own_of q)) r d w x e w
+own_so r d e x q p is so w = subst (λ z. ActsFor (said_of (own_of z)) r d w x e w) (sym is) (so w)
 
 module _ {V : Type 0} (holds : V → World → Type 0) (now : V → World → World) (old new : V) (r : Running) where
   pub goes_acts : (row : Act) (d e : Deeds) (who : ℤ) (x : NativeEffect) → who ≡ r.frame.call.programmer
-      → Goes holds now old new (λ before after. Acting row d before who x e after) → Goes holds now old new (λ before after. ActsFor row r d before x e after)
+      → Goes holds now old new (λ before after. ActingBy row d before who x e after) → Goes holds now old new (λ before after. ActsFor row r d before x e after)
   goes_acts row d e who x is goes w left = let g = goes w left in (g.0, for_running row d e (now old w) (now new w) who x r is g.1)
 
   pub tells_acts : (row : Act) (d e : Deeds) (who : ℤ) (x : NativeEffect) → who ≡ r.frame.call.programmer
-      → Tells holds now old new (λ w. Acting row d w who x e w) → Goes holds now old new (λ before after. ActsFor row r d before x e after)
+      → Tells holds now old new (λ w. ActingBy row d w who x e w) → Goes holds now old new (λ before after. ActsFor row r d before x e after)
   tells_acts row d e who x is tells w left =
       let g = tells w left in
       (g.0, subst (λ u. ActsFor row r d (now old w) x e u) (sym g.1.0) (for_running row d e (now old w) (now old w) who x r is g.1.1))
@@ -62,11 +70,27 @@ module _ {V : Type 0} (holds : V → World → Type 0) (now : V → World → Wo
 
   -- as this player
   pub player_acts : (row : Act) (d e : Deeds) (player who : ℤ) (x : NativeEffect) → player ≡ r.player → who ≡ r.frame.call.programmer
-      → Tells holds now old new (λ w. Acting (λ s c. row s (with_player c player)) d w who x e w) → Goes holds now old new (λ before after. ActsFor row r d before x e after)
+      → Tells holds now old new (λ w. ActingBy (λ s c. row s (with_player c player)) d w who x e w) → Goes holds now old new (λ before after. ActsFor row r d before x e after)
   player_acts row d e player who x own is tells w left =
       let g = tells_acts (λ s c. row s (with_player c player)) d e who x is tells w left in
-      (g.0, subst (λ p. row (scene_at d (now old w) r) (with_player (caller_of r) p) ≡ effect_at x e (now new w) r) own g.1)
+      (g.0, subst (λ p. row (scene_for d (now old w) r) (with_player (caller_for r) p) ≡ effect_of x (scene_for e (now new w) r)) own g.1)
 
   -- where nothing is changed, objects still agree
   pub told_agrees : (P : World → Type 0) → Tells holds now old new P → AreAgreeing holds now old → AreAgreeing holds now new
   told_agrees P tells known w left = let g = tells w left in subst ObjectsAgree (sym g.1.0) (known w g.0)
+
+  -- a request that is known
+  pub acted_so : (d e : Deeds) (x : NativeEffect) (q p : Acting) → q ≡ p → Goes holds now old new (λ before after. ActsFor (said_of (acting_of p)) r d before x e after)
+      → Goes holds now old new (λ before after. ActsFor (said_of (acting_of q)) r d before x e after)
+  acted_so d e x q p is goes w left =
+      let g = goes w left in (g.0, subst (λ z. ActsFor (said_of (acting_of z)) r d (now old w) x e (now new w)) (sym is) g.1)
+
+  pub performed_so : (d e : Deeds) (x : NativeEffect) (q p : Request) → q ≡ p → Goes holds now old new (λ before after. ActsFor (said_of (request_of p)) r d before x e after)
+      → Goes holds now old new (λ before after. ActsFor (said_of (request_of q)) r d before x e after)
+  performed_so d e x q p is goes w left =
+      let g = goes w left in (g.0, subst (λ z. ActsFor (said_of (request_of z)) r d (now old w) x e (now new w)) (sym is) g.1)
+
+  -- rows that say the same
+  pub same_acts : (row rule : Act) (d e : Deeds) (x : NativeEffect) → ((s : Scene) (c : N.Caller) → row s c ≡ rule s c)
+      → Goes holds now old new (λ before after. ActsFor rule r d before x e after) → Goes holds now old new (λ before after. ActsFor row r d before x e after)
+  same_acts row rule d e x same goes w left = let g = goes w left in (g.0, same (scene_for d (now old w) r) (caller_for r) ∙ g.1)

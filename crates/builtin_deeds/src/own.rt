@@ -2,7 +2,7 @@
 ghost use Rattle.std.specs.Prelude.{IfOk};
 ghost use Rattle.spec_world.specs.World.{World};
 ghost use Rattle.builtin_requests.specs.Requests.{own_of, said_of};
-ghost use Rattle.builtin_natives.specs.Acting.{ActsFor};
+ghost use Rattle.builtin_deeds.specs.Acting.{ActsFor};
 
 use builtin_requests::own::Own;
 use builtins_queue::callers::caller_perms;

@@ -3,7 +3,7 @@ ghost use Rattle.std.specs.Prelude.{IfOk, OnOk};
 ghost use Rattle.inherit.specs.Lines.{AreAgreeing};
 ghost use Rattle.world.specs.Law.{Goes, Lasts};
 ghost use Rattle.builtin_requests.specs.Requests.{calling_of, said_of};
-ghost use Rattle.builtin_natives.specs.Acting.{ActsFor};
+ghost use Rattle.builtin_deeds.specs.Acting.{ActsFor};
 
 use builtin_requests::calling::Calling;
 use builtin_requests::missing::missing;

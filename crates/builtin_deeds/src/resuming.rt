@@ -2,8 +2,8 @@
 ghost use Rattle.std.specs.Prelude.{IfOk, OnOk};
 ghost use Rattle.inherit.specs.Lines.{AreAgreeing};
 ghost use Rattle.world.specs.Law.{Goes, Lasts};
-ghost use Rattle.builtin_natives.specs.Acting.{ActsFor};
-ghost use Rattle.builtin_natives.specs.Stages.{stage_does};
+ghost use Rattle.builtin_deeds.specs.Acting.{ActsFor};
+ghost use Rattle.builtin_deeds.specs.Stages.{stage_does};
 
 use crate::stages::Stage;
 use builtin_requests::missing::missing;

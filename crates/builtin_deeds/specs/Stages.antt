@@ -6,8 +6,8 @@ use Rattle.spec_moo.specs.NativeEffect.{Caller, NativeEffect}
 use Rattle.spec_moo.specs.Natives.Rows.{answers_with, zero_value}
 use Rattle.spec_moo.specs.Natives.Objects.{accepted, told_to_enter, recycle_now}
 use Rattle.spec_moo.specs.Natives.Verbs.{eval_stage}
-use Rattle.builtin_natives.specs.declared.stages.Stage.{Stage}
-use Rattle.builtin_natives.specs.declared.stages.Stage.TheVariants.{Evaluated, Created, Recycled, Asked, Left, Ended}
+use Rattle.builtin_deeds.specs.declared.stages.Stage.{Stage}
+use Rattle.builtin_deeds.specs.declared.stages.Stage.TheVariants.{Evaluated, Created, Recycled, Asked, Left, Ended}
 
 -- with the value of the verb
 abbrev pub stage_does : Stage → Scene → Caller → Datum → NativeEffect

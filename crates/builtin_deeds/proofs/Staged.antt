@@ -10,8 +10,8 @@ use Rattle.spec_moo.specs.Natives.Objects.{staged}
 use Rattle.moo_task.specs.Frames.{native_of, native_name_of}
 use Rattle.moo_task.specs.declared.native.Native.{Native}
 use Rattle.moo_task.specs.declared.native.NativeName.TheVariants.{Recycle}
-use Rattle.builtin_natives.specs.declared.stages.Stage.{Stage}
-use Rattle.builtin_natives.specs.Stages.{stage_does, one_object, two_objects, three_objects, recycle_stage, asked_stage, left_stage}
+use Rattle.builtin_deeds.specs.declared.stages.Stage.{Stage}
+use Rattle.builtin_deeds.specs.Stages.{stage_does, one_object, two_objects, three_objects, recycle_stage, asked_stage, left_stage}
 
 by_one : (s : Scene) (c : Caller) (n : ℕ) (vs : List Datum) (v : Datum) → staged s c recycle_native n vs v ≡ stage_does (recycle_stage (one_object vs)) s c v
 by_one s c n [] v = refl

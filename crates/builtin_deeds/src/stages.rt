@@ -7,7 +7,7 @@ ghost use Rattle.spec_moo.specs.NativeEffect.{Caller};
 ghost use Rattle.spec_moo.specs.Natives.{native_turn};
 ghost use Rattle.spec_moo.specs.Natives.Objects.{new_object, staged};
 ghost use Rattle.moo_task.specs.Frames.{native_of};
-ghost use Rattle.builtin_natives.specs.Stages.{stage_does, number_of, one_object as one_object_of, two_objects as two_objects_of, three_objects as three_objects_of};
+ghost use Rattle.builtin_deeds.specs.Stages.{stage_does, number_of, one_object as one_object_of, two_objects as two_objects_of, three_objects as three_objects_of};
 
 use moo_task::native::{Native, NativeName};
 use moo_value::value::{Shown, Value};

@@ -5,8 +5,6 @@
 
 pub mod acting;
 pub mod calling;
-pub mod functions;
 pub mod own;
-pub mod perform;
 pub mod resuming;
 pub mod stages;

@@ -1,5 +1,5 @@
 //! The built-in functions.
-use builtin_deeds::functions::{call_function, named};
+use crate::functions::{call_function, named};
 use builtin_deeds::resuming::go_on;
 use builtin_deeds::stages::stage_of;
 use moo_run::natives::Natives;

@@ -5,3 +5,5 @@
 #![tactic(auto)]
 
 pub mod builtins;
+mod functions;
+mod perform;

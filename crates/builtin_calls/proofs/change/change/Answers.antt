@@ -58,4 +58,6 @@ returns-clause-left g c =
 
 pub returns-clause-well_formed : goal.returns-clause-well_formed
 returns-clause-well_formed g c =
-    goes_well g.V.View.holds g.V.View.now c.args.view.now c.shutdown.new.view (λ s k. shutdown_row s k []) _ (answer_of c.in_ok-shutdown-in-Shutdown.field-0) shutdown_keeps c.in_ok-shutdown-in-Shutdown.ensures.left c.requires.well_formed
+    let programmer = to_z-of_z w32 c.args.programmer c.ranges.programmer in
+    goes_well g.V.View.holds g.V.View.now c.args.view.now c.shutdown.new.view (λ s k. shutdown_row s k []) c.args.programmer (answer_of c.in_ok-shutdown-in-Shutdown.field-0) shutdown_keeps
+    (rw programmer at c.in_ok-shutdown-in-Shutdown.ensures.left) c.requires.well_formed

@@ -29,11 +29,11 @@ returns-in_ok-raise-in-Raise c =
 
 pub returns-in-RaiseTold : goal.returns-in-RaiseTold
 returns-in-RaiseTold c =
-    own_so c.args.task.now c.args.deeds.now c.args.deeds.now (Complains c.raise_told-failure-in-RaiseTold.result) c.args.own (RaiseTold c.in-RaiseTold.code c.in-RaiseTold.message) c.in-RaiseTold.is (λ w. c.raise_told-failure-in-RaiseTold.ensures c.args.deeds.now w (ticks_of c.args.task.now) (caller_for c.args.task.now))
+    own_so c.args.task.now c.args.deeds.now c.args.deeds.now (Complains c.raise_told-failure.result) c.args.own (RaiseTold c.in-RaiseTold.code c.in-RaiseTold.message) c.in-RaiseTold.is (λ w. c.raise_told-failure.ensures c.args.deeds.now w (ticks_of c.args.task.now) (caller_for c.args.task.now))
 
 pub returns-in-RaiseWith : goal.returns-in-RaiseWith
 returns-in-RaiseWith c =
-    own_so c.args.task.now c.args.deeds.now c.args.deeds.now (Complains c.raise_with-failure-in-RaiseWith.result) c.args.own (RaiseWith c.in-RaiseWith.code c.in-RaiseWith.message c.in-RaiseWith.value) c.in-RaiseWith.is (λ w. c.raise_with-failure-in-RaiseWith.ensures c.args.deeds.now w (ticks_of c.args.task.now) (caller_for c.args.task.now))
+    own_so c.args.task.now c.args.deeds.now c.args.deeds.now (Complains c.raise_with-failure.result) c.args.own (RaiseWith c.in-RaiseWith.code c.in-RaiseWith.message c.in-RaiseWith.value) c.in-RaiseWith.is (λ w. c.raise_with-failure.ensures c.args.deeds.now w (ticks_of c.args.task.now) (caller_for c.args.task.now))
 
 pub returns-in-CallerPerms : goal.returns-in-CallerPerms
 returns-in-CallerPerms c =

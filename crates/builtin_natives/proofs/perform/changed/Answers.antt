@@ -1,7 +1,7 @@
 use Rattle.std.proofs.Common.{◌≡◌, ◌∙◌, rules, w32, to_z, of_z}
 use Rattle.builtin_requests.specs.Requests.{changing_of, said_of}
 use Rattle.builtin_deeds.proofs.Acts.{does_acts}
-use Rattle.builtin_deeds.proofs.perform.changed.Goals as goal
+use Rattle.builtin_natives.proofs.perform.changed.Goals as goal
 
 pub returns-clause-does : goal.returns-clause-does
 returns-clause-does g c =

@@ -1,6 +1,6 @@
 use Rattle.builtin_requests.specs.declared.request.Request.TheVariants.{Asks, Changes, OfItself, Acts, Calls}
 use Rattle.builtin_deeds.proofs.Acts.{performed_so}
-use Rattle.builtin_deeds.proofs.perform.perform.Goals as goal
+use Rattle.builtin_natives.proofs.perform.perform.Goals as goal
 
 pub returns-in-Asks-clause-does : goal.returns-in-Asks-clause-does
 returns-in-Asks-clause-does g c =

@@ -5,11 +5,11 @@ ghost use Rattle.world.specs.Law.{Goes, Lasts};
 ghost use Rattle.builtin_requests.specs.Requests.{asking_of, changing_of, request_of, said_of};
 ghost use Rattle.builtin_deeds.specs.Acting.{ActsFor};
 
-use crate::acting::{act, programmer};
-use crate::calling::call_verb;
-use crate::own::about_itself;
 use builtin_calls::ask::ask;
 use builtin_calls::change::change;
+use builtin_deeds::acting::{act, programmer};
+use builtin_deeds::calling::call_verb;
+use builtin_deeds::own::about_itself;
 use builtin_requests::asking::Asking;
 use builtin_requests::changing::Changing;
 use builtin_requests::request::Request;

@@ -21,13 +21,12 @@ use builtins_world::values::texts_value;
 use command_lines::parts::Parts;
 use command_parser::command::{Command, Meant, Said};
 use command_parser::parse::parse;
-use world::link::Link;
 use inherit::verb::FoundVerb;
-use moo_task::deeds::Deeds;
-use moo_task::running::Running;
 use moo_machine::call::{Call, Start};
 use moo_program::program::Program;
 use moo_run::natives::Natives;
+use moo_task::deeds::Deeds;
+use moo_task::running::Running;
 use moo_value::text::Text;
 use object_match::place::location;
 use std::alloc::{AllocError, Global};
@@ -37,6 +36,7 @@ use step_tasks::begin::{begin, program_of};
 use step_tasks::opening::{FOREGROUND_TICKS, nothing, says};
 use task_step::outcome::Outcome;
 use world::law::View;
+use world::link::Link;
 
 /// A player's line is a command.
 pub fn player_line<V: View, N: Natives>(

@@ -17,11 +17,10 @@ ghost use Rattle.step_tasks.specs.Tasks.{MayRun};
 ghost use Rattle.step_tasks.specs.Opens.{IsOpening};
 
 use crate::login::login;
-use world::link::Link;
 use inherit::verb::FoundVerb;
+use moo_run::natives::Natives;
 use moo_task::deeds::Deeds;
 use moo_task::running::Running;
-use moo_run::natives::Natives;
 use moo_value::text::Text;
 use moo_value::value::Value;
 use std::alloc::{AllocError, Global};
@@ -33,6 +32,7 @@ use step_tasks::outcome::idle;
 use step_tasks::system::{on_system, system_task};
 use task_step::outcome::{Ending, Outcome};
 use world::law::View;
+use world::link::Link;
 use world::readers::{read_link, write_link};
 
 /// A connection opens. Nothing happens where its number is that of an open one.

@@ -18,9 +18,8 @@ use crate::login::login;
 use crate::waiting::read_by;
 use builtins_world::values::texts_value;
 use command_lines::parts::{Parts, line_parts};
-use world::link::Link;
-use moo_task::deeds::Deeds;
 use moo_run::natives::Natives;
+use moo_task::deeds::Deeds;
 use moo_value::text::Text;
 use moo_value::value::Value;
 use std::alloc::{AllocError, Global};
@@ -30,6 +29,7 @@ use step_links::programming::collect;
 use step_tasks::outcome::idle;
 use task_step::outcome::{Ending, Outcome};
 use world::law::View;
+use world::link::Link;
 use world::readers::read_link;
 
 /// A connection sends a line. Nothing happens where it is not open.

@@ -18,8 +18,6 @@ ghost use Rattle.step_tasks.specs.Ready.{AreReady};
 ghost use Rattle.step_links.specs.Accepting.{Accepts, has_player};
 
 use builtins_task::ids::{MOST_IDS, task_id};
-use world::header::Header;
-use world::link::Link;
 use inherit::verb::FoundVerb;
 use moo_task::deeds::Deeds;
 use moo_task::running::Running;
@@ -32,7 +30,9 @@ use step_deeds::queue::enqueue;
 use step_tasks::opening::{QUEUED_TICKS, tell_line};
 use step_tasks::system::{on_system, system_task};
 use task_step::outcome::Ending;
+use world::header::Header;
 use world::law::View;
+use world::link::Link;
 use world::readers::{read_header, read_link, write_link};
 
 /// The object of a connection on which nobody has logged in. No connection's number is so great that it had none.

@@ -14,8 +14,6 @@ ghost use Rattle.step_tasks.specs.Ready.{AreReady};
 
 use command_parser::programming::{Opening, open};
 use command_parser::request::Request;
-use world::link::{Link, Programming};
-use world::lists::Lines;
 use moo_task::deeds::Deeds;
 use moo_value::text::Text;
 use moo_value::value::Value;
@@ -24,6 +22,8 @@ use std::alloc::{AllocError, Global};
 use step_tasks::opening::says;
 use task_step::outcome::Outcome;
 use world::law::View;
+use world::link::{Link, Programming};
+use world::lists::Lines;
 use world::readers::write_link;
 
 /// A player's `.program` line.

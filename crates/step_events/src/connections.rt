@@ -76,7 +76,7 @@ fn open_new<V: View, N: Natives>(
     ensures played { IfOk result (λ o. (s : StepOf) → IsOpening s deeds → Goes V.holds V.now view.old view.new
         (λ before after. StepsTo (opened_link s before connection None) after o)) }
 {
-    let object = connection_object(connection)?;
+    let object = connection_object(connection);
     write_link(view, connection, Some(Link::new(object)))?;
     let argstr = Text::from_str(alloc, "")?;
     let arguments = Value::list(Vec::new(alloc))?;
@@ -94,6 +94,7 @@ pub fn close<V: View, N: Natives>(
 ) -> Result<Outcome, AllocError>
     requires home { V.holds view.old (V.home view.old) }
     requires ready { AreReady V.holds V.now view.old deeds }
+    requires connection { IsTrue (is_connection connection) }
     ensures lasts { Lasts V.holds V.home V.anchor view.old view.new result }
     ensures played { IfOk result (λ o. (s : StepOf) → IsOpening s deeds → Goes V.holds V.now view.old view.new
         (λ before after. StepsTo (closed_link s before connection (at before.links connection)) after o)) }
@@ -120,11 +121,12 @@ fn gone<V: View, N: Natives>(
 ) -> Result<Outcome, AllocError>
     requires home { V.holds view.old (V.home view.old) }
     requires ready { AreReady V.holds V.now view.old deeds }
+    requires connection { IsTrue (is_connection connection) }
     ensures lasts { Lasts V.holds V.home V.anchor view.old view.new result }
     ensures played { IfOk result (λ o. Goes V.holds V.now view.old view.new
         (λ before after. StepsTo (gone_of (scene_of deeds before foreground_ticks) connection person) after o)) }
 {
-    let nobodys = is_nobodys(connection, person)?;
+    let nobodys = is_nobodys(connection, person);
     if nobodys {
         let outcome = nothing(alloc, &deeds)?;
         return Ok(outcome);

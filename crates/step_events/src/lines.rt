@@ -1,7 +1,8 @@
 //! Lines of connections.
-ghost use Rattle.std.specs.Prelude.{◌≡◌, Some, IfOk};
+ghost use Rattle.std.specs.Prelude.{◌≡◌, Some, IfOk, IsTrue};
 ghost use Rattle.spec_value.specs.Table.{at};
 ghost use Rattle.spec_world.specs.World.{World};
+ghost use Rattle.spec_world.specs.WellFormed.{is_connection};
 ghost use Rattle.spec_world.specs.Links.{reader_of as reader_of_link};
 ghost use Rattle.spec_world.specs.Words.{words, expanded};
 ghost use Rattle.spec_step.specs.Step.{Step as StepOf};
@@ -24,8 +25,8 @@ use moo_value::text::Text;
 use moo_value::value::Value;
 use std::alloc::{AllocError, Global};
 use step_deeds::links::reader;
+use step_links::collecting::collect;
 use step_links::logins::is_nobodys;
-use step_links::programming::collect;
 use step_tasks::outcome::idle;
 use task_step::outcome::{Ending, Outcome};
 use world::law::View;
@@ -43,6 +44,7 @@ pub fn line<V: View, N: Natives>(
 ) -> Result<Outcome, AllocError>
     requires home { V.holds view.old (V.home view.old) }
     requires ready { AreReady V.holds V.now view.old deeds }
+    requires connection { IsTrue (is_connection connection) }
     ensures lasts { Lasts V.holds V.home V.anchor view.old view.new result }
     ensures played { IfOk result (λ o. (s : StepOf) → IsOpening s deeds → Goes V.holds V.now view.old view.new
         (λ before after. StepsTo (line_on s before connection text.now (at before.links connection)) after o)) }
@@ -70,6 +72,7 @@ fn take_line<V: View, N: Natives>(
     requires home { V.holds view.old (V.home view.old) }
     requires ready { AreReady V.holds V.now view.old deeds }
     requires link { (w : World) → V.holds view.old w → at (V.now view.old w).links connection ≡ Some link.now }
+    requires connection { IsTrue (is_connection connection) }
     ensures lasts { Lasts V.holds V.home V.anchor view.old view.new result }
     ensures played { IfOk result (λ o. Goes V.holds V.now view.old view.new (λ before after.
         StepsTo (line_taken (scene_of deeds before foreground_ticks) connection link.now text.now link.now.programming) after o)) }
@@ -99,6 +102,7 @@ fn read_line<V: View, N: Natives>(
     requires home { V.holds view.old (V.home view.old) }
     requires ready { AreReady V.holds V.now view.old deeds }
     requires link { (w : World) → V.holds view.old w → at (V.now view.old w).links connection ≡ Some link.now }
+    requires connection { IsTrue (is_connection connection) }
     ensures lasts { Lasts V.holds V.home V.anchor view.old view.new result }
     ensures played { IfOk result (λ o. Goes V.holds V.now view.old view.new (λ before after.
         StepsTo (line_read (scene_of deeds before foreground_ticks) connection link.now text.now (reader_of_link before connection)) after o)) }
@@ -130,11 +134,12 @@ fn line_for<V: View, N: Natives>(
     requires home { V.holds view.old (V.home view.old) }
     requires ready { AreReady V.holds V.now view.old deeds }
     requires link { (w : World) → V.holds view.old w → at (V.now view.old w).links connection ≡ Some link.now }
+    requires connection { IsTrue (is_connection connection) }
     ensures lasts { Lasts V.holds V.home V.anchor view.old view.new result }
     ensures played { IfOk result (λ o. Goes V.holds V.now view.old view.new (λ before after.
         StepsTo (line_for_of (scene_of deeds before foreground_ticks) connection link.now text.now) after o)) }
 {
-    let nobodys = is_nobodys(connection, link.person)?;
+    let nobodys = is_nobodys(connection, link.person);
     if nobodys {
         let argstr = text.clone()?;
         let arguments = words_value(alloc, text)?;

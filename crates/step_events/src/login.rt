@@ -1,6 +1,7 @@
 //! Logins.
-ghost use Rattle.std.specs.Prelude.{◌≡◌, IfOk, codes};
+ghost use Rattle.std.specs.Prelude.{◌≡◌, IfOk, IsTrue, codes};
 ghost use Rattle.spec_value.specs.Datum.{Data, list};
+ghost use Rattle.spec_world.specs.WellFormed.{is_connection};
 ghost use Rattle.spec_world.specs.Links.{connection_object as connection_object_of};
 ghost use Rattle.spec_moo.specs.Steps.Running.{run as run_of, system_task as system_task_of};
 ghost use Rattle.spec_moo.specs.Steps.Events.{login as login_of, after_login, foreground_ticks};
@@ -36,6 +37,7 @@ pub fn login<V: View, N: Natives>(
     requires home { V.holds view.old (V.home view.old) }
     requires ready { AreReady V.holds V.now view.old deeds }
     requires list { (args : Data) × (arguments ≡ list args) }
+    requires connection { IsTrue (is_connection connection) }
     ensures lasts { Lasts V.holds V.home V.anchor view.old view.new result }
     ensures played { IfOk result (λ o. (args : Data) → arguments ≡ list args → Goes V.holds V.now view.old view.new
         (λ before after. StepsTo (login_of (scene_of deeds before foreground_ticks) connection argstr args) after o)) }
@@ -69,12 +71,13 @@ fn log_in<V: View, N: Natives>(
     requires home { V.holds view.old (V.home view.old) }
     requires ready { AreReady V.holds V.now view.old deeds }
     requires list { (args : Data) × (arguments ≡ list args) }
+    requires connection { IsTrue (is_connection connection) }
     ensures lasts { Lasts V.holds V.home V.anchor view.old view.new result }
     ensures played { IfOk result (λ o. (args : Data) → arguments ≡ list args → Goes V.holds V.now view.old view.new
         (λ before after. StepsTo (after_login connection (run_of (scene_of deeds before foreground_ticks)
         (system_task_of (connection_object_of connection) (codes "do_login_command") argstr args found.now))) after o)) }
 {
-    let object = connection_object(connection)?;
+    let object = connection_object(connection);
     let task = system_task(
         alloc,
         object,

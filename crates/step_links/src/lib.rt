@@ -4,5 +4,8 @@
 //! What is said of a view here is said of each world that it still allows.
 #![tactic(auto)]
 
+mod coding;
+pub mod collecting;
+mod faults;
 pub mod logins;
 pub mod programming;

@@ -1,8 +1,9 @@
 //! What the value does with which a login ends: a player gets the link.
-ghost use Rattle.std.specs.Prelude.{◌≡◌, ℕ, true, Some, IfOk, OnOk, codes};
+ghost use Rattle.std.specs.Prelude.{◌≡◌, ℕ, true, Some, IfOk, IsTrue, OnOk, codes};
 ghost use Rattle.std.specs.Ordering.{int_eq};
 ghost use Rattle.spec_value.specs.Datum.{no_data, item, list, object as object_value};
 ghost use Rattle.spec_world.specs.World.{World};
+ghost use Rattle.spec_world.specs.WellFormed.{is_connection};
 ghost use Rattle.spec_world.specs.Links.{connection_object as connection_object_of};
 ghost use Rattle.spec_world.specs.VerbsSought.{find_verb};
 ghost use Rattle.spec_moo.specs.Pending.{done};
@@ -35,22 +36,20 @@ use world::law::View;
 use world::link::Link;
 use world::readers::{read_header, read_link, write_link};
 
-/// The object of a connection on which nobody has logged in. No connection's number is so great that it had none.
-pub fn connection_object(connection: i32) -> Result<i32, AllocError>
-    ensures { IfOk result (λ o. o ≡ connection_object_of connection) }
+/// The object of a connection on which nobody has logged in.
+pub fn connection_object(connection: i32) -> i32
+    requires { IsTrue (is_connection connection) }
+    ensures { result ≡ connection_object_of connection }
 {
-    match (-3i32).checked_sub(connection) {
-        Some(object) => Ok(object),
-        None => Err(AllocError),
-    }
+    -3 - connection
 }
 
 /// Whether a link's person is the object of its connection: nobody has logged in on it.
-pub fn is_nobodys(connection: i32, person: i32) -> Result<bool, AllocError>
-    ensures { IfOk result (λ b. b ≡ int_eq person (connection_object_of connection)) }
+pub fn is_nobodys(connection: i32, person: i32) -> bool
+    requires { IsTrue (is_connection connection) }
+    ensures { result ≡ int_eq person (connection_object_of connection) }
 {
-    let object = connection_object(connection)?;
-    Ok(person == object)
+    person == connection_object(connection)
 }
 
 /// What the value does with which a login ends.
@@ -63,6 +62,7 @@ pub fn accept<V: View>(
 ) -> Result<(), AllocError>
     requires home { V.holds view.old (V.home view.old) }
     requires ready { HasValue ending.now → AreReady V.holds V.now view.old deeds.old }
+    requires connection { IsTrue (is_connection connection) }
     ensures lasts { Lasts V.holds V.home V.anchor view.old view.new result }
     ensures accepts { OnOk result (Goes V.holds V.now view.old view.new (λ before after. Accepts connection ending.now deeds.old before deeds.new after)) }
 {
@@ -82,6 +82,7 @@ fn accept_value<V: View>(
 ) -> Result<(), AllocError>
     requires home { V.holds view.old (V.home view.old) }
     requires ready { AreReady V.holds V.now view.old deeds.old }
+    requires connection { IsTrue (is_connection connection) }
     ensures lasts { Lasts V.holds V.home V.anchor view.old view.new result }
     ensures left { OnOk result (Goes V.holds V.now view.old view.new
         (λ before after. (t : ℕ) → scene_of deeds.new after t ≡ login_value (scene_of deeds.old before t) connection (done value.now))) }
@@ -102,6 +103,7 @@ fn accept_object<V: View>(
 ) -> Result<(), AllocError>
     requires home { V.holds view.old (V.home view.old) }
     requires ready { AreReady V.holds V.now view.old deeds.old }
+    requires connection { IsTrue (is_connection connection) }
     ensures lasts { Lasts V.holds V.home V.anchor view.old view.new result }
     ensures left { OnOk result (Goes V.holds V.now view.old view.new
         (λ before after. (t : ℕ) → scene_of deeds.new after t ≡ login_value (scene_of deeds.old before t) connection (done (object_value object)))) }
@@ -116,6 +118,7 @@ fn accept_object<V: View>(
 // Whether the link is still there, and nobody's, and the object is a player.
 fn may_log_in<V: View>(view: &mut V, connection: i32, object: i32) -> Result<bool, AllocError>
     requires home { V.holds view.old (V.home view.old) }
+    requires connection { IsTrue (is_connection connection) }
     ensures lasts { Lasts V.holds V.home V.anchor view.old view.new result }
     ensures left { IfOk result (λ b. Tells V.holds V.now view.old view.new (λ w. (d : TheDeeds) (t : ℕ) → may_log_in_of (scene_of d w t) connection object ≡ b)) }
 {
@@ -125,7 +128,7 @@ fn may_log_in<V: View>(view: &mut V, connection: i32, object: i32) -> Result<boo
         return Ok(false);
     }
     let link = read_link(view, connection)?;
-    let nobodys = connection_object(connection)?;
+    let nobodys = connection_object(connection);
     let open = is_open_for(&link, nobodys);
     Ok(open)
 }

@@ -4,7 +4,7 @@ ghost use Rattle.std.specs.Fmt.{signed_decimal};
 ghost use Rattle.spec_value.specs.Table.{at};
 ghost use Rattle.spec_world.specs.World.{World};
 ghost use Rattle.spec_moo.specs.Steps.Events.{foreground_ticks};
-ghost use Rattle.spec_moo.specs.Steps.Programming.{begins, requested, collected};
+ghost use Rattle.spec_moo.specs.Steps.Programming.{begins, requested};
 ghost use Rattle.command_parser.specs.Meanings.{request_of};
 ghost use Rattle.command_parser.specs.Openings.{opened};
 ghost use Rattle.moo_task.specs.Deeds.{scene_of};
@@ -128,24 +128,4 @@ fn now_programming(alloc: Global, object: i32, verb: &Text) -> Result<Text, Allo
     first.know();
     verb.know();
     Text::joined(alloc, first.as_str(), verb.as_str(), ".")
-}
-
-/// A line for a verb's code, or the one that ends it.
-pub fn collect<V: View>(
-    alloc: Global,
-    view: &mut V,
-    deeds: Deeds,
-    connection: i32,
-    link: &Link,
-    programming: &Programming,
-    text: &Text,
-) -> Result<Outcome, AllocError>
-    requires home { V.holds view.old (V.home view.old) }
-    requires ready { AreReady V.holds V.now view.old deeds }
-    requires link { (w : World) → V.holds view.old w → at (V.now view.old w).links connection ≡ Some link.now }
-    ensures lasts { Lasts V.holds V.home V.anchor view.old view.new result }
-    ensures played { IfOk result (λ o. Goes V.holds V.now view.old view.new (λ before after.
-        StepsTo (collected (scene_of deeds before foreground_ticks) connection link.now programming.now text.now) after o)) }
-{
-    Err(AllocError)
 }

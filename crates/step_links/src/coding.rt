@@ -12,7 +12,7 @@ ghost use Rattle.world.specs.Law.{Goes, Lasts};
 ghost use Rattle.builtins_change.specs.Programs.{with_program};
 ghost use Rattle.step_tasks.specs.Performed.{StepsTo};
 ghost use Rattle.step_tasks.specs.Ready.{AreReady};
-ghost use Rattle.step_links.specs.Coding.{HasVerb, HasVerbAt};
+ghost use Rattle.step_links.specs.Codes.{HasVerb, HasVerbAt};
 
 use crate::faults::fault_text;
 use builtins_change::put::put_program;

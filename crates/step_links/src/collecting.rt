@@ -91,11 +91,7 @@ fn keep<V: View>(
 }
 
 // The lines with one more, unless they are too long then, or were before.
-fn with_line(
-    alloc: Global,
-    lines: &Option<Lines>,
-    line: &Text,
-) -> Result<Option<Lines>, AllocError>
+fn with_line(alloc: Global, lines: &Option<Lines>, line: &Text) -> Result<Option<Lines>, AllocError>
     ensures { IfOk result (λ o. o ≡ with_line_of lines.now line.now) }
 {
     match lines {
@@ -120,8 +116,8 @@ fn followed_by(alloc: Global, lines: &[Text], line: &Text) -> Result<Vec<Text>, 
     ensures { IfOk result (λ v. v.items ≡ lines.now ++ line.now ∷ []) }
 {
     let mut all = Vec::new(alloc);
-    for line in lines {
-        all.push(line.clone()?)?;
+    for kept in lines {
+        all.push(kept.clone()?)?;
     }
     all.push(line.clone()?)?;
     Ok(all)

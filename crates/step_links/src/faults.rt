@@ -3,7 +3,7 @@ ghost use Rattle.std.specs.Prelude.{◌≡◌, Some, None, option_map, IfOk, IsT
 ghost use Rattle.spec_value.specs.Datum.{is_text};
 ghost use Rattle.spec_program.specs.ReadPrograms.{Parsed};
 ghost use Rattle.syntax_fault.specs.Meaning.{IsFaultOrMemory, kind_meant};
-ghost use Rattle.step_links.specs.Coding.{IsTold, behind_line};
+ghost use Rattle.step_links.specs.Codes.{IsTold, behind_line};
 
 use moo_value::text::Text;
 use std::alloc::{AllocError, Global};

@@ -16,7 +16,7 @@ returns-then-nobodys-clause-played g c w h =
     let t = c.args.text.now in
     let connection = to_z-of_z w32 c.args.connection c.ranges.connection in
     let person : to_z w32 (of_z w32 c.link.inside.person) ≡ c.args.link.now.person = search rules in
-    let nobody : int_eq c.args.link.now.person (connection_object c.args.connection) ≡ true = sym (rw (person, connection) at c.in_ok-nobodys.ensures) ∙ c.if-nobodys.true in
+    let nobody : int_eq c.args.link.now.person (connection_object c.args.connection) ≡ true = sym (rw (person, connection) at c.is_nobodys-nobodys.ensures) ∙ c.if-nobodys.true in
     let argstr : c.in_ok-argstr.argstr ≡ t = search rules in
     let r = ((rw connection at c.in_ok-outcome.ensures.played) (words_value t) c.in_ok-arguments.ensures) w h in (
       r.0,
@@ -30,7 +30,7 @@ returns-clause-played g c w h =
     let t = c.args.text.now in
     let connection = to_z-of_z w32 c.args.connection c.ranges.connection in
     let person : to_z w32 (of_z w32 c.link.inside.person) ≡ c.args.link.now.person = search rules in
-    let somebody : int_eq c.args.link.now.person (connection_object c.args.connection) ≡ false = sym (rw (person, connection) at c.in_ok-nobodys.ensures) ∙ c.if-nobodys.false in
+    let somebody : int_eq c.args.link.now.person (connection_object c.args.connection) ≡ false = sym (rw (person, connection) at c.is_nobodys-nobodys.ensures) ∙ c.if-nobodys.false in
     let r = (rw connection at c.in_ok-outcome-2.ensures.played) w h in (
       r.0,
       ap (λ b. if b then login (scene_of c.args.deeds v foreground_ticks) c.args.connection t (words_value t) else player_line (scene_of c.args.deeds v foreground_ticks) c.args.connection c.args.link.now.person t) somebody ∙ r.1,

@@ -10,8 +10,8 @@ use Rattle.step_events.proofs.login.log_in.Goals as goal
 pub run_task-requires-clause-runs : goal.run_task-requires-clause-runs
 run_task-requires-clause-runs g c =
     let connection = to_z-of_z w32 c.args.connection c.ranges.connection in
-    let object : to_z w32 (of_z w32 c.in_ok-object.object) ≡ c.in_ok-object.object = search rules in
-    let made : c.in_ok-object.object ≡ connection_object c.args.connection = rw connection at c.in_ok-object.ensures in
+    let object : to_z w32 (of_z w32 c.connection_object-object.result) ≡ c.connection_object-object.result = search rules in
+    let made : c.connection_object-object.result ≡ connection_object c.args.connection = rw connection at c.connection_object-object.ensures in
     let l = c.requires.list in (
       system_task (connection_object c.args.connection) (codes "do_login_command") c.args.argstr l.0 c.args.found.now,
       rw (object, made) at (c.in_ok-task.ensures.runs l.0 l.1),
@@ -24,8 +24,8 @@ pub returns-clause-played : goal.returns-clause-played
 returns-clause-played g c args is w h =
     let view = g.V.View in
     let connection = to_z-of_z w32 c.args.connection c.ranges.connection in
-    let object : to_z w32 (of_z w32 c.in_ok-object.object) ≡ c.in_ok-object.object = search rules in
-    let made : c.in_ok-object.object ≡ connection_object c.args.connection = rw connection at c.in_ok-object.ensures in
+    let object : to_z w32 (of_z w32 c.connection_object-object.result) ≡ c.connection_object-object.result = search rules in
+    let made : c.connection_object-object.result ≡ connection_object c.args.connection = rw connection at c.connection_object-object.ensures in
     let t = (rw connection at c.in_ok-accept.ensures.accepts) w h in
     let p = system_task (connection_object c.args.connection) (codes "do_login_command") c.args.argstr args c.args.found.now in
     let may = rw (object, made) at (c.in_ok-task.ensures.runs args is) in

@@ -16,7 +16,7 @@ pub returns-clause-left : goal.returns-clause-left
 returns-clause-left g c w h =
     let v = g.V.View.now c.args.view.now w in
     let connection = to_z-of_z w32 c.args.connection c.ranges.connection in
-    let nobodys : to_z w32 (of_z w32 c.in_ok-nobodys.nobodys) ≡ c.in_ok-nobodys.nobodys = search rules in
+    let nobodys : to_z w32 (of_z w32 c.connection_object-nobodys.result) ≡ c.connection_object-nobodys.result = search rules in
     let second = (rw connection at c.in_ok-link.ensures.left) w h in
     let first = (rw (to_z-of_z w32 c.args.object c.ranges.object) at c.in_ok-header.ensures.left) w second.0 in
     let same = second.1.0 ∙ first.1.0 in (
@@ -26,6 +26,6 @@ returns-clause-left g c w h =
         λ d t.
             may_where d v t c.args.connection c.args.object c.in_ok-header.header c.in_ok-link.link first.1.1 (sym c.is_player-player.ensures ∙ c.if-not-player.false)
             (ap (λ (x : World). at x.links c.args.connection) (sym first.1.0) ∙ second.1.1)
-            ∙ ap (is_open_for c.in_ok-link.link) (sym (rw connection at c.in_ok-nobodys.ensures)) ∙ sym (rw nobodys at c.is_open_for-open.ensures),
+            ∙ ap (is_open_for c.in_ok-link.link) (sym (rw connection at c.connection_object-nobodys.ensures)) ∙ sym (rw nobodys at c.is_open_for-open.ensures),
       ),
     )

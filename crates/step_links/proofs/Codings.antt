@@ -1,6 +1,6 @@
 -- Lines that are collected, and what comes of them when they end.
-use Rattle.std.proofs.Common.{◌≡◌, ◌∙◌, ap, sym, refl, subst, ℕ, zero, suc, ◌+◌, ◌%◌, ◌^◌, ◌-◌, ◌<◌, ◌≤◌, min, ℤ, Bool, true, false, List, [], ◌∷◌, ◌++◌, append_assoc, Option, Some, None, IsTrue, if◌then◌else◌, codes, arith, some-injective}
-use Rattle.std.specs.Prelude.{option_map, nat_le}
+use Rattle.std.proofs.Common.{◌≡◌, ◌∙◌, ap, sym, refl, subst, ℕ, zero, suc, ◌+◌, ◌%◌, ◌^◌, ◌-◌, ◌<◌, ◌≤◌, min, ℤ, Bool, true, false, List, [], ◌∷◌, ◌++◌, append_assoc, Option, Some, None, IsTrue, if◌then◌else◌, codes, arith}
+use Rattle.std.specs.Prelude.{option_map, nat_le, Result, Ok, Err, IfOk}
 use Rattle.std.proofs.lemmas.Bool.Decides.{nat_tests}
 use Rattle.std.specs.Fmt.{decimal}
 use Rattle.std.proofs.lemmas.Fmt.{decimal_by_steps}
@@ -11,6 +11,7 @@ use Rattle.spec_world.specs.World.{World, Object, Link, Programming, Verb, objec
 use Rattle.spec_world.specs.VerbNames.{any_spells}
 use Rattle.spec_world.specs.Permissions.{in_place, may, program_verb}
 use Rattle.spec_world.specs.Links.{open_link}
+use Rattle.spec_world.proofs.Trees.{some_same}
 use Rattle.spec_view.specs.Questions.{verbs_at}
 use Rattle.spec_step.specs.Outcome.{Outcome}
 use Rattle.spec_moo.specs.Scene.{Scene}
@@ -25,17 +26,19 @@ use Rattle.step_links.specs.Codes.{HasVerb, HasVerbAt, behind_line, IsTold}
 
 -- ---- the verb
 
+place_next : (u : Verb) (vs : List Verb) (m : Option ℕ) (n : ℕ) → ((k : ℕ) → m ≡ Some k → (v : Verb) × (in_place vs k ≡ Some v)) → option_map suc m ≡ Some n
+    → (v : Verb) × (in_place (u ∷ vs) n ≡ Some v)
+place_next u vs None n later e = cc
+place_next u vs (Some k) n later e = let f = later k refl in (f.0, ap (in_place (u ∷ vs)) (sym (some_same e)) ∙ f.1)
+
+place_among : (u : Verb) (vs : List Verb) (b : Bool) (m : Option ℕ) (n : ℕ) → ((k : ℕ) → m ≡ Some k → (v : Verb) × (in_place vs k ≡ Some v))
+    → (if b then Some zero else option_map suc m) ≡ Some n → (v : Verb) × (in_place (u ∷ vs) n ≡ Some v)
+place_among u vs true m n later e = (u, ap (in_place (u ∷ vs)) (sym (some_same e)))
+place_among u vs false m n later e = place_next u vs m n later e
+
 found_there : (vs : List Verb) (word : Text) (n : ℕ) → place_of_word word vs ≡ Some n → (v : Verb) × (in_place vs n ≡ Some v)
 found_there [] word n e = cc
-found_there (u ∷ vs) word n e = go (any_spells u.names word) n e
-  where
-    later : (m : Option ℕ) (k : ℕ) → place_of_word word vs ≡ m → option_map suc m ≡ Some k → (v : Verb) × (in_place (u ∷ vs) k ≡ Some v)
-    later None k there is = cc
-    later (Some j) k there is = let f = found_there vs word j there in (f.0, ap (in_place (u ∷ vs)) (sym (some-injective is)) ∙ f.1)
-
-    go : (b : Bool) (k : ℕ) → (if b then Some zero else option_map suc (place_of_word word vs)) ≡ Some k → (v : Verb) × (in_place (u ∷ vs) k ≡ Some v)
-    go true k is = (u, ap (in_place (u ∷ vs)) (sym (some-injective is)))
-    go false k is = later (place_of_word word vs) k refl is
+found_there (u ∷ vs) word n e = place_among u vs (any_spells u.names word) (place_of_word word vs) n (λ k is. found_there vs word k is) e
 
 allowed_place : (w : World) (who o : ℤ) (m : Option ℕ) (n : ℕ) → programmable_at w who o m ≡ Some n → m ≡ Some n
 allowed_place w who o None n e = cc
@@ -75,12 +78,17 @@ text_decimal =
 told_as : (k : Option FaultKind) (line : ℕ) (p : Parsed) (kind t : Text) → option_map behind_line k ≡ Some kind → t ≡ codes "Line " ++ (decimal line ++ kind) → OfKindOrMemory k line p → IsTold t p
 told_as None line p kind t named is h = cc
 told_as (Some k) line p kind t named is h =
-    subst (IsTold t) (sym h) (is ∙ ap (λ (x : Text). codes "Line " ++ (decimal line ++ x)) (sym (some-injective named)))
+    subst (IsTold t) (sym h) (is ∙ ap (λ (x : Text). codes "Line " ++ (decimal line ++ x)) (sym (some_same named)))
 
-pub fault_told : (e : SyntaxFault) (p : Parsed) (kind digits t : Text) → option_map behind_line (kind_meant e.kind) ≡ Some kind → digits ≡ decimal e.line
+fault_told : (e : SyntaxFault) (p : Parsed) (kind digits t : Text) → option_map behind_line (kind_meant e.kind) ≡ Some kind → digits ≡ decimal e.line
     → t ≡ codes "Line " ++ (digits ++ kind) → IsFaultOrMemory e p → IsTold t p
 fault_told e p kind digits t named number is h =
     told_as (kind_meant e.kind) e.line p kind t named (is ∙ ap (λ (x : Text). codes "Line " ++ (x ++ kind)) number) h
+
+pub fault_joined : {E : Type 0} (e : SyntaxFault) (kind digits : Text) (r : Result Text E) → option_map behind_line (kind_meant e.kind) ≡ Some kind → digits ≡ decimal e.line
+    → IfOk r (λ t. t ≡ codes "Line " ++ (digits ++ kind)) → IfOk r (λ t. (p : Parsed) → IsFaultOrMemory e p → IsTold t p)
+fault_joined e kind digits (Ok t) named number is = λ p h. fault_told e p kind digits t named number is h
+fault_joined e kind digits (Err x) named number is = tt
 
 pub fault_written : (s : Scene) (c o : ℤ) (n : ℕ) (p : Parsed) (t : Text) → IsTold t p → written s c o n p ≡ says s c t
 fault_written s c o n (program q) t h = absurd h

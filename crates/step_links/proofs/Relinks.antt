@@ -73,7 +73,7 @@ greeting_is s who moment f k task made begun same = made ∙ ap (forked_task who
 
 -- a link that is there is that of a connection
 pub link_ranged : (s : Scene) (c : ℤ) (k : Link) → IsReady s → at s.world.links c ≡ Some k → IsTrue (is_connection c)
-link_ranged s c k h e = first_holds (is_connection c) _ (h.well_formed.links c k e)
+link_ranged s c k h e = first_holds (is_connection c) _ (h.agrees.world.links.links c k e)
 
 -- what a player is told whose lines are collected
 pub programming_told : (o : ℤ) (first name verb number : List ℕ) → first ≡ codes "Now programming " ++ (number ++ codes ":") → number ≡ to_text (object o) → name ≡ verb

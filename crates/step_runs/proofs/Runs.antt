@@ -2,7 +2,7 @@
 use Rattle.std.proofs.Common.{◌≡◌, ◌∙◌, ap, sym, refl, subst, ℕ, ◌-◌, ℤ, List, ◌∷◌}
 use Rattle.spec_value.specs.Datum.{Datum}
 use Rattle.spec_world.specs.World.{World, Entry}
-use Rattle.spec_world.specs.WellFormed.{IsWellFormed, FramesStand}
+use Rattle.spec_world.specs.WellFormed.{FramesStand}
 use Rattle.spec_moo.specs.Scene.{Scene}
 use Rattle.spec_moo.specs.Pending as pending
 use Rattle.spec_moo.specs.Pending.{done, raised, out_of_ticks, waiting, killed}
@@ -38,7 +38,6 @@ use Rattle.step_tasks.specs.Performed.{HasValue}
 use Rattle.step_tasks.specs.Tasks.{MayRun}
 use Rattle.step_runs.specs.declared.run.Ran.{Ran}
 use Rattle.step_tasks.proofs.Values.{no_value_else}
-use Rattle.step_runs.proofs.Endings.{told_nothing}
 
 -- ---- the stop of a machine, and that of the definition
 
@@ -123,23 +122,15 @@ value_result : (e : Ending) → HasValue e → (v : Datum) × (result_of e ≡ v
 value_result (Value v) h = (v, refl)
 value_result _ h = absurd h
 
--- the world is then the one of the run
-value_world : (why : pending.Stop) (player : ℤ) (d : Deeds) (u v : World) (f : Deeds) (x : Datum) → why ≡ done x
-    → scene_of f v 0 ≡ after_stop player (scene_of d u 0) why → v ≡ u
-value_world why player d u v f x is h =
-    ap (λ (s : Scene). s.world) (h ∙ ap (after_stop player (scene_of d u 0)) is ∙ told_nothing (scene_of d u 0) player)
-
 pub value_ready : (d : Deeds) (w u v : World) (task : Running) (p : pending.Pending) (x : Stopped) (player : ℤ) (r : Ran) → MayRun task p
     → IsReady (scene_of d w (ticks_of task)) → StopsAsSegment d w task (stopped_at x u) → player ≡ task.player
     → Settles player x.stop r.ending x.deeds u r.deeds v → r.ticks_left ≡ x.ticks_left → r.ticks_used ≡ ticks_of task - left_at x.stop x.ticks_left
-    → IsWellFormed u → HasValue r.ending → (t : ℕ) → IsReady (scene_of r.deeds v t)
-value_ready d w u v task p x player r may ready h players settles left used whole value t =
+    → HasValue r.ending → (t : ℕ) → IsReady (scene_of r.deeds v t)
+value_ready d w u v task p x player r may ready h players settles left used value t =
     let s : Scene = scene_of d w (ticks_of task) in
     let e = segment (ticks_of task) s p in
     let m = the_end d w u task p x may ready h in
     let ran = has_run d w u v task p x player r may ready h players settles left used in
     let given = value_result r.ending value in
     let is : e.stop ≡ done given.0 = no_value_else e.stop given.0 (ran.result ∙ given.1) in
-    let same : v ≡ u = value_world e.stop player x.deeds u v r.deeds given.0 is (settles e.stop m.stop_is 0).0 in
-    let well : IsWellFormed (run s p).scene.world = subst IsWellFormed (sym (ap (λ (z : Scene). z.world) ran.scene ∙ same)) whole in
-    ticks_aside (scene_of r.deeds v r.ticks_left) t (subst IsReady ran.scene (values_leave_ready s p given.0 ready may.keeps is well))
+    ticks_aside (scene_of r.deeds v r.ticks_left) t (subst IsReady ran.scene (values_leave_ready s p given.0 ready may.keeps is))

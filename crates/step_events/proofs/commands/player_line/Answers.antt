@@ -9,7 +9,7 @@ use Rattle.step_tasks.proofs.Playing.{plays_then, ready_told, still}
 use Rattle.step_events.proofs.commands.player_line.Goals as goal
 
 pub parse-requires-clause-well_formed : goal.parse-requires-clause-well_formed
-parse-requires-clause-well_formed g c w h = (c.requires.ready w h 0).well_formed
+parse-requires-clause-well_formed g c w h = (c.requires.ready w h 0).agrees.world.objects
 
 pub run_command-requires-clause-ready : goal.run_command-requires-clause-ready
 run_command-requires-clause-ready g c = ready_told g.V.View.holds g.V.View.now c.args.view.now c.parse.new.view _ c.args.deeds c.requires.ready c.in_ok-command.ensures.left

@@ -13,7 +13,7 @@ use Rattle.step_tasks.proofs.Playing.{plays_told, plays_then, ready_told}
 use Rattle.step_events.proofs.connections.player_gone.Goals as goal
 
 pub on_system-requires-clause-well_formed : goal.on_system-requires-clause-well_formed
-on_system-requires-clause-well_formed g c w h = (c.requires.ready w h 0).well_formed
+on_system-requires-clause-well_formed g c w h = (c.requires.ready w h 0).agrees.world.objects
 
 pub play_task-requires-clause-ready : goal.play_task-requires-clause-ready
 play_task-requires-clause-ready g c =

@@ -9,7 +9,7 @@ use Rattle.step_tasks.proofs.Playing.{plays_told, plays_then, ready_told}
 use Rattle.step_events.proofs.login.login.Goals as goal
 
 pub on_system-requires-clause-well_formed : goal.on_system-requires-clause-well_formed
-on_system-requires-clause-well_formed g c w h = (c.requires.ready w h 0).well_formed
+on_system-requires-clause-well_formed g c w h = (c.requires.ready w h 0).agrees.world.objects
 
 pub log_in-requires-clause-ready : goal.log_in-requires-clause-ready
 log_in-requires-clause-ready g c =

@@ -12,7 +12,7 @@ use Rattle.step_links.proofs.Codings.{may_be_programmed, still_has}
 use Rattle.step_links.proofs.coding.end.Goals as goal
 
 pub programmable-requires-clause-well_formed : goal.programmable-requires-clause-well_formed
-programmable-requires-clause-well_formed g c w h = (c.requires.ready w h 0).well_formed
+programmable-requires-clause-well_formed g c w h = (c.requires.ready w h 0).agrees.world.objects
 
 pub end_at-requires-clause-there : goal.end_at-requires-clause-there
 end_at-requires-clause-there g c w h =

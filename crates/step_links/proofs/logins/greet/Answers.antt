@@ -4,7 +4,7 @@ use Rattle.step_links.proofs.Accepted.{greeted_then, not_there_greeted}
 use Rattle.step_links.proofs.logins.greet.Goals as goal
 
 pub on_system-requires-clause-well_formed : goal.on_system-requires-clause-well_formed
-on_system-requires-clause-well_formed g c w h = (c.requires.ready w h 0).well_formed
+on_system-requires-clause-well_formed g c w h = (c.requires.ready w h 0).agrees.world.objects
 
 pub returns-in-Some-clause-left : goal.returns-in-Some-clause-left
 returns-in-Some-clause-left g c =

@@ -11,7 +11,7 @@ use Rattle.step_tasks.proofs.Playing.{plays_then, ready_told, still}
 use Rattle.step_links.proofs.programming.request.Goals as goal
 
 pub open-requires-clause-well_formed : goal.open-requires-clause-well_formed
-open-requires-clause-well_formed g c w h = (c.requires.ready w h 0).well_formed
+open-requires-clause-well_formed g c w h = (c.requires.ready w h 0).agrees.world.objects
 
 pub answer-requires-clause-ready : goal.answer-requires-clause-ready
 answer-requires-clause-ready g c =

@@ -5,7 +5,7 @@ use Rattle.step_runs.proofs.Runs.{loops, can_be_kept, has_run, value_ready}
 use Rattle.step_runs.proofs.run.run_task.Goals as goal
 
 pub run-requires-clause-well_formed : goal.run-requires-clause-well_formed
-run-requires-clause-well_formed g c w h = (c.requires.ready w h 0).well_formed
+run-requires-clause-well_formed g c w h = (c.requires.ready w h 0).agrees.world.objects
 
 pub run-requires-clause-under_way : goal.run-requires-clause-under_way
 run-requires-clause-under_way g c = loops (running_kept c.args.task) c.args.task.outer c.requires.runs.1.under_way
@@ -36,4 +36,4 @@ returns-clause-ready g c value w h t =
     let k = (rw player at c.in_ok-ending.ensures.settles) w h in
     let l = c.in_ok-stopped.ensures.stopped w k.0 in
     value_ready c.args.deeds (view.now c.args.view.now w) (view.now c.run.new.view w) (view.now c.after_stop.new.view w) c.args.task c.requires.runs.0 c.in_ok-stopped.stopped c.args.task.player _
-    c.requires.runs.1 (c.requires.ready w l.0 (ticks_of c.args.task)) l.1 refl k.1 refl (search rules) (c.in_ok-stopped.ensures.well_formed w k.0) value t
+    c.requires.runs.1 (c.requires.ready w l.0 (ticks_of c.args.task)) l.1 refl k.1 refl (search rules) value t

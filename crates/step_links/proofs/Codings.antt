@@ -1,6 +1,6 @@
 -- Lines that are collected, and what comes of them when they end.
 use Rattle.std.proofs.Common.{◌≡◌, ◌∙◌, ap, sym, refl, subst, ℕ, zero, suc, ◌+◌, ◌%◌, ◌^◌, ◌-◌, ◌<◌, ◌≤◌, min, ℤ, Bool, true, false, List, [], ◌∷◌, ◌++◌, append_assoc, Option, Some, None, IsTrue, if◌then◌else◌, codes, arith}
-use Rattle.std.specs.Prelude.{option_map, nat_le, Result, Ok, Err, IfOk}
+use Rattle.std.specs.Prelude.{option_map, nat_le, Result, Ok, Err, IfOk, OnOk}
 use Rattle.std.proofs.lemmas.Bool.Decides.{nat_tests}
 use Rattle.std.specs.Fmt.{decimal}
 use Rattle.std.proofs.lemmas.Fmt.{decimal_by_steps}
@@ -11,6 +11,7 @@ use Rattle.spec_world.specs.World.{World, Object, Link, Programming, Verb, objec
 use Rattle.spec_world.specs.VerbNames.{any_spells}
 use Rattle.spec_world.specs.Permissions.{in_place, may, program_verb}
 use Rattle.spec_world.specs.Links.{open_link}
+use Rattle.spec_world.specs.Members.{verb_changed}
 use Rattle.spec_world.proofs.Trees.{some_same}
 use Rattle.spec_view.specs.Questions.{verbs_at}
 use Rattle.spec_step.specs.Outcome.{Outcome}
@@ -22,6 +23,7 @@ use Rattle.syntax_fault.specs.Meaning.{kind_meant, OfKindOrMemory, IsFaultOrMemo
 use Rattle.syntax_fault.specs.declared.fault.SyntaxFault.{SyntaxFault}
 use Rattle.moo_value.proofs.Characters.{is_text-append}
 use Rattle.spec_program.specs.Tokens.{FaultKind}
+use Rattle.world.specs.Law.{Goes, Tells}
 use Rattle.step_links.specs.Codes.{HasVerb, HasVerbAt, behind_line, IsTold}
 
 -- ---- the verb
@@ -65,6 +67,20 @@ still_has w c o k (Some n) h = record { verbs = h.verbs; verb = h.verb; object_h
 
 pub has_at : (w : World) (o : ℤ) (m : Option ℕ) (n : ℕ) → m ≡ Some n → HasVerbAt w o m → HasVerb w o n
 has_at w o m n is h = subst (HasVerbAt w o) is h
+
+pub none_less : (w : World) (o : ℤ) (n : ℕ) (vs : List Verb) → HasVerb w o n → verbs_at w o ≡ Some vs → in_place vs n ≡ None → ⊥
+none_less w o n vs h is none =
+    let clash : None ≡ Some h.verb = sym none ∙ ap (λ (us : List Verb). in_place us n) (some_same (sym is ∙ h.object_has)) ∙ h.stands_there in absurd (cc (clash))
+
+-- the verb that was found has another program
+pub program_given : {V E : Type 0} (holds : V → World → Type 0) (now : V → World → World) (a b u : V) (o : ℤ) (n : ℕ) (f : Verb → Verb) (vs : List Verb) (r : Result (Unit {0}) E)
+    → Tells holds now a b (λ w. verbs_at w o ≡ Some vs) → OnOk r (Goes holds now b u (λ before after. verbs_at before o ≡ Some vs → after ≡ verb_changed before o n f))
+    → OnOk r (Goes holds now a u (λ before after. after ≡ verb_changed before o n f))
+program_given holds now a b u o n f vs (Err x) told goes = goes
+program_given holds now a b u o n f vs (Ok x) told goes = λ w h.
+    let k = goes w h in
+    let j = told w k.0 in
+    (j.0, k.1 (ap (λ (y : World). verbs_at y o) j.1.0 ∙ j.1.1) ∙ ap (λ (y : World). verb_changed y o n f) j.1.0)
 
 -- ---- faults
 

@@ -1,9 +1,10 @@
 //! The line that ends a verb's code: the verb has the program that the lines are.
-ghost use Rattle.std.specs.Prelude.{◌≡◌, ℕ, ℤ, Some, string_bytes, IfOk, OnOk};
+ghost use Rattle.std.specs.Prelude.{◌≡◌, ℕ, ℤ, Some, None, MatchOption, string_bytes, IfOk, OnOk};
 ghost use Rattle.spec_value.specs.Table.{at};
 ghost use Rattle.spec_program.specs.ReadPrograms.{Parsed, program as program_read, joined_lines, parsed_lines};
 ghost use Rattle.spec_world.specs.World.{World};
 ghost use Rattle.spec_world.specs.Members.{verb_changed};
+ghost use Rattle.spec_world.specs.Permissions.{in_place};
 ghost use Rattle.spec_moo.specs.Steps.Events.{foreground_ticks};
 ghost use Rattle.spec_moo.specs.Steps.Programming.{ends, ends_at, ends_with, written};
 ghost use Rattle.syntax_fault.specs.Meaning.{IsFaultOrMemory};
@@ -30,6 +31,7 @@ use world::law::View;
 use world::link::{Link, Programming};
 use world::lists::Lines;
 use world::readers::{read_verbs, write_link};
+use world::verb::Verb;
 
 /// The lines are over: the verb has their program, if they are one, were not too long, and the player may still program it.
 pub(crate) fn end<V: View>(
@@ -197,10 +199,21 @@ fn replace_program<V: View>(
     let Some(verbs) = read_verbs(view, object)? else {
         unreachable!()
     };
-    let Some(verb) = verbs.as_slice().get(place) else {
+    let Some(verb) = verb_at(verbs.as_slice(), place) else {
         unreachable!()
     };
     put_program(alloc, view, object, verbs.as_slice(), place, verb, program)
+}
+
+#[tactic(auto, using(permissions::proofs::Places::stands_there, permissions::proofs::Places::stands_none))]
+fn verb_at(verbs: &[Verb], place: usize) -> Option<&Verb>
+    ensures { MatchOption result (in_place verbs.now place ≡ None) (λ v. in_place verbs.now place ≡ Some v.now) }
+{
+    if place < verbs.len() {
+        Some(&verbs[place])
+    } else {
+        None
+    }
 }
 
 // The player is told of a text's fault, and the verb stays as it is.

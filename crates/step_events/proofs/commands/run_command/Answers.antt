@@ -12,7 +12,7 @@ use Rattle.step_events.proofs.commands.run_command.Goals as goal
 pub returns-in_ok-outcome-in-Empty-clause-played : goal.returns-in_ok-outcome-in-Empty-clause-played
 returns-in_ok-outcome-in-Empty-clause-played g c =
     plays_here_as g.V.View.holds g.V.View.now c.args.view.now (λ (k : Command) (w : World). command_run (scene_of c.args.deeds w foreground_ticks) c.args.connection c.args.link.now.person (command_of k))
-    c.args.command _ c.in_ok-outcome.outcome c.in-Empty.is (λ w. c.in_ok-outcome.ensures w foreground_ticks)
+    c.args.command _ c.in_ok-outcome-in-Empty.outcome c.in-Empty.is (λ w. c.in_ok-outcome-in-Empty.ensures w foreground_ticks)
 
 pub returns-in_ok-outcome-in-Program-clause-played : goal.returns-in_ok-outcome-in-Program-clause-played
 returns-in_ok-outcome-in-Program-clause-played g c =

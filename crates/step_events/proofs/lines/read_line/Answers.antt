@@ -30,8 +30,8 @@ returns-in_ok-outcome-in-Some-clause-played g c =
     let value : c.text-value.result ≡ text c.args.text.now = search rules in
     plays_then g.V.View.holds g.V.View.now c.args.view.now c.reader.new.view c.read_by.new.view (λ w. reader_of w c.args.connection ≡ Some c.in-Some.id)
     (λ w. line_read (scene_of c.args.deeds w foreground_ticks) c.args.connection c.args.link.now c.args.text.now (reader_of w c.args.connection))
-    (λ w. read_by (scene_of c.args.deeds w foreground_ticks) c.in-Some.id (text c.args.text.now) (at w.tasks c.in-Some.id)) c.in_ok-outcome.outcome
-    (rw (connection, c.in-Some.is) at c.in_ok-reader.ensures.left) (rw (id, value) at c.in_ok-outcome.ensures.played)
+    (λ w. read_by (scene_of c.args.deeds w foreground_ticks) c.in-Some.id (text c.args.text.now) (at w.tasks c.in-Some.id)) c.in_ok-outcome-in-Some.outcome
+    (rw (connection, c.in-Some.is) at c.in_ok-reader.ensures.left) (rw (id, value) at c.in_ok-outcome-in-Some.ensures.played)
     (λ w is. ap (line_read (scene_of c.args.deeds w foreground_ticks) c.args.connection c.args.link.now c.args.text.now) is)
 
 pub returns-in_ok-outcome-in-None-clause-played : goal.returns-in_ok-outcome-in-None-clause-played

@@ -23,7 +23,7 @@ returns-in_ok-outcome-in-Some-clause-played g c args is =
     (λ w. login (scene_of c.args.deeds w foreground_ticks) c.args.connection c.args.argstr args)
     (λ w. after_login c.args.connection
     (run (scene_of c.args.deeds w foreground_ticks) (system_task (connection_object c.args.connection) (codes "do_login_command") c.args.argstr args c.in-Some.found)))
-    c.in_ok-outcome.outcome (rw c.in-Some.is at c.in_ok-found.ensures.left) ((rw connection at c.in_ok-outcome.ensures.played) args is)
+    c.in_ok-outcome-in-Some.outcome (rw c.in-Some.is at c.in_ok-found.ensures.left) ((rw connection at c.in_ok-outcome-in-Some.ensures.played) args is)
     (λ w found. ap (login_with (scene_of c.args.deeds w foreground_ticks) c.args.connection c.args.argstr args) found)
 
 pub returns-in_ok-outcome-in-None-clause-played : goal.returns-in_ok-outcome-in-None-clause-played

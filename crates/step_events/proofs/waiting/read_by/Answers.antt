@@ -22,8 +22,8 @@ returns-in_ok-outcome-in-Some-clause-played g c =
     let id = to_z-of_z w32 c.args.id c.ranges.id in
     plays_then g.V.View.holds g.V.View.now c.args.view.now c.read_task.new.view c.resume.new.view (λ w. at w.tasks c.args.id ≡ Some c.in-Some.task)
     (λ w. read_by (scene_of c.args.deeds w foreground_ticks) c.args.id c.args.value (at w.tasks c.args.id))
-    (λ w. resumed (with_own_task (scene_of c.args.deeds w foreground_ticks) c.args.id) (gone_on c.in-Some.task c.in-Some.task.waiting c.args.value)) c.in_ok-outcome.outcome
-    (rw (id, c.in-Some.is) at c.in_ok-task.ensures.left) (rw id at c.in_ok-outcome.ensures.played)
+    (λ w. resumed (with_own_task (scene_of c.args.deeds w foreground_ticks) c.args.id) (gone_on c.in-Some.task c.in-Some.task.waiting c.args.value)) c.in_ok-outcome-in-Some.outcome
+    (rw (id, c.in-Some.is) at c.in_ok-task.ensures.left) (rw id at c.in_ok-outcome-in-Some.ensures.played)
     (λ w is. ap (read_by (scene_of c.args.deeds w foreground_ticks) c.args.id c.args.value) is)
 
 pub returns-in_ok-outcome-in-None-clause-played : goal.returns-in_ok-outcome-in-None-clause-played

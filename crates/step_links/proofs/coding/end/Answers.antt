@@ -22,11 +22,12 @@ end_at-requires-clause-there g c w h =
     let ranged = link_ranged (scene_of c.args.deeds (view.now c.args.view.now home) foreground_ticks) c.args.connection c.args.link.now (c.requires.ready home c.requires.home foreground_ticks) (c.requires.link home c.requires.home) in
     let person : to_z w32 (of_z w32 c.link.inside.person) ≡ c.args.link.now.person = search rules in
     let object : to_z w32 (of_z w32 c.programming.inside.object) ≡ c.args.programming.now.object = search rules in
+    let verb : c.programming.inside.verb ≡ c.args.programming.now.verb = search rules in
     let p = c.args.programming.now in
     let k : Link = record { person = c.args.link.now.person; programming = None } in
     let made = rw connection at c.in_ok-write_link.ensures.left in
     let opened = written_goes view.holds view.now c.programmable.new.view c.write_link.new.view c.args.connection _ k ranged (search rules) made w h in
-    let told = told_still view.holds view.now c.args.view.now c.programmable.new.view _ (rw (person, object, c.as_str.ensures) at c.in_ok-place.ensures.left) w opened.0 in
+    let told = told_still view.holds view.now c.args.view.now c.programmable.new.view (λ w. programmable w c.args.link.now.person p.object p.verb ≡ c.in_ok-place.place) (rw (person, object, c.as_str.ensures, verb) at c.in_ok-place.ensures.left) w opened.0 in
     subst (λ (x : World). HasVerbAt x p.object c.in_ok-place.place) (sym opened.1)
     (still_has (view.now c.programmable.new.view w) c.args.connection p.object k c.in_ok-place.place (may_be_programmed (view.now c.programmable.new.view w) c.args.link.now.person p.object p.verb c.in_ok-place.place told))
 
@@ -38,6 +39,7 @@ returns-clause-played g c =
     let ranged = link_ranged (scene_of c.args.deeds (view.now c.args.view.now home) foreground_ticks) c.args.connection c.args.link.now (c.requires.ready home c.requires.home foreground_ticks) (c.requires.link home c.requires.home) in
     let person : to_z w32 (of_z w32 c.link.inside.person) ≡ c.args.link.now.person = search rules in
     let object : to_z w32 (of_z w32 c.programming.inside.object) ≡ c.args.programming.now.object = search rules in
+    let verb : c.programming.inside.verb ≡ c.args.programming.now.verb = search rules in
     let p = c.args.programming.now in
     let k : Link = record { person = c.args.link.now.person; programming = None } in
     let made = rw connection at c.in_ok-write_link.ensures.left in
@@ -49,5 +51,5 @@ returns-clause-played g c =
     plays_then view.holds view.now c.args.view.now c.programmable.new.view c.end_at.new.view (λ w. programmable w c.args.link.now.person p.object p.verb ≡ c.in_ok-place.place)
     (λ w. ends (scene_of c.args.deeds w foreground_ticks) c.args.connection c.args.link.now p)
     (λ w. ends_at (scene_of c.args.deeds (open_link w c.args.connection k) foreground_ticks) c.args.connection p c.in_ok-place.place) c.in_ok-outcome.outcome
-    (rw (person, object, c.as_str.ensures) at c.in_ok-place.ensures.left) rest
+    (rw (person, object, c.as_str.ensures, verb) at c.in_ok-place.ensures.left) rest
     (λ w is. ap (ends_at (scene_of c.args.deeds (open_link w c.args.connection k) foreground_ticks) c.args.connection p) is)

@@ -14,10 +14,10 @@ put_lines-requires-clause-there g c w h = rw (to_z-of_z w32 c.args.object c.rang
 
 pub returns-in_ok-outcome-in-Some-clause-played : goal.returns-in_ok-outcome-in-Some-clause-played
 returns-in_ok-outcome-in-Some-clause-played g c =
-    let is : c.args.lines.now ≡ Some c.in-Some.lines.now = search rules in
+    let is : c.args.lines.now ≡ Some c.in-Some.lines = search rules in
     plays_as g.V.View.holds g.V.View.now c.args.view.now c.put_lines.new.view
-    (λ (m : Option (List Text)) (w : World). ends_with (scene_of c.args.deeds w foreground_ticks) c.args.connection c.args.object c.args.place m) c.args.lines.now (Some c.in-Some.lines.now)
-    c.in_ok-outcome.outcome is (rw (to_z-of_z w32 c.args.connection c.ranges.connection, to_z-of_z w32 c.args.object c.ranges.object, c.as_slice.ensures) at c.in_ok-outcome.ensures.played)
+    (λ (m : Option (List Text)) (w : World). ends_with (scene_of c.args.deeds w foreground_ticks) c.args.connection c.args.object c.args.place m) c.args.lines.now (Some c.in-Some.lines)
+    c.in_ok-outcome-in-Some.outcome is (rw (to_z-of_z w32 c.args.connection c.ranges.connection, to_z-of_z w32 c.args.object c.ranges.object, c.as_slice.ensures) at c.in_ok-outcome-in-Some.ensures.played)
 
 pub returns-in_ok-outcome-in-None-clause-played : goal.returns-in_ok-outcome-in-None-clause-played
 returns-in_ok-outcome-in-None-clause-played g c =

@@ -1,7 +1,8 @@
-use Rattle.std.proofs.Common.{sym, w32}
+use Rattle.std.proofs.Common.{sym, subst, w32}
 use Rattle.std.proofs.lemmas.Int.{to_z-of_z}
 use Rattle.moo_task.specs.Deeds.{scene_of}
 use Rattle.task_step.specs.OutcomeView.{result_of}
+use Rattle.step_tasks.specs.Performed.{HasValue}
 use Rattle.step_links.proofs.Accepted.{no_value_of, no_value_stays, accepted_value}
 use Rattle.step_links.proofs.logins.accept.Goals as goal
 
@@ -10,7 +11,10 @@ returns-in_default-clause-accepts g c w h =
     let v = g.V.View.now c.args.view.now w in
     (h, λ t why is. sym (no_value_stays (scene_of c.args.deeds.now v t) c.args.connection why (result_of c.args.ending.now) (no_value_of c.args.ending.now c.in_default.not-Value) is))
 
+pub accept_value-requires-clause-ready : goal.accept_value-requires-clause-ready
+accept_value-requires-clause-ready g c = c.requires.ready (subst HasValue (sym c.in-Value.is) tt)
+
 pub returns-in-Value-clause-accepts : goal.returns-in-Value-clause-accepts
 returns-in-Value-clause-accepts g c =
-    accepted_value g.V.View.holds g.V.View.now c.args.view.now c.accept_value.new.view c.args.deeds.now c.accept_value.new.deeds c.args.connection c.args.ending.now c.in-Value.value.now c.accept_value.result
+    accepted_value g.V.View.holds g.V.View.now c.args.view.now c.accept_value.new.view c.args.deeds.now c.accept_value.new.deeds c.args.connection c.args.ending.now c.in-Value.value c.accept_value.result
     c.in-Value.is (rw (to_z-of_z w32 c.args.connection c.ranges.connection) at c.accept_value.ensures.left)

@@ -1,4 +1,4 @@
-use Rattle.std.proofs.Common.{◌≡◌, ◌∙◌, ◌≤◌, ◌<◌, suc, ℕ, Some, ap, sym, refl, arith, add-one, w32, to_z, of_z, rules}
+use Rattle.std.proofs.Common.{◌≡◌, ◌+◌, ◌∙◌, ◌≤◌, ◌<◌, suc, ℕ, Some, ap, sym, refl, arith, add-one, w32, to_z, of_z, rules}
 use Rattle.std.specs.Prelude.{OnOk}
 use Rattle.std.proofs.lemmas.Int.{to_z-of_z}
 use Rattle.spec_moo.specs.Steps.Events.{greeted}
@@ -7,8 +7,8 @@ use Rattle.step_links.proofs.Relinks.{not_greeted}
 use Rattle.step_links.proofs.Accepted.{greeted_goes}
 use Rattle.step_links.proofs.logins.queue_greeting.Goals as goal
 
-pub returns-then-ids_used-most_ids-clause-left : goal.returns-then-ids_used-most_ids-clause-left
-returns-then-ids_used-most_ids-clause-left g c w h =
+pub returns-then-deeds-ge-MOST_IDS-clause-left : goal.returns-then-deeds-ge-MOST_IDS-clause-left
+returns-then-deeds-ge-MOST_IDS-clause-left g c w h =
     let v = g.V.View.now c.args.view.now w in
     let full : 64 ≤ c.args.deeds.now.ids_used = omega arith in
     (h, λ t. sym (not_greeted (scene_of c.args.deeds.now v t) c.args.player c.args.found.now full))

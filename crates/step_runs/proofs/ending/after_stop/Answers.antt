@@ -11,9 +11,9 @@ pub returns-in_ok-ending-in-Ends-clause-settles : goal.returns-in_ok-ending-in-E
 returns-in_ok-ending-in-Ends-clause-settles g c w h =
     let view = g.V.View in
     let player = to_z-of_z w32 c.args.player c.ranges.player in
-    let r = (rw player at c.in_ok-ending.ensures.settles) w h in (
+    let r = (rw player at c.in_ok-ending-in-Ends.ensures.settles) w h in (
       r.0,
-      ends_settles c.args.player c.in_ok-ending.ending c.args.deeds.now c.ended.new.deeds (view.now c.args.view.now w) (view.now c.ended.new.view w) c.args.stop c.in-Ends.end c.in-Ends.is r.1,
+      ends_settles c.args.player c.in_ok-ending-in-Ends.ending c.args.deeds.now c.ended.new.deeds (view.now c.args.view.now w) (view.now c.ended.new.view w) c.args.stop c.in-Ends.end c.in-Ends.is r.1,
     )
 
 pub returns-in_ok-ending-in-OutOfTicks-clause-settles : goal.returns-in_ok-ending-in-OutOfTicks-clause-settles

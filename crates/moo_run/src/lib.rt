@@ -2,6 +2,7 @@
 #![tactic(auto)]
 
 pub mod calling;
+mod forking;
 pub mod leaving;
 pub mod natives;
 mod parts;

@@ -49,6 +49,9 @@ not_greeted s who f h =
     let full : has_ids s ≡ false = grind (arith, nat_tests) in
     ap (λ (b : Bool). if b then enqueued (id_taken s) (next_id s) (user_task s who f) else s) full
 
+pub one_taken : (d : Deeds) (w : World) (t : ℕ) → scene_of (record d { ids_used = d.ids_used + 1 }) w t ≡ id_taken (scene_of d w t)
+one_taken d w t = let more : d.ids_used + 1 ≡ suc d.ids_used = omega arith in ap (λ (n : ℕ). record (scene_of d w t) { ids_used = n }) more
+
 pub is_greeted : (d e g : Deeds) (w v : World) (i who : ℤ) (f : Sought) (task : Task) → d.ids_used < 64 → i ≡ id_of d.number (suc d.ids_used)
     → ((s : Scene) → s.moment ≡ d.moment → task ≡ user_task s who f) → ((t : ℕ) → scene_of e w t ≡ id_taken (scene_of d w t))
     → ((t : ℕ) → scene_of g v t ≡ enqueued (scene_of e w t) i task) → (t : ℕ) → scene_of g v t ≡ greeted (scene_of d w t) who (Some f)

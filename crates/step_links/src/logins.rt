@@ -67,7 +67,10 @@ pub fn accept<V: View>(
     ensures accepts { OnOk result (Goes V.holds V.now view.old view.new (λ before after. Accepts connection ending.now deeds.old before deeds.new after)) }
 {
     match ending {
-        Ending::Value(value) => accept_value(alloc, view, deeds, connection, value),
+        Ending::Value(value) => {
+            accept_value(alloc, view, deeds, connection, value)?;
+            Ok(())
+        }
         _ => Ok(()),
     }
 }

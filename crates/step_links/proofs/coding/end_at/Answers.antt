@@ -17,9 +17,10 @@ end_with-requires-clause-there g c w h =
 pub returns-in_ok-outcome-in-Some-clause-played : goal.returns-in_ok-outcome-in-Some-clause-played
 returns-in_ok-outcome-in-Some-clause-played g c =
     let object : to_z w32 (of_z w32 c.programming.inside.object) ≡ c.args.programming.now.object = search rules in
+    let lines : c.programming.inside.lines ≡ c.args.programming.now.lines = search rules in
     plays_as g.V.View.holds g.V.View.now c.args.view.now c.end_with.new.view
     (λ (m : Option ℕ) (w : World). ends_at (scene_of c.args.deeds w foreground_ticks) c.args.connection c.args.programming.now m) c.args.place (Some c.in-Some.place)
-    c.in_ok-outcome-in-Some.outcome c.in-Some.is (rw (to_z-of_z w32 c.args.connection c.ranges.connection, object) at c.in_ok-outcome-in-Some.ensures.played)
+    c.in_ok-outcome-in-Some.outcome c.in-Some.is (rw (to_z-of_z w32 c.args.connection c.ranges.connection, object, lines) at c.in_ok-outcome-in-Some.ensures.played)
 
 pub returns-in_ok-outcome-in-None-clause-played : goal.returns-in_ok-outcome-in-None-clause-played
 returns-in_ok-outcome-in-None-clause-played g c =

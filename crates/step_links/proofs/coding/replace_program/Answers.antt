@@ -1,4 +1,4 @@
-use Rattle.std.proofs.Common.{◌≡◌, Some, w32}
+use Rattle.std.proofs.Common.{◌≡◌, Some, None, w32, rules}
 use Rattle.std.proofs.lemmas.Int.{to_z-of_z}
 use Rattle.spec_world.specs.Permissions.{in_place}
 use Rattle.builtins_change.specs.Programs.{with_program}
@@ -9,8 +9,9 @@ pub unreachable-requires-in_default-verb_at : goal.unreachable-requires-in_defau
 unreachable-requires-in_default-verb_at g c =
     let view = g.V.View in
     let home = view.home c.read_verbs.new.view in
+    let none : c.verb_at.result ≡ None = first_of (search rules, cc) in
     let told = (rw (to_z-of_z w32 c.args.object c.ranges.object, c.in-Some.is) at c.in_ok-verbs.ensures.left) home c.in_ok-verbs.ensures.lasts.home_is_left in
-    none_less (view.now c.args.view.now home) c.args.object c.args.place c.in-Some.verbs (c.requires.there home told.0) told.1.1 (cc (c.verb_at.ensures, c.as_slice.ensures))
+    none_less (view.now c.args.view.now home) c.args.object c.args.place c.in-Some.verbs (c.requires.there home told.0) told.1.1 (rw c.as_slice.ensures at (rw none at c.verb_at.ensures))
 
 pub put_program-requires : goal.put_program-requires
 put_program-requires g c = record { there = cc (c.in-Some-verb_at.ensures, c.as_slice.ensures, c.as_slice-2.ensures) }

@@ -1,4 +1,4 @@
-use Rattle.std.proofs.Common.{sym, subst, w32}
+use Rattle.std.proofs.Common.{ℕ, Ok, sym, subst, w32}
 use Rattle.std.proofs.lemmas.Int.{to_z-of_z}
 use Rattle.moo_task.specs.Deeds.{scene_of}
 use Rattle.task_step.specs.OutcomeView.{result_of}
@@ -14,7 +14,7 @@ returns-in_default-clause-accepts g c w h =
 pub accept_value-requires-clause-ready : goal.accept_value-requires-clause-ready
 accept_value-requires-clause-ready g c = c.requires.ready (subst HasValue (sym c.in-Value.is) tt)
 
-pub returns-in-Value-clause-accepts : goal.returns-in-Value-clause-accepts
-returns-in-Value-clause-accepts g c =
-    accepted_value g.V.View.holds g.V.View.now c.args.view.now c.accept_value.new.view c.args.deeds.now c.accept_value.new.deeds c.args.connection c.args.ending.now c.in-Value.value c.accept_value.result
-    c.in-Value.is (rw (to_z-of_z w32 c.args.connection c.ranges.connection) at c.accept_value.ensures.left)
+pub returns-in_ok-accept_value-in-Value-clause-accepts : goal.returns-in_ok-accept_value-in-Value-clause-accepts
+returns-in_ok-accept_value-in-Value-clause-accepts g c =
+    accepted_value {E = ℕ} g.V.View.holds g.V.View.now c.args.view.now c.accept_value.new.view c.args.deeds.now c.accept_value.new.deeds c.args.connection c.args.ending.now c.in-Value.value (Ok tt)
+    c.in-Value.is (rw (to_z-of_z w32 c.args.connection c.ranges.connection) at c.in_ok-accept_value-in-Value.ensures.left)

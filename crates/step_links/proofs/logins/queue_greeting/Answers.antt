@@ -3,7 +3,7 @@ use Rattle.std.specs.Prelude.{OnOk}
 use Rattle.std.proofs.lemmas.Int.{to_z-of_z}
 use Rattle.spec_moo.specs.Steps.Events.{greeted}
 use Rattle.moo_task.specs.Deeds.{scene_of}
-use Rattle.step_links.proofs.Relinks.{not_greeted}
+use Rattle.step_links.proofs.Relinks.{not_greeted, one_taken}
 use Rattle.step_links.proofs.Accepted.{greeted_goes}
 use Rattle.step_links.proofs.logins.queue_greeting.Goals as goal
 
@@ -20,4 +20,4 @@ returns-clause-left g c =
     let id : to_z w32 (of_z w32 c.in_ok-id.id) ≡ c.in_ok-id.id = search rules in
     let few : c.args.deeds.now.ids_used < 64 = omega arith in
     greeted_goes view.holds view.now c.args.view.now c.enqueue.new.view c.args.deeds.now (record c.args.deeds.now { ids_used = c.args.deeds.now.ids_used + 1 }) c.enqueue.new.deeds c.in_ok-id.id c.args.player c.args.found.now
-    c.in_ok-task.task c.enqueue.result few c.in_ok-id.ensures (rw player at c.in_ok-task.ensures) (λ w t. refl) (rw id at c.enqueue.ensures.left)
+    c.in_ok-task.task c.enqueue.result few c.in_ok-id.ensures (rw player at c.in_ok-task.ensures) (one_taken c.args.deeds.now) (rw id at c.enqueue.ensures.left)

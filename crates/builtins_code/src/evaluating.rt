@@ -13,11 +13,11 @@ ghost use Rattle.builtins_code.specs.Faults.{refusal_told};
 ghost use Rattle.builtins_code.specs.Later.{with_call};
 
 use crate::faults::fault_value;
-use moo_task::effect::NativeEffect;
-use moo_task::native::{Native, NativeName};
 use moo_machine::call::Call;
 use moo_parse::parse::answered;
 use moo_program::program::Program;
+use moo_task::effect::NativeEffect;
+use moo_task::native::{Native, NativeName};
 use moo_tree::statement::Tree;
 use moo_value::answer::Answer;
 use moo_value::error::MooError;

@@ -14,7 +14,6 @@ ghost use Rattle.builtins_code.specs.Later.{Programs};
 use crate::faults::fault_value;
 use builtins_change::put::put_program;
 use builtins_world::own_verb::own_verb;
-use world::verb::Verb;
 use moo_compiler::program::Program;
 use moo_parse::parse::answered;
 use moo_tree::statement::Tree;
@@ -26,6 +25,7 @@ use permissions::may::may;
 use std::alloc::{AllocError, Global};
 use world::law::View;
 use world::readers::read_verbs;
+use world::verb::Verb;
 
 /// `set_verb_code`: a verb, told by a word or by its place from 1, has the program of these lines, and the answer is `{}`; where they
 /// are no program, nothing changes, and the answer is a list of their fault. `E_INVARG` where the object is not there, `E_VERBNF` where

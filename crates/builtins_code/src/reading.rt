@@ -10,7 +10,6 @@ ghost use Rattle.world.specs.Law.{Lasts, Tells};
 ghost use Rattle.builtins_world.specs.Said.{Says};
 
 use builtins_world::own_verb::own_verb;
-use world::verb::Verb;
 use moo_printer::print::print;
 use moo_value::answer::Answer;
 use moo_value::error::MooError;
@@ -21,6 +20,7 @@ use permissions::may::may;
 use std::alloc::{AllocError, Global};
 use world::law::View;
 use world::readers::read_verbs;
+use world::verb::Verb;
 
 /// `verb_code`: the canonical lines of a verb that is told by a word or by its place from 1. `E_INVARG` where the object is not
 /// there, `E_VERBNF` where it has no such verb, `E_PERM` where the programmer may not read it.

@@ -11,12 +11,7 @@ ghost use Rattle.builtins_change.specs.Specifiers.{specifier_of};
 
 use crate::made::{Info, with_info, with_program, with_specifier};
 use crate::specifier::Specifier;
-<<<<<<< ours
-=======
-use world::part::Part;
-use world::verb::{Verb, Verbs};
 use moo_compiler::program::Program;
->>>>>>> theirs
 use std::alloc::{AllocError, Global};
 use world::law::View;
 use world::part::Part;

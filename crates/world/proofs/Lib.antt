@@ -2,8 +2,8 @@ pub mod Local
 pub mod History
 pub mod Goings
 pub mod StaysSound
-pub mod Slots
-pub mod Records
+pub mod SlotsTold
+pub mod PartsCrossing
 pub mod Named
 pub mod Filled
 pub mod Wholes

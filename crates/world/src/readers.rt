@@ -71,7 +71,7 @@ pub fn read_defines<V: View>(view: &mut V, object: i32) -> Result<Option<Names>,
 }
 
 /// A property's slot on an object, or None where there is none. Case is ignored.
-#[tactic(auto, using(crate::proofs::Slots::slot_told, crate::proofs::Slots::no_object_told))]
+#[tactic(auto, using(crate::proofs::SlotsTold::slot_told, crate::proofs::SlotsTold::no_object_told))]
 pub fn read_slot<V: View>(
     view: &mut V,
     object: i32,

@@ -5,7 +5,7 @@ use Rattle.spec_value.specs.Datum.{object, text, Text, Data}
 use Rattle.spec_world.specs.World.{World, Object, Header, object_at}
 use Rattle.spec_world.specs.Inherit.{ancestors}
 use Rattle.spec_view.specs.Questions.{header_at}
-use Rattle.spec_world.specs.WellFormed.{IsWellFormed}
+use Rattle.spec_world.specs.Agreeing.{ObjectsAgree}
 use Rattle.spec_world.specs.VerbNames.{any_spells}
 use Rattle.spec_world.specs.VerbsSought.{Sought, first_on, find_verb}
 use Rattle.spec_moo.specs.Scene.{Scene}
@@ -30,11 +30,11 @@ called w o word f is s p xs same =
 
 -- ---- a verb that is found stands on the line of an object
 
-nobody : (w : World) (o : ℤ) (word : Text) → IsWellFormed w → object_at w o ≡ None → find_verb w o word ≡ None
+nobody : (w : World) (o : ℤ) (word : Text) → ObjectsAgree w → object_at w o ≡ None → find_verb w o word ≡ None
 unfolding find_verb first_on
 nobody w o word sound is = ap (first_on w (λ v. v.callable && any_spells v.names word)) (ancestors_none w o sound is)
 
-pub found_there : (w : World) (o : ℤ) (word : Text) (f : Sought) → IsWellFormed w → find_verb w o word ≡ Some f → verb_found w o word (object_at w o) ≡ Ok f
+pub found_there : (w : World) (o : ℤ) (word : Text) (f : Sought) → ObjectsAgree w → find_verb w o word ≡ Some f → verb_found w o word (object_at w o) ≡ Ok f
 found_there w o word f sound is = go (object_at w o) refl
   where
     go : (x : Option Object) → object_at w o ≡ x → verb_found w o word x ≡ Ok f

@@ -5,7 +5,7 @@ ghost use Rattle.spec_world.specs.World.{object_at};
 ghost use Rattle.spec_moo.specs.Scene.{Scene};
 ghost use Rattle.spec_moo.specs.Pending.{Pending};
 ghost use Rattle.spec_moo.specs.Effects.Calls.{verb_effect, above_definer};
-ghost use Rattle.inherit.specs.Lines.{AreWellFormed};
+ghost use Rattle.inherit.specs.Lines.{AreAgreeing};
 ghost use Rattle.world.specs.Law.{Lasts, StaysSound, Tells};
 ghost use Rattle.access.specs.Calling.{call_effect, verb_error, verb_found};
 
@@ -24,7 +24,7 @@ pub fn called_verb<V: View>(
     word: &Value,
 ) -> Result<Result<FoundVerb, MooError>, AllocError>
     requires home { V.holds view.old (V.home view.old) }
-    requires well_formed { AreWellFormed V.holds V.now view.old }
+    requires well_formed { AreAgreeing V.holds V.now view.old }
     ensures lasts { Lasts V.holds V.home V.anchor view.old view.new result }
     ensures left { IfOk result (λ f. Tells V.holds V.now view.old view.new (λ w. (s : Scene) (p : Pending) (xs : Data) → s.world ≡ w →
         verb_effect s p object.now word.now xs ≡ call_effect s p object.now word.now xs f)) }
@@ -43,7 +43,7 @@ fn found_on<V: View>(
     word: &str,
 ) -> Result<Result<FoundVerb, MooError>, AllocError>
     requires home { V.holds view.old (V.home view.old) }
-    requires well_formed { AreWellFormed V.holds V.now view.old }
+    requires well_formed { AreAgreeing V.holds V.now view.old }
     ensures lasts { Lasts V.holds V.home V.anchor view.old view.new result }
     ensures left { IfOk result (λ f. Tells V.holds V.now view.old view.new (λ w. verb_found w object word.now (object_at w object) ≡ f)) }
 {
@@ -76,7 +76,7 @@ pub fn passed_verb<V: View>(
     word: &str,
 ) -> Result<Option<FoundVerb>, AllocError>
     requires home { V.holds view.old (V.home view.old) }
-    requires well_formed { AreWellFormed V.holds V.now view.old }
+    requires well_formed { AreAgreeing V.holds V.now view.old }
     ensures lasts { Lasts V.holds V.home V.anchor view.old view.new result }
     ensures left { IfOk result (λ f. Tells V.holds V.now view.old view.new (λ w. above_definer w word.now (object_at w definer) ≡ f)) }
     ensures sound { OnOk result (StaysSound V.home V.now view.old view.new) }

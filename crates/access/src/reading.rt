@@ -4,7 +4,7 @@ ghost use Rattle.spec_world.specs.World.{object_at};
 ghost use Rattle.spec_moo.specs.Properties.{read, read_object, found as found_of};
 ghost use Rattle.moo_value.specs.Answers.{answer_of};
 ghost use Rattle.moo_value.specs.Errors.{code_of};
-ghost use Rattle.inherit.specs.Lines.{AreWellFormed};
+ghost use Rattle.inherit.specs.Lines.{AreAgreeing};
 ghost use Rattle.world.specs.Law.{Lasts, StaysSound, Tells};
 ghost use Rattle.access.specs.Reading.{missing_error, read_named};
 
@@ -30,7 +30,7 @@ pub fn read_property<V: View>(
     name: &Value,
 ) -> Result<Answer, AllocError>
     requires home { V.holds view.old (V.home view.old) }
-    requires well_formed { AreWellFormed V.holds V.now view.old }
+    requires well_formed { AreAgreeing V.holds V.now view.old }
     ensures lasts { Lasts V.holds V.home V.anchor view.old view.new result }
     ensures left { IfOk result (λ a. Tells V.holds V.now view.old view.new (λ w. read w programmer object.now name.now ≡ answer_of a)) }
     ensures sound { OnOk result (StaysSound V.home V.now view.old view.new) }
@@ -54,7 +54,7 @@ pub fn read_by_name<V: View>(
     name: &Text,
 ) -> Result<Answer, AllocError>
     requires home { V.holds view.old (V.home view.old) }
-    requires well_formed { AreWellFormed V.holds V.now view.old }
+    requires well_formed { AreAgreeing V.holds V.now view.old }
     ensures lasts { Lasts V.holds V.home V.anchor view.old view.new result }
     ensures left { IfOk result (λ a. Tells V.holds V.now view.old view.new
         (λ w. read_object w programmer object name.now (object_at w object) ≡ answer_of a)) }
@@ -75,7 +75,7 @@ fn read_own<V: View>(
     name: &Text,
 ) -> Result<Answer, AllocError>
     requires home { V.holds view.old (V.home view.old) }
-    requires well_formed { AreWellFormed V.holds V.now view.old }
+    requires well_formed { AreAgreeing V.holds V.now view.old }
     ensures lasts { Lasts V.holds V.home V.anchor view.old view.new result }
     ensures left { IfOk result (λ a. Tells V.holds V.now view.old view.new
         (λ w. read_named w programmer object name.now (object_at w object) ≡ answer_of a)) }

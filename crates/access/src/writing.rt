@@ -5,7 +5,7 @@ ghost use Rattle.spec_world.specs.World.{Object, object_at};
 ghost use Rattle.spec_world.specs.Permissions.{is_wizard as is_wizard_of};
 ghost use Rattle.spec_moo.specs.Properties.{own_name, own_owner, write, write_object, with_built_in};
 ghost use Rattle.moo_value.specs.Errors.{code_of};
-ghost use Rattle.inherit.specs.Lines.{AreWellFormed};
+ghost use Rattle.inherit.specs.Lines.{AreAgreeing};
 ghost use Rattle.world.specs.Law.{Goes, Lasts, Tells};
 ghost use Rattle.access.specs.BuiltIn.{attribute_of, flag_of, property_of};
 ghost use Rattle.access.specs.Writing.{IsWritten, write_named, built_in_written, place_error, owner_may as owner_may_of, is_bit as is_bit_of};
@@ -38,7 +38,7 @@ pub fn write_property<V: View>(
     ensures lasts { Lasts V.holds V.home V.anchor view.old view.new result }
     ensures left { IfOk result (λ a. Goes V.holds V.now view.old view.new
         (λ before after. IsWritten before after (write before programmer object.now name.now value) a)) }
-    ensures well_formed { AreWellFormed V.holds V.now view.old → OnOk result (AreWellFormed V.holds V.now view.new) }
+    ensures well_formed { AreAgreeing V.holds V.now view.old → OnOk result (AreAgreeing V.holds V.now view.new) }
 {
     name.know();
     match (object.shown(), name.shown()) {

@@ -7,7 +7,7 @@ ghost use Rattle.spec_moo.specs.Natives.Properties.{are_bits as are_bits_of, set
 ghost use Rattle.moo_value.specs.Answers.{answer_of};
 ghost use Rattle.world.specs.Law.{Goes, Lasts, Tells};
 ghost use Rattle.permissions.specs.Acts.{act_of};
-ghost use Rattle.inherit.specs.Lines.{AreWellFormed};
+ghost use Rattle.inherit.specs.Lines.{AreAgreeing};
 ghost use Rattle.builtins_world.specs.Said.{Does};
 ghost use Rattle.builtins_change.specs.Later.{slot_given};
 ghost use Rattle.builtins_change.specs.Listed.{owner_and_bits};
@@ -42,7 +42,7 @@ pub fn set_property_info<V: View>(
     ensures left { IfOk result (λ a. Goes V.holds V.now view.old view.new
         (λ before after. Does (λ s c. set_property_info_row s c (object_of object ∷ text_value name.now ∷ owner_and_bits owner bits.now ∷ []))
         before after programmer (answer_of a))) }
-    ensures well_formed { AreWellFormed V.holds V.now view.old → OnOk result (AreWellFormed V.holds V.now view.new) }
+    ensures well_formed { AreAgreeing V.holds V.now view.old → OnOk result (AreAgreeing V.holds V.now view.new) }
 {
     let Some(slot) = read_slot(view, object, name)? else {
         let error = missing(view, object)?;

@@ -9,7 +9,7 @@ ghost use Rattle.spec_moo.specs.Natives.Properties.{are_bits as are_bits_of};
 ghost use Rattle.spec_moo.specs.Natives.Verbs.{set_verb_info_row, set_verb_args_row, add_verb_row, delete_verb_row, is_none_named};
 ghost use Rattle.moo_value.specs.Answers.{answer_of};
 ghost use Rattle.world.specs.Law.{Goes, Lasts, Tells};
-ghost use Rattle.inherit.specs.Lines.{AreWellFormed};
+ghost use Rattle.inherit.specs.Lines.{AreAgreeing};
 ghost use Rattle.builtins_world.specs.Said.{Does};
 ghost use Rattle.builtins_change.specs.Later.{verb_given, specified, added, added_owned};
 ghost use Rattle.builtins_change.specs.Listed.{info_given, words_given};
@@ -47,7 +47,7 @@ pub fn set_verb_info<V: View>(
     ensures left { IfOk result (λ a. Goes V.holds V.now view.old view.new
         (λ before after. Does (λ s c. set_verb_info_row s c (object_of object ∷ which.now ∷ info_given info.now ∷ []))
         before after programmer (answer_of a))) }
-    ensures well_formed { AreWellFormed V.holds V.now view.old → OnOk result (AreWellFormed V.holds V.now view.new) }
+    ensures well_formed { AreAgreeing V.holds V.now view.old → OnOk result (AreAgreeing V.holds V.now view.new) }
 {
     let Some(verbs) = read_verbs(view, object)? else {
         return Ok(Err(MooError::InvalidArgument));
@@ -118,7 +118,7 @@ pub fn set_verb_args<V: View>(
     ensures left { IfOk result (λ a. Goes V.holds V.now view.old view.new
         (λ before after. Does (λ s c. set_verb_args_row s c (object_of object ∷ which.now ∷ words_given words.now ∷ []))
         before after programmer (answer_of a))) }
-    ensures well_formed { AreWellFormed V.holds V.now view.old → OnOk result (AreWellFormed V.holds V.now view.new) }
+    ensures well_formed { AreAgreeing V.holds V.now view.old → OnOk result (AreAgreeing V.holds V.now view.new) }
 {
     let specifier = read_specifier(words);
     specify(alloc, view, programmer, object, which, specifier)
@@ -178,7 +178,7 @@ pub fn add_verb<V: View>(
     ensures left { IfOk result (λ a. Goes V.holds V.now view.old view.new
         (λ before after. Does (λ s c. add_verb_row s c (object_of object ∷ info_given info.now ∷ words_given words.now ∷ []))
         before after programmer (answer_of a))) }
-    ensures well_formed { AreWellFormed V.holds V.now view.old → OnOk result (AreWellFormed V.holds V.now view.new) }
+    ensures well_formed { AreAgreeing V.holds V.now view.old → OnOk result (AreAgreeing V.holds V.now view.new) }
 {
     let specifier = read_specifier(words);
     add(alloc, view, programmer, object, info, specifier)
@@ -260,7 +260,7 @@ pub fn delete_verb<V: View>(
     ensures left { IfOk result (λ a. Goes V.holds V.now view.old view.new
         (λ before after. Does (λ s c. delete_verb_row s c (object_of object ∷ which.now ∷ []))
         before after programmer (answer_of a))) }
-    ensures well_formed { AreWellFormed V.holds V.now view.old → OnOk result (AreWellFormed V.holds V.now view.new) }
+    ensures well_formed { AreAgreeing V.holds V.now view.old → OnOk result (AreAgreeing V.holds V.now view.new) }
 {
     delete(alloc, view, programmer, object, which)
 }

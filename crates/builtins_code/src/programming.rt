@@ -7,7 +7,7 @@ ghost use Rattle.spec_view.specs.Questions.{verbs_at};
 ghost use Rattle.spec_moo.specs.Natives.Verbs.{set_verb_code_row, texts_of};
 ghost use Rattle.moo_value.specs.Answers.{answer_of};
 ghost use Rattle.world.specs.Law.{Goes, Lasts};
-ghost use Rattle.inherit.specs.Lines.{AreWellFormed};
+ghost use Rattle.inherit.specs.Lines.{AreAgreeing};
 ghost use Rattle.builtins_world.specs.Said.{Does};
 ghost use Rattle.builtins_code.specs.Later.{Programs};
 
@@ -43,7 +43,7 @@ pub fn set_verb_code<V: View>(
     ensures left { IfOk result (λ a. Goes V.holds V.now view.old view.new
         (λ before after. Does (λ s c. set_verb_code_row s c (object_of object ∷ which.now ∷ list (of_list lines.now) ∷ []))
         before after programmer (answer_of a))) }
-    ensures well_formed { AreWellFormed V.holds V.now view.old → OnOk result (AreWellFormed V.holds V.now view.new) }
+    ensures well_formed { AreAgreeing V.holds V.now view.old → OnOk result (AreAgreeing V.holds V.now view.new) }
 {
     let Some(verbs) = read_verbs(view, object)? else {
         return Ok(Err(MooError::InvalidArgument));

@@ -4,7 +4,7 @@ ghost use Rattle.spec_value.specs.Datum.{integer};
 ghost use Rattle.spec_moo.specs.Natives.Tasks.{is_own_id, kills, kill_task_row};
 ghost use Rattle.moo_value.specs.Answers.{answer_of};
 ghost use Rattle.world.specs.Law.{Goes, Lasts};
-ghost use Rattle.inherit.specs.Lines.{AreWellFormed};
+ghost use Rattle.inherit.specs.Lines.{AreAgreeing};
 ghost use Rattle.builtins_world.specs.Said.{Does};
 ghost use Rattle.builtins_queue.specs.Acting.{Acts};
 
@@ -32,7 +32,7 @@ pub fn kill_task<V: View>(
     ensures lasts { Lasts V.holds V.home V.anchor view.old view.new result }
     ensures left { IfOk result (λ e. Goes V.holds V.now view.old view.new
         (λ before after. Acts (λ s c. kill_task_row s c (integer id ∷ [])) deeds.now before programmer e after)) }
-    ensures well_formed { AreWellFormed V.holds V.now view.old → OnOk result (AreWellFormed V.holds V.now view.new) }
+    ensures well_formed { AreAgreeing V.holds V.now view.old → OnOk result (AreAgreeing V.holds V.now view.new) }
 {
     let own = is_own(deeds, id);
     if own {

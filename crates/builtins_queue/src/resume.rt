@@ -5,7 +5,7 @@ ghost use Rattle.spec_moo.specs.Natives.Tasks.{is_suspended as is_suspended_of, 
 ghost use Rattle.moo_task.specs.Effects.{waiting_of};
 ghost use Rattle.moo_task.specs.declared.effect.NativeEffect.TheVariants.{Answers};
 ghost use Rattle.world.specs.Law.{Goes, Lasts};
-ghost use Rattle.inherit.specs.Lines.{AreWellFormed};
+ghost use Rattle.inherit.specs.Lines.{AreAgreeing};
 ghost use Rattle.builtins_queue.specs.Acting.{Acts};
 
 use crate::owners::programmer_of;
@@ -20,9 +20,6 @@ use std::alloc::AllocError;
 use world::law::View;
 use world::readers::{read_task, write_task};
 
-/// No moment is later, in seconds.
-const LAST_MOMENT: u32 = 2147483647;
-
 /// `resume`: a task that is suspended goes on, with 0.
 pub fn resume<V: View>(
     view: &mut V,
@@ -34,7 +31,7 @@ pub fn resume<V: View>(
     ensures lasts { Lasts V.holds V.home V.anchor view.old view.new result }
     ensures left { IfOk result (λ a. Goes V.holds V.now view.old view.new
         (λ before after. Acts (λ s c. resume_row s c (integer id ∷ [])) deeds.now before programmer (Answers a) after)) }
-    ensures well_formed { AreWellFormed V.holds V.now view.old → OnOk result (AreWellFormed V.holds V.now view.new) }
+    ensures well_formed { AreAgreeing V.holds V.now view.old → OnOk result (AreAgreeing V.holds V.now view.new) }
 {
     let zero = Value::integer(0);
     let answer = resume_with(view, deeds, programmer, id, zero)?;
@@ -42,7 +39,7 @@ pub fn resume<V: View>(
 }
 
 /// `resume` with the value of its `suspend`. `E_INVARG` where there is no such task, `E_PERM` where the programmer may not control it,
-/// `E_INVARG` where it is not suspended. No step's moment is more than an integer says.
+/// `E_INVARG` where it is not suspended.
 pub fn resume_with<V: View>(
     view: &mut V,
     deeds: &Deeds,
@@ -54,11 +51,8 @@ pub fn resume_with<V: View>(
     ensures lasts { Lasts V.holds V.home V.anchor view.old view.new result }
     ensures left { IfOk result (λ a. Goes V.holds V.now view.old view.new
         (λ before after. Acts (λ s c. resume_row s c (integer id ∷ value ∷ [])) deeds.now before programmer (Answers a) after)) }
-    ensures well_formed { AreWellFormed V.holds V.now view.old → OnOk result (AreWellFormed V.holds V.now view.new) }
+    ensures well_formed { AreAgreeing V.holds V.now view.old → OnOk result (AreAgreeing V.holds V.now view.new) }
 {
-    if deeds.moment > LAST_MOMENT {
-        return Err(AllocError);
-    }
     let answer = give_value(view, deeds, programmer, id, value)?;
     Ok(answer)
 }

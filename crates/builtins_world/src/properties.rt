@@ -10,7 +10,7 @@ ghost use Rattle.spec_moo.specs.Natives.Properties.{properties_row, property_inf
 ghost use Rattle.moo_value.specs.Answers.{answer_of};
 ghost use Rattle.moo_value.specs.Errors.{code_of};
 ghost use Rattle.world.specs.Meanings.{part_of};
-ghost use Rattle.inherit.specs.Lines.{AreWellFormed};
+ghost use Rattle.inherit.specs.Lines.{AreAgreeing};
 ghost use Rattle.world.specs.Law.{Goes, Lasts, Tells};
 ghost use Rattle.builtins_world.specs.Missing.{missing_error};
 ghost use Rattle.builtins_world.specs.Said.{Does, Says};
@@ -125,7 +125,7 @@ pub fn clear_property<V: View>(
     ensures lasts { Lasts V.holds V.home V.anchor view.old view.new result }
     ensures left { IfOk result (λ a. Goes V.holds V.now view.old view.new
         (λ before after. Does (λ s c. clear_property_row s c (object_of object ∷ text_value name.now ∷ [])) before after programmer (answer_of a))) }
-    ensures well_formed { AreWellFormed V.holds V.now view.old → OnOk result (AreWellFormed V.holds V.now view.new) }
+    ensures well_formed { AreAgreeing V.holds V.now view.old → OnOk result (AreAgreeing V.holds V.now view.new) }
 {
     clear(view, programmer, object, name)
 }

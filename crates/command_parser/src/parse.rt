@@ -6,7 +6,7 @@ ghost use Rattle.spec_world.specs.Naming.{location_of};
 ghost use Rattle.spec_world.specs.VerbsSought.{find_verb as find_verb_of};
 ghost use Rattle.spec_world.specs.CommandLines.{command_said, command_or_program, command_of as command_meant};
 ghost use Rattle.spec_world.specs.CommandLines.{named_by, asks_to_program as asks_to_program_of, huh_or_not};
-ghost use Rattle.inherit.specs.Lines.{AreWellFormed};
+ghost use Rattle.inherit.specs.Lines.{AreAgreeing};
 ghost use Rattle.world.specs.Law.{Lasts, Tells};
 ghost use Rattle.command_lines.specs.Meant.{parts_of};
 ghost use Rattle.command_parser.specs.Meanings.{named_of, command_of};
@@ -30,7 +30,7 @@ pub fn parse<V: View>(
     line: &str,
 ) -> Result<Command, AllocError>
     requires home { V.holds view.old (V.home view.old) }
-    requires well_formed { AreWellFormed V.holds V.now view.old }
+    requires well_formed { AreAgreeing V.holds V.now view.old }
     requires line { IsTrue (is_text line.now) }
     ensures lasts { Lasts V.holds V.home V.anchor view.old view.new result }
     ensures left { IfOk result (λ c. Tells V.holds V.now view.old view.new (λ w. command_said w player line.now ≡ command_of c)) }
@@ -50,7 +50,7 @@ fn command_or_program<V: View>(
     parts: Parts,
 ) -> Result<Command, AllocError>
     requires home { V.holds view.old (V.home view.old) }
-    requires well_formed { AreWellFormed V.holds V.now view.old }
+    requires well_formed { AreAgreeing V.holds V.now view.old }
     ensures lasts { Lasts V.holds V.home V.anchor view.old view.new result }
     ensures left { IfOk result (λ c. Tells V.holds V.now view.old view.new
         (λ w. command_or_program w player (Some (parts_of parts)) ≡ command_of c)) }
@@ -91,7 +91,7 @@ fn with_objects<V: View>(
     parts: Parts,
 ) -> Result<Said, AllocError>
     requires home { V.holds view.old (V.home view.old) }
-    requires well_formed { AreWellFormed V.holds V.now view.old }
+    requires well_formed { AreAgreeing V.holds V.now view.old }
     ensures lasts { Lasts V.holds V.home V.anchor view.old view.new result }
     ensures parts { IfOk result (λ s. parts_of s.parts ≡ parts_of parts) }
     ensures left { IfOk result (λ s. Tells V.holds V.now view.old view.new (λ w. named_by w player (parts_of parts) ≡ named_of s)) }
@@ -104,7 +104,7 @@ fn with_objects<V: View>(
 // The command whose objects are known.
 fn command<V: View>(view: &mut V, player: i32, said: Said) -> Result<Command, AllocError>
     requires home { V.holds view.old (V.home view.old) }
-    requires well_formed { AreWellFormed V.holds V.now view.old }
+    requires well_formed { AreAgreeing V.holds V.now view.old }
     ensures lasts { Lasts V.holds V.home V.anchor view.old view.new result }
     ensures left { IfOk result (λ c. Tells V.holds V.now view.old view.new
         (λ w. command_meant w player (parts_of said.parts) (named_of said) ≡ command_of c)) }
@@ -118,7 +118,7 @@ fn command<V: View>(view: &mut V, player: i32, said: Said) -> Result<Command, Al
 // A call of the room's `huh`, if it has one.
 fn huh<V: View>(view: &mut V, player: i32, said: Said) -> Result<Command, AllocError>
     requires home { V.holds view.old (V.home view.old) }
-    requires well_formed { AreWellFormed V.holds V.now view.old }
+    requires well_formed { AreAgreeing V.holds V.now view.old }
     ensures lasts { Lasts V.holds V.home V.anchor view.old view.new result }
     ensures left { IfOk result (λ c. Tells V.holds V.now view.old view.new
         (λ w. huh_or_not (parts_of said.parts) (named_of said) (find_verb_of w (location_of (object_at w player)) (codes "huh")) ≡ command_of c)) }

@@ -7,7 +7,7 @@ ghost use Rattle.spec_moo.specs.Scene.{Scene};
 ghost use Rattle.spec_moo.specs.Natives.Verbs.{place_of_word};
 ghost use Rattle.spec_moo.specs.Steps.Programming.{requested, opens, programmable as programmable_of, programmable_at};
 ghost use Rattle.permissions.specs.Acts.{act_of};
-ghost use Rattle.inherit.specs.Lines.{AreWellFormed};
+ghost use Rattle.inherit.specs.Lines.{AreAgreeing};
 ghost use Rattle.world.specs.Law.{Lasts, Tells};
 ghost use Rattle.command_parser.specs.Meanings.{request_of};
 ghost use Rattle.command_parser.specs.Openings.{opened, begun, place_among};
@@ -45,7 +45,7 @@ pub fn open<V: View>(
     request: Request,
 ) -> Result<Opening, AllocError>
     requires home { V.holds view.old (V.home view.old) }
-    requires well_formed { AreWellFormed V.holds V.now view.old }
+    requires well_formed { AreAgreeing V.holds V.now view.old }
     ensures lasts { Lasts V.holds V.home V.anchor view.old view.new result }
     ensures left { IfOk result (λ o. Tells V.holds V.now view.old view.new
         (λ w. (s : Scene) (c : ℤ) → s.world ≡ w → requested s c player (request_of request) ≡ opened s c player o)) }
@@ -65,7 +65,7 @@ fn open_named<V: View>(
     name: Text,
 ) -> Result<Opening, AllocError>
     requires home { V.holds view.old (V.home view.old) }
-    requires well_formed { AreWellFormed V.holds V.now view.old }
+    requires well_formed { AreAgreeing V.holds V.now view.old }
     ensures lasts { Lasts V.holds V.home V.anchor view.old view.new result }
     ensures left { IfOk result (λ o. Tells V.holds V.now view.old view.new
         (λ w. (s : Scene) (c : ℤ) → s.world ≡ w → requested s c player (programs_verb text name) ≡ opened s c player o)) }
@@ -83,7 +83,7 @@ fn open_on<V: View>(
     name: Text,
 ) -> Result<Opening, AllocError>
     requires home { V.holds view.old (V.home view.old) }
-    requires well_formed { AreWellFormed V.holds V.now view.old }
+    requires well_formed { AreAgreeing V.holds V.now view.old }
     ensures lasts { Lasts V.holds V.home V.anchor view.old view.new result }
     ensures left { IfOk result (λ o. Tells V.holds V.now view.old view.new
         (λ w. (s : Scene) (c : ℤ) → s.world ≡ w → opens s c player object name (object_at w object) ≡ opened s c player o)) }
@@ -114,7 +114,7 @@ pub fn programmable<V: View>(
     name: &str,
 ) -> Result<Option<usize>, AllocError>
     requires home { V.holds view.old (V.home view.old) }
-    requires well_formed { AreWellFormed V.holds V.now view.old }
+    requires well_formed { AreAgreeing V.holds V.now view.old }
     ensures lasts { Lasts V.holds V.home V.anchor view.old view.new result }
     ensures left { IfOk result (λ n. Tells V.holds V.now view.old view.new (λ w. programmable_of w player object name.now ≡ n)) }
 {

@@ -1,7 +1,7 @@
 //! Verbs that commands mean.
 ghost use Rattle.std.specs.Prelude.{◌≡◌, IfOk, option_map};
 ghost use Rattle.spec_world.specs.CommandLines.{meant_on as meant_on_of, verb_meant as verb_meant_of};
-ghost use Rattle.inherit.specs.Lines.{AreWellFormed};
+ghost use Rattle.inherit.specs.Lines.{AreAgreeing};
 ghost use Rattle.world.specs.Law.{Lasts, Tells};
 ghost use Rattle.command_parser.specs.Meanings.{named_of, meant_of, meant_in_room, meant_by_objects};
 
@@ -18,7 +18,7 @@ pub(crate) fn verb_meant<V: View>(
     said: &Said,
 ) -> Result<Option<Meant>, AllocError>
     requires home { V.holds view.old (V.home view.old) }
-    requires well_formed { AreWellFormed V.holds V.now view.old }
+    requires well_formed { AreAgreeing V.holds V.now view.old }
     ensures lasts { Lasts V.holds V.home V.anchor view.old view.new result }
     ensures left { IfOk result (λ m. Tells V.holds V.now view.old view.new
         (λ w. verb_meant_of w player said.now.parts.verb (named_of said.now) ≡ option_map meant_of m)) }
@@ -32,7 +32,7 @@ pub(crate) fn verb_meant<V: View>(
 // The first one on the player's room, the direct and the indirect object.
 fn in_room<V: View>(view: &mut V, player: i32, said: &Said) -> Result<Option<Meant>, AllocError>
     requires home { V.holds view.old (V.home view.old) }
-    requires well_formed { AreWellFormed V.holds V.now view.old }
+    requires well_formed { AreAgreeing V.holds V.now view.old }
     ensures lasts { Lasts V.holds V.home V.anchor view.old view.new result }
     ensures left { IfOk result (λ m. Tells V.holds V.now view.old view.new
         (λ w. meant_in_room w player said.now.parts.verb (named_of said.now) ≡ option_map meant_of m)) }
@@ -47,7 +47,7 @@ fn in_room<V: View>(view: &mut V, player: i32, said: &Said) -> Result<Option<Mea
 // The first one on the direct and the indirect object.
 fn by_objects<V: View>(view: &mut V, said: &Said) -> Result<Option<Meant>, AllocError>
     requires home { V.holds view.old (V.home view.old) }
-    requires well_formed { AreWellFormed V.holds V.now view.old }
+    requires well_formed { AreAgreeing V.holds V.now view.old }
     ensures lasts { Lasts V.holds V.home V.anchor view.old view.new result }
     ensures left { IfOk result (λ m. Tells V.holds V.now view.old view.new
         (λ w. meant_by_objects w said.now.parts.verb (named_of said.now) ≡ option_map meant_of m)) }
@@ -61,7 +61,7 @@ fn by_objects<V: View>(view: &mut V, said: &Said) -> Result<Option<Meant>, Alloc
 // The one on an object or its ancestors.
 fn meant_on<V: View>(view: &mut V, object: i32, said: &Said) -> Result<Option<Meant>, AllocError>
     requires home { V.holds view.old (V.home view.old) }
-    requires well_formed { AreWellFormed V.holds V.now view.old }
+    requires well_formed { AreAgreeing V.holds V.now view.old }
     ensures lasts { Lasts V.holds V.home V.anchor view.old view.new result }
     ensures left { IfOk result (λ m. Tells V.holds V.now view.old view.new
         (λ w. meant_on_of w said.now.parts.verb (named_of said.now) object ≡ option_map meant_of m)) }

@@ -5,7 +5,8 @@ use Rattle.std.specs.List.{list_any}
 use Rattle.spec_value.proofs.Entries.{both_hold}
 use Rattle.spec_value.proofs.Same.{same_integer, integer_itself}
 use Rattle.spec_world.specs.World.{World, Object, object_at}
-use Rattle.spec_world.specs.WellFormed.{IsWellFormed, lists, passes, on_object}
+use Rattle.spec_world.specs.WellFormed.{lists, passes, on_object}
+use Rattle.spec_world.specs.Agreeing.{ObjectsAgree}
 use Rattle.spec_world.specs.Families.{is_below}
 use Rattle.spec_world.proofs.PropertyChanges.{none_passes}
 use Rattle.spec_world.proofs.Recycling.{none_found}
@@ -16,7 +17,7 @@ abbrev pub any_of : World → (Object → Bool) → List ℤ → Bool
 any_of w test [] = false
 any_of w test (d ∷ ds) = on_object w d test || any_of w test ds
 
-module _ (w : World) (sound : IsWellFormed w) (o : ℤ) (ds : List ℤ) (all : IsFamily w o ds) (test : Object → Bool) where
+module _ (w : World) (sound : ObjectsAgree w) (o : ℤ) (ds : List ℤ) (all : IsFamily w o ds) (test : Object → Bool) where
   -- one that is listed and passes is below
   found : (es : List ℤ) → ((d : ℤ) → IsTrue (lists es d) → IsTrue (lists ds d)) → IsTrue (any_of w test es) → IsTrue (list_any (λ e. is_below w o e.0 && test e.1) w.objects)
   found [] more h = cc

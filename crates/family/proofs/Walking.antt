@@ -6,12 +6,13 @@ use Rattle.std.specs.List.{list_any}
 use Rattle.std.proofs.lemmas.List.Folds.{list_any-append}
 use Rattle.spec_value.proofs.Same.{same_integer, integer_itself}
 use Rattle.spec_world.specs.World.{World, Header, Object, object_at}
-use Rattle.spec_world.specs.WellFormed.{IsWellFormed, lists}
+use Rattle.spec_world.specs.WellFormed.{lists}
+use Rattle.spec_world.specs.Agreeing.{ObjectsAgree}
 use Rattle.spec_world.specs.Families.{nowhere, is_below}
 use Rattle.spec_view.specs.Questions.{header_at, children_at}
 use Rattle.spec_world.proofs.Trees.{Node, Nodes, Path, IsTree, same_or_not, some_same, path_from, on_path, either, first_of, second_of, listed_alone}
 use Rattle.spec_world.proofs.WorldTrees.{parents, node_there, object_there}
-use Rattle.spec_world.proofs.Households.{household, objects_of, same_tests}
+use Rattle.spec_world.proofs.Households.{household, same_tests}
 use Rattle.spec_world.proofs.PropertyChanges.{below_is}
 use Rattle.family.specs.Below.{among, IsFamily, Walked}
 
@@ -43,9 +44,9 @@ all_taken (d ∷ ds) (suc n) h = ap (λ xs. d ∷ xs) (all_taken ds n (omega (ar
 
 -- ---- what is below
 
-module _ (w : World) (sound : IsWellFormed w) (o : ℤ) where
+module _ (w : World) (sound : ObjectsAgree w) (o : ℤ) where
   tree : IsTree (parents w)
-  tree = (household w (objects_of w sound)).family
+  tree = (household w sound).family
 
   along : (d : ℤ) (ps : List ℤ) → Path (parents w) d ps → is_below w o d ≡ lists ps o
   along d ps way = below_is w o d ps sound.numbers way

@@ -3,7 +3,7 @@ ghost use Rattle.std.specs.Prelude.{◌≡◌, ◌<◌, ◌++◌, pos, length, g
 ghost use Rattle.spec_world.specs.World.{World, object_at};
 ghost use Rattle.spec_view.specs.Questions.{children_at};
 ghost use Rattle.world.specs.Law.{Lasts, Tells};
-ghost use Rattle.inherit.specs.Lines.{AreWellFormed};
+ghost use Rattle.inherit.specs.Lines.{AreAgreeing};
 ghost use Rattle.family.specs.Below.{IsFamily, among};
 
 use std::alloc::{AllocError, Global};
@@ -17,7 +17,7 @@ const MOST_ROUNDS: usize = 1_000_001;
 /// million, which no world has.
 pub fn below<V: View>(alloc: Global, view: &mut V, object: i32) -> Result<Vec<i32>, AllocError>
     requires home { V.holds view.old (V.home view.old) }
-    requires well_formed { AreWellFormed V.holds V.now view.old }
+    requires well_formed { AreAgreeing V.holds V.now view.old }
     ensures lasts { Lasts V.holds V.home V.anchor view.old view.new result }
     ensures left { IfOk result (λ ds. Tells V.holds V.now view.old view.new (λ w. IsFamily w object ds.items)) }
 {
@@ -32,7 +32,7 @@ pub fn below<V: View>(alloc: Global, view: &mut V, object: i32) -> Result<Vec<i3
 // Of an object that is there.
 fn walk<V: View>(alloc: Global, view: &mut V, object: i32) -> Result<Vec<i32>, AllocError>
     requires home { V.holds view.old (V.home view.old) }
-    requires well_formed { AreWellFormed V.holds V.now view.old }
+    requires well_formed { AreAgreeing V.holds V.now view.old }
     requires there { (w : World) → V.holds view.old w → IsTrue (is_some (object_at (V.now view.old w) object)) }
     ensures lasts { Lasts V.holds V.home V.anchor view.old view.new result }
     ensures left { IfOk result (λ ds. Tells V.holds V.now view.old view.new (λ w. IsFamily w object ds.items)) }

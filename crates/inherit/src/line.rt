@@ -2,7 +2,7 @@
 ghost use Rattle.std.specs.Prelude.{◌≡◌, ℕ, negsuc, IfOk, MatchOption};
 ghost use Rattle.spec_world.specs.Inherit.{ancestors as ancestors_of};
 ghost use Rattle.world.specs.Law.{Lasts, Tells};
-ghost use Rattle.inherit.specs.Lines.{AreWellFormed, IsAbove, IsParentIn};
+ghost use Rattle.inherit.specs.Lines.{AreAgreeing, IsAbove, IsParentIn};
 
 use std::alloc::{AllocError, Global};
 use world::header::Header;
@@ -12,7 +12,7 @@ use world::readers::read_header;
 /// An object, its parent, the parent's parent, and so on: empty for an object that is not there.
 pub fn ancestors<V: View>(alloc: Global, view: &mut V, object: i32) -> Result<Vec<i32>, AllocError>
     requires home { V.holds view.old (V.home view.old) }
-    requires well_formed { AreWellFormed V.holds V.now view.old }
+    requires well_formed { AreAgreeing V.holds V.now view.old }
     ensures lasts { Lasts V.holds V.home V.anchor view.old view.new result }
     ensures left { IfOk result (λ os. Tells V.holds V.now view.old view.new (λ w. ancestors_of w object ≡ os.items)) }
 {
@@ -31,7 +31,7 @@ pub fn ancestors<V: View>(alloc: Global, view: &mut V, object: i32) -> Result<Ve
 
 /// The parent of an object, if there are both.
 pub(crate) fn parent<V: View>(view: &mut V, object: i32) -> Result<Option<i32>, AllocError>
-    requires { AreWellFormed V.holds V.now view.old }
+    requires { AreAgreeing V.holds V.now view.old }
     ensures lasts { Lasts V.holds V.home V.anchor view.old view.new result }
     ensures left { IfOk result (λ p. Tells V.holds V.now view.old view.new (λ w. IsAbove w object p)) }
 {

@@ -3,7 +3,7 @@ ghost use Rattle.std.specs.Prelude.{◌≡◌, drop, IfOk};
 ghost use Rattle.spec_world.specs.World.{World};
 ghost use Rattle.spec_world.specs.Inherit.{ancestors, slot_at, first_value, property_value};
 ghost use Rattle.world.specs.Law.{Lasts, Tells};
-ghost use Rattle.inherit.specs.Lines.{AreWellFormed, IsOwn};
+ghost use Rattle.inherit.specs.Lines.{AreAgreeing, IsOwn};
 
 use crate::line::parent;
 use moo_value::text::Text;
@@ -21,7 +21,7 @@ pub fn find_property<V: View>(
     name: &Text,
 ) -> Result<Option<Value>, AllocError>
     requires home { V.holds view.old (V.home view.old) }
-    requires well_formed { AreWellFormed V.holds V.now view.old }
+    requires well_formed { AreAgreeing V.holds V.now view.old }
     ensures lasts { Lasts V.holds V.home V.anchor view.old view.new result }
     ensures left { IfOk result (λ v. Tells V.holds V.now view.old view.new (λ w. property_value w object name.now ≡ v)) }
 {
@@ -37,7 +37,7 @@ pub fn value_of<V: View>(
     slot: Option<Slot>,
 ) -> Result<Option<Value>, AllocError>
     requires home { V.holds view.old (V.home view.old) }
-    requires well_formed { AreWellFormed V.holds V.now view.old }
+    requires well_formed { AreAgreeing V.holds V.now view.old }
     requires slot { (w : World) → V.holds view.old w → slot_at (V.now view.old w) object name.now ≡ slot }
     ensures lasts { Lasts V.holds V.home V.anchor view.old view.new result }
     ensures left { IfOk result (λ v. Tells V.holds V.now view.old view.new (λ w. property_value w object name.now ≡ v)) }
@@ -51,7 +51,7 @@ pub fn value_of<V: View>(
 // The value that the ancestors above an object give.
 fn inherited<V: View>(view: &mut V, object: i32, name: &Text) -> Result<Option<Value>, AllocError>
     requires home { V.holds view.old (V.home view.old) }
-    requires well_formed { AreWellFormed V.holds V.now view.old }
+    requires well_formed { AreAgreeing V.holds V.now view.old }
     ensures lasts { Lasts V.holds V.home V.anchor view.old view.new result }
     ensures left { IfOk result (λ v. Tells V.holds V.now view.old view.new (λ w. first_value w (drop 1 (ancestors w object)) name.now ≡ v)) }
 {

@@ -5,7 +5,7 @@ ghost use Rattle.spec_world.specs.Inherit.{ancestors};
 ghost use Rattle.spec_world.specs.VerbsSought.{find_verb as find_verb_of, find_command_verb as find_command_verb_of, first_on, first_passing, own_first, wants as wants_of, object_fits as object_fits_of, preposition_fits as preposition_fits_of};
 ghost use Rattle.world.specs.Law.{Lasts, Tells};
 ghost use Rattle.world.specs.Parts.{object_part_of, preposition_part_of};
-ghost use Rattle.inherit.specs.Lines.{AreWellFormed};
+ghost use Rattle.inherit.specs.Lines.{AreAgreeing};
 ghost use Rattle.inherit.specs.Sought.{parts_of, passes as passes_of, first_among as first_among_of, placed};
 
 use crate::line::parent;
@@ -76,7 +76,7 @@ pub fn find_verb<V: View>(
     word: &str,
 ) -> Result<Option<FoundVerb>, AllocError>
     requires home { V.holds view.old (V.home view.old) }
-    requires well_formed { AreWellFormed V.holds V.now view.old }
+    requires well_formed { AreAgreeing V.holds V.now view.old }
     ensures lasts { Lasts V.holds V.home V.anchor view.old view.new result }
     ensures left { IfOk result (λ f. Tells V.holds V.now view.old view.new (λ w. find_verb_of w object word.now ≡ f)) }
 {
@@ -91,7 +91,7 @@ pub fn find_command_verb<V: View>(
     parts: &CommandParts,
 ) -> Result<Option<FoundVerb>, AllocError>
     requires home { V.holds view.old (V.home view.old) }
-    requires well_formed { AreWellFormed V.holds V.now view.old }
+    requires well_formed { AreAgreeing V.holds V.now view.old }
     ensures lasts { Lasts V.holds V.home V.anchor view.old view.new result }
     ensures left { IfOk result (λ f. Tells V.holds V.now view.old view.new (λ w. find_command_verb_of w object word.now (parts_of parts.now) ≡ f)) }
 {
@@ -106,7 +106,7 @@ fn find<V: View>(
     purpose: Purpose,
 ) -> Result<Option<FoundVerb>, AllocError>
     requires home { V.holds view.old (V.home view.old) }
-    requires well_formed { AreWellFormed V.holds V.now view.old }
+    requires well_formed { AreAgreeing V.holds V.now view.old }
     ensures lasts { Lasts V.holds V.home V.anchor view.old view.new result }
     ensures left { IfOk result (λ f. Tells V.holds V.now view.old view.new (λ w. first_on w (passes_of purpose word.now) (ancestors w object) ≡ f)) }
 {

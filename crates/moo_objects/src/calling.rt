@@ -8,7 +8,7 @@ ghost use Rattle.moo_value.specs.Errors.{code_of};
 ghost use Rattle.spec_moo.specs.Effects.Calls.{with_arguments, found_effect};
 ghost use Rattle.moo_code.specs.Instruction.{call_verb as call_verb_of, call_function};
 ghost use Rattle.moo_machine.specs.Shown.{Around, here};
-ghost use Rattle.inherit.specs.Lines.{AreWellFormed};
+ghost use Rattle.inherit.specs.Lines.{AreAgreeing};
 ghost use Rattle.access.specs.Calling.{call_effect};
 ghost use Rattle.world.specs.Law.{Goes, Lasts};
 ghost use Rattle.moo_objects.specs.Called.{items_of, running, effect_of, shown_called, weighed_effect, Calls, HasList};
@@ -42,11 +42,11 @@ pub fn call_verb<V: View>(
 ) -> Result<Called, AllocError>
     requires place { state.old.place + 1 < 2 ^ 64 }
     requires home { V.holds view.old (V.home view.old) }
-    requires well_formed { AreWellFormed V.holds V.now view.old }
+    requires well_formed { AreAgreeing V.holds V.now view.old }
     ensures lasts { Lasts V.holds V.home V.anchor view.old view.new result }
     ensures left { IfOk result (λ d. Goes V.holds V.now view.old view.new (Calls call_verb_of call.now state.old d state.new)) }
     ensures listed { IfOk result HasList }
-    ensures well_formed { OnOk result (AreWellFormed V.holds V.now view.new) }
+    ensures well_formed { OnOk result (AreAgreeing V.holds V.now view.new) }
 {
     let Some(arguments) = state.operands.pop() else {
         return Ok(Called::Went(Did::LacksOperand));
@@ -76,12 +76,12 @@ pub fn call_verb<V: View>(
 pub fn pass<V: View>(view: &mut V, call: &Call, state: &mut State) -> Result<Called, AllocError>
     requires place { state.old.place + 1 < 2 ^ 64 }
     requires home { V.holds view.old (V.home view.old) }
-    requires well_formed { AreWellFormed V.holds V.now view.old }
+    requires well_formed { AreAgreeing V.holds V.now view.old }
     ensures lasts { Lasts V.holds V.home V.anchor view.old view.new result }
     ensures left { IfOk result (λ d. Goes V.holds V.now view.old view.new (λ before after. (g : TextOf) → same_text g (codes "pass") ≡ true →
         Calls (call_function g) call.now state.old d state.new before after)) }
     ensures listed { IfOk result HasList }
-    ensures well_formed { OnOk result (AreWellFormed V.holds V.now view.new) }
+    ensures well_formed { OnOk result (AreAgreeing V.holds V.now view.new) }
 {
     let Some(arguments) = state.operands.pop() else {
         return Ok(Called::Went(Did::LacksOperand));

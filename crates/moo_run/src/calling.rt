@@ -1,7 +1,7 @@
 //! Calls of functions.
 ghost use Rattle.std.specs.Prelude.{◌≡◌, ◌<◌, ◌+◌, ◌^◌, false, codes, IfOk, OnOk};
 ghost use Rattle.spec_value.specs.Datum.{Data, list, to_list, same_text};
-ghost use Rattle.inherit.specs.Lines.{AreWellFormed};
+ghost use Rattle.inherit.specs.Lines.{AreAgreeing};
 ghost use Rattle.world.specs.Law.{Goes, Lasts};
 ghost use Rattle.moo_task.specs.Outcomes.{Keeps};
 ghost use Rattle.moo_run.specs.Scenes.{led_at};
@@ -48,13 +48,13 @@ pub fn call<V: View, N: Natives>(
     name: &Text,
 ) -> Result<Outcome, AllocError>
     requires home { V.holds view.old (V.home view.old) }
-    requires well_formed { AreWellFormed V.holds V.now view.old }
+    requires well_formed { AreAgreeing V.holds V.now view.old }
     requires place { task.old.frame.state.place + 1 < 2 ^ 64 }
     ensures lasts { Lasts V.holds V.home V.anchor view.old view.new result }
     ensures calls { IfOk result (λ o. Goes V.holds V.now view.old view.new (λ before after.
         calls_function_at name.now deeds.old before task.old ≡ led_at o deeds.new after task.new)) }
     ensures player { IfOk result (λ o. task.new.player ≡ task.old.player) }
-    ensures well_formed { OnOk result (AreWellFormed V.holds V.now view.new) }
+    ensures well_formed { OnOk result (AreAgreeing V.holds V.now view.new) }
 {
     let passes = is_pass(name);
     if passes {
@@ -73,13 +73,13 @@ pub fn call_function<V: View, N: Natives>(
     name: &Text,
 ) -> Result<Outcome, AllocError>
     requires home { V.holds view.old (V.home view.old) }
-    requires well_formed { AreWellFormed V.holds V.now view.old }
+    requires well_formed { AreAgreeing V.holds V.now view.old }
     requires place { task.old.frame.state.place + 1 < 2 ^ 64 }
     ensures lasts { Lasts V.holds V.home V.anchor view.old view.new result }
     ensures calls { IfOk result (λ o. Goes V.holds V.now view.old view.new (λ before after.
         same_text name.now (codes "pass") ≡ false → calls_function_at name.now deeds.old before task.old ≡ led_at o deeds.new after task.new)) }
     ensures keeps { IfOk result (λ o. Keeps o task.old task.new) }
-    ensures well_formed { OnOk result (AreWellFormed V.holds V.now view.new) }
+    ensures well_formed { OnOk result (AreAgreeing V.holds V.now view.new) }
 {
     let Some(arguments) = task.frame.state.operands.pop() else {
         return Ok(Outcome::LacksOperand);
@@ -109,12 +109,12 @@ fn call_native<V: View, N: Natives>(
     arguments: Value,
 ) -> Result<Outcome, AllocError>
     requires home { V.holds view.old (V.home view.old) }
-    requires well_formed { AreWellFormed V.holds V.now view.old }
+    requires well_formed { AreAgreeing V.holds V.now view.old }
     ensures lasts { Lasts V.holds V.home V.anchor view.old view.new result }
     ensures calls { IfOk result (λ o. Goes V.holds V.now view.old view.new (λ before after.
         (args : Data) → arguments ≡ list args → calls_native_at name.now args end deeds.old before task.old ≡ led_at o deeds.new after task.new)) }
     ensures keeps { IfOk result (λ o. Keeps o task.old task.new) }
-    ensures well_formed { OnOk result (AreWellFormed V.holds V.now view.new) }
+    ensures well_formed { OnOk result (AreAgreeing V.holds V.now view.new) }
 {
     let items = items_of(alloc, arguments)?;
     let effect = natives.call(alloc, view, deeds, task, name, items)?;

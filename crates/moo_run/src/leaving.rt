@@ -3,7 +3,7 @@ ghost use Rattle.std.specs.Prelude.{◌≡◌, ◌<◌, ℕ, length, IfOk, OnOk}
 ghost use Rattle.spec_moo.specs.Scene.{Scene};
 ghost use Rattle.moo_machine.specs.Meant.{failure_meant, leaving_meant};
 ghost use Rattle.spec_moo.specs.Leaving.{returned, failed, broken, continued};
-ghost use Rattle.inherit.specs.Lines.{AreWellFormed};
+ghost use Rattle.inherit.specs.Lines.{AreAgreeing};
 ghost use Rattle.world.specs.Law.{Goes, Lasts};
 ghost use Rattle.moo_task.specs.Frames.{native_of};
 ghost use Rattle.moo_task.specs.Outcomes.{led, Keeps};
@@ -33,12 +33,12 @@ pub fn out_of_verb<V: View, N: Natives>(
     leaving: Leaving,
 ) -> Result<Outcome, AllocError>
     requires home { V.holds view.old (V.home view.old) }
-    requires well_formed { AreWellFormed V.holds V.now view.old }
+    requires well_formed { AreAgreeing V.holds V.now view.old }
     ensures lasts { Lasts V.holds V.home V.anchor view.old view.new result }
     ensures out { IfOk result (λ o. Goes V.holds V.now view.old view.new (λ before after.
         out_at (leaving_meant leaving) deeds.old before task.old ≡ led_at o deeds.new after task.new)) }
     ensures falls { IfOk result (λ o. Falls o task.old task.new) }
-    ensures well_formed { OnOk result (AreWellFormed V.holds V.now view.new) }
+    ensures well_formed { OnOk result (AreAgreeing V.holds V.now view.new) }
 {
     match leaving {
         Leaving::Failed(failure) => raise_out(task, failure),
@@ -57,14 +57,14 @@ fn give_zero<V: View, N: Natives>(
     task: &mut Running,
 ) -> Result<Outcome, AllocError>
     requires home { V.holds view.old (V.home view.old) }
-    requires well_formed { AreWellFormed V.holds V.now view.old }
+    requires well_formed { AreAgreeing V.holds V.now view.old }
     ensures lasts { Lasts V.holds V.home V.anchor view.old view.new result }
     ensures broken { IfOk result (λ o. Goes V.holds V.now view.old view.new (λ before after.
         (n : ℕ) → out_at (broken n) deeds.old before task.old ≡ led_at o deeds.new after task.new)) }
     ensures continued { IfOk result (λ o. Goes V.holds V.now view.old view.new (λ before after.
         (n : ℕ) → out_at (continued n) deeds.old before task.old ≡ led_at o deeds.new after task.new)) }
     ensures falls { IfOk result (λ o. Falls o task.old task.new) }
-    ensures well_formed { OnOk result (AreWellFormed V.holds V.now view.new) }
+    ensures well_formed { OnOk result (AreAgreeing V.holds V.now view.new) }
 {
     let zero = Value::integer(0);
     let outcome = give_out(alloc, view, natives, deeds, task, zero)?;
@@ -82,12 +82,12 @@ fn give_out<V: View, N: Natives>(
     value: Value,
 ) -> Result<Outcome, AllocError>
     requires home { V.holds view.old (V.home view.old) }
-    requires well_formed { AreWellFormed V.holds V.now view.old }
+    requires well_formed { AreAgreeing V.holds V.now view.old }
     ensures lasts { Lasts V.holds V.home V.anchor view.old view.new result }
     ensures out { IfOk result (λ o. Goes V.holds V.now view.old view.new (λ before after.
         out_at (returned value) deeds.old before task.old ≡ led_at o deeds.new after task.new)) }
     ensures falls { IfOk result (λ o. Falls o task.old task.new) }
-    ensures well_formed { OnOk result (AreWellFormed V.holds V.now view.new) }
+    ensures well_formed { OnOk result (AreAgreeing V.holds V.now view.new) }
 {
     match task.outer.pop() {
         None => Ok(Outcome::Ends(End::Done(value))),
@@ -115,12 +115,12 @@ fn give_native<V: View, N: Natives>(
     value: Value,
 ) -> Result<Outcome, AllocError>
     requires home { V.holds view.old (V.home view.old) }
-    requires well_formed { AreWellFormed V.holds V.now view.old }
+    requires well_formed { AreAgreeing V.holds V.now view.old }
     ensures lasts { Lasts V.holds V.home V.anchor view.old view.new result }
     ensures out { IfOk result (λ o. Goes V.holds V.now view.old view.new (λ before after.
         into_native_at (native_of native) value deeds.old before task.old ≡ led_at o deeds.new after task.new)) }
     ensures falls { IfOk result (λ o. Falls o task.old task.new) }
-    ensures well_formed { OnOk result (AreWellFormed V.holds V.now view.new) }
+    ensures well_formed { OnOk result (AreAgreeing V.holds V.now view.new) }
 {
     match task.outer.pop() {
         Some(Outer::Verb(frame)) => {
@@ -178,13 +178,13 @@ pub fn settle<V: View, N: Natives>(
     outcome: Outcome,
 ) -> Result<Outcome, AllocError>
     requires home { V.holds view.old (V.home view.old) }
-    requires well_formed { AreWellFormed V.holds V.now view.old }
+    requires well_formed { AreAgreeing V.holds V.now view.old }
     ensures lasts { Lasts V.holds V.home V.anchor view.old view.new result }
     ensures out { IfOk result (λ o. Goes V.holds V.now view.old view.new (λ before after.
         led_at outcome deeds.old before task.old ≡ led_at o deeds.new after task.new)) }
     ensures settled { IfOk result IsSettled }
     ensures player { IfOk result (λ o. task.new.player ≡ task.old.player) }
-    ensures well_formed { OnOk result (AreWellFormed V.holds V.now view.new) }
+    ensures well_formed { OnOk result (AreAgreeing V.holds V.now view.new) }
 {
     let mut outcome = outcome;
     'leaving: while let Outcome::Leaves(leaving) = outcome {
@@ -203,12 +203,12 @@ fn leave_part<V: View, N: Natives>(
     leaving: Leaving,
 ) -> Result<Outcome, AllocError>
     requires home { V.holds view.old (V.home view.old) }
-    requires well_formed { AreWellFormed V.holds V.now view.old }
+    requires well_formed { AreAgreeing V.holds V.now view.old }
     ensures lasts { Lasts V.holds V.home V.anchor view.old view.new result }
     ensures out { IfOk result (λ o. Goes V.holds V.now view.old view.new (λ before after.
         leaves_at leaving deeds.old before task.old ≡ led_at o deeds.new after task.new)) }
     ensures falls { IfOk result (λ o. Falls o task.old task.new) }
-    ensures well_formed { OnOk result (AreWellFormed V.holds V.now view.new) }
+    ensures well_formed { OnOk result (AreAgreeing V.holds V.now view.new) }
 {
     let offered = offer(alloc, task, leaving)?;
     match offered {

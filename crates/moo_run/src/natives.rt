@@ -1,7 +1,7 @@
 //! Built-in functions, as tasks call them.
 ghost use Rattle.std.specs.Prelude.{◌≡◌, IfOk, OnOk};
 ghost use Rattle.spec_moo.specs.Natives.{native as native_does, native_turn};
-ghost use Rattle.inherit.specs.Lines.{AreWellFormed};
+ghost use Rattle.inherit.specs.Lines.{AreAgreeing};
 ghost use Rattle.world.specs.Law.{Goes, Lasts};
 ghost use Rattle.moo_task.specs.Frames.{native_of};
 ghost use Rattle.moo_run.specs.Scenes.{caller_of, scene_at, effect_at};
@@ -28,11 +28,11 @@ pub trait Natives {
         arguments: Vec<Value>,
     ) -> Result<NativeEffect, AllocError>
         requires home { V.holds view.old (V.home view.old) }
-        requires well_formed { AreWellFormed V.holds V.now view.old }
+        requires well_formed { AreAgreeing V.holds V.now view.old }
         ensures lasts { Lasts V.holds V.home V.anchor view.old view.new result }
         ensures does { IfOk result (λ e. Goes V.holds V.now view.old view.new (λ before after.
             native_does (scene_at deeds.old before task.now) (caller_of task.now) name.now arguments.items ≡ effect_at e deeds.new after task.now)) }
-        ensures well_formed { OnOk result (AreWellFormed V.holds V.now view.new) };
+        ensures well_formed { OnOk result (AreAgreeing V.holds V.now view.new) };
 
     /// A function goes on that waited for the value of a verb, for the verb that now runs.
     fn resume<V: View>(
@@ -45,9 +45,9 @@ pub trait Natives {
         value: Value,
     ) -> Result<NativeEffect, AllocError>
         requires home { V.holds view.old (V.home view.old) }
-        requires well_formed { AreWellFormed V.holds V.now view.old }
+        requires well_formed { AreAgreeing V.holds V.now view.old }
         ensures lasts { Lasts V.holds V.home V.anchor view.old view.new result }
         ensures does { IfOk result (λ e. Goes V.holds V.now view.old view.new (λ before after.
             native_turn (scene_at deeds.old before task.now) (caller_of task.now) (native_of native) value ≡ effect_at e deeds.new after task.now)) }
-        ensures well_formed { OnOk result (AreWellFormed V.holds V.now view.new) };
+        ensures well_formed { OnOk result (AreAgreeing V.holds V.now view.new) };
 }

@@ -1,6 +1,6 @@
 //! Runs of tasks.
 ghost use Rattle.std.specs.Prelude.{◌≡◌, IfOk, OnOk};
-ghost use Rattle.inherit.specs.Lines.{AreWellFormed};
+ghost use Rattle.inherit.specs.Lines.{AreAgreeing};
 ghost use Rattle.world.specs.Law.{Goes, Lasts};
 ghost use Rattle.moo_task.specs.Outcomes.{running_kept};
 ghost use Rattle.moo_run.specs.Stopping.{IsUnderWay, StopsAsSegment, stopped_at};
@@ -24,12 +24,12 @@ pub fn run<V: View, N: Natives>(
     task: Running,
 ) -> Result<Stopped, AllocError>
     requires home { V.holds view.old (V.home view.old) }
-    requires well_formed { AreWellFormed V.holds V.now view.old }
+    requires well_formed { AreAgreeing V.holds V.now view.old }
     requires under_way { IsUnderWay (running_kept task) task.outer }
     ensures lasts { Lasts V.holds V.home V.anchor view.old view.new result }
     ensures stopped { IfOk result (λ s. Goes V.holds V.now view.old view.new
         (λ before after. StopsAsSegment deeds before task (stopped_at s after))) }
-    ensures well_formed { OnOk result (AreWellFormed V.holds V.now view.new) }
+    ensures well_formed { OnOk result (AreAgreeing V.holds V.now view.new) }
 {
     let mut deeds = deeds;
     let mut task = task;

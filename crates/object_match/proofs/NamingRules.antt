@@ -11,7 +11,7 @@ use Rattle.spec_value.proofs.Entries.{first_holds, second_holds, both_hold}
 use Rattle.spec_world.specs.World.{World, Object, Header, object_at}
 use Rattle.spec_world.specs.Inherit.{property_value}
 use Rattle.spec_view.specs.Questions.{header_at, contents_at}
-use Rattle.spec_world.specs.WellFormed.{IsWellFormed}
+use Rattle.spec_world.specs.Agreeing.{ObjectsAgree}
 use Rattle.spec_world.specs.Naming.{object_number, name_object, by_number, by_words, by_name, contents_of, location_of, name_of, aliases_in, within_reach}
 use Rattle.object_match.specs.Numbers.{IsNoObject, IsNumberOf}
 use Rattle.object_match.specs.Fits.{some_fit, either_fit, named_in, object_fit, answer_of, with_object, with_objects, no_matches}
@@ -32,14 +32,14 @@ beyond (pos k) g fits range =
     (least_than k g (second_holds (int_le (pos 0) (pos k)) (int_le (pos k) g) fits) (second_holds (int_le (negsuc 0) g) (int_le g (pos 999999)) range))
 beyond (negsuc k) g fits range = let low : IsTrue (int_le (pos 0) (negsuc k)) = first_holds (int_le (pos 0) (negsuc k)) (int_le (negsuc k) g) fits in cc
 
-no_object_has : (w : World) (n : ℤ) → IsWellFormed w → IsNoObject n → object_at w n ≡ None
+no_object_has : (w : World) (n : ℤ) → ObjectsAgree w → IsNoObject n → object_at w n ≡ None
 no_object_has w n sound far = go (object_at w n) refl
   where
     go : (x : Option Object) → object_at w n ≡ x → x ≡ None
     go None e = refl
     go (Some x) e = absurd (true≢false (sym (beyond n w.greatest (sound.numbers n x e) sound.greatest_in_range) ∙ far))
 
-by_far_number : (w : World) (player : ℤ) (t : Text) → IsWellFormed w → IsNumberOf (object_number t) None → by_number w player t (object_number t) ≡ by_words w player t
+by_far_number : (w : World) (player : ℤ) (t : Text) → ObjectsAgree w → IsNumberOf (object_number t) None → by_number w player t (object_number t) ≡ by_words w player t
 by_far_number w player t sound = go (object_number t)
   where
     go : (n : Option ℤ) → IsNumberOf n None → by_number w player t n ≡ by_words w player t
@@ -80,7 +80,7 @@ name_of_some w player (c ∷ t) some = refl
 pub name_by_number : (w : World) (player : ℤ) (t : Text) (o n : ℤ) → 0 < length t → IsNumberOf (object_number t) (Some o) → by_number w player t (Some o) ≡ n → name_object w player t ≡ n
 name_by_number w player t o n some is so = name_of_some w player t some ∙ by_near_number w player t o is ∙ so
 
-pub name_by_words : (w : World) (player : ℤ) (t : Text) (n : ℤ) → IsWellFormed w → 0 < length t → IsNumberOf (object_number t) None → by_words w player t ≡ n → name_object w player t ≡ n
+pub name_by_words : (w : World) (player : ℤ) (t : Text) (n : ℤ) → ObjectsAgree w → 0 < length t → IsNumberOf (object_number t) None → by_words w player t ≡ n → name_object w player t ≡ n
 name_by_words w player t n sound some is so = name_of_some w player t some ∙ by_far_number w player t sound is ∙ so
 
 -- ---- by words

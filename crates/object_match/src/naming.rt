@@ -1,7 +1,7 @@
 //! Objects by what players call them.
 ghost use Rattle.std.specs.Prelude.{◌≡◌, IfOk, Some};
 ghost use Rattle.spec_world.specs.Naming.{name_object as name_object_of, by_number, by_words as by_words_of, by_name as by_name_of};
-ghost use Rattle.inherit.specs.Lines.{AreWellFormed};
+ghost use Rattle.inherit.specs.Lines.{AreAgreeing};
 ghost use Rattle.world.specs.Law.{Lasts, Tells};
 
 use crate::number::object_number;
@@ -24,7 +24,7 @@ pub fn name_object<V: View>(
     text: &str,
 ) -> Result<i32, AllocError>
     requires home { V.holds view.old (V.home view.old) }
-    requires well_formed { AreWellFormed V.holds V.now view.old }
+    requires well_formed { AreAgreeing V.holds V.now view.old }
     ensures lasts { Lasts V.holds V.home V.anchor view.old view.new result }
     ensures left { IfOk result (λ o. Tells V.holds V.now view.old view.new (λ w. name_object_of w player text.now ≡ o)) }
 {
@@ -46,7 +46,7 @@ fn numbered<V: View>(
     object: i32,
 ) -> Result<i32, AllocError>
     requires home { V.holds view.old (V.home view.old) }
-    requires well_formed { AreWellFormed V.holds V.now view.old }
+    requires well_formed { AreAgreeing V.holds V.now view.old }
     ensures lasts { Lasts V.holds V.home V.anchor view.old view.new result }
     ensures left { IfOk result (λ o. Tells V.holds V.now view.old view.new (λ w. by_number w player text.now (Some object) ≡ o)) }
 {
@@ -64,7 +64,7 @@ fn by_words<V: View>(
     text: &str,
 ) -> Result<i32, AllocError>
     requires home { V.holds view.old (V.home view.old) }
-    requires well_formed { AreWellFormed V.holds V.now view.old }
+    requires well_formed { AreAgreeing V.holds V.now view.old }
     ensures lasts { Lasts V.holds V.home V.anchor view.old view.new result }
     ensures left { IfOk result (λ o. Tells V.holds V.now view.old view.new (λ w. by_words_of w player text.now ≡ o)) }
 {
@@ -80,7 +80,7 @@ fn by_words<V: View>(
 // By the names and the aliases of what the player holds and of what is in the room.
 fn by_name<V: View>(alloc: Global, view: &mut V, player: i32, text: &str) -> Result<i32, AllocError>
     requires home { V.holds view.old (V.home view.old) }
-    requires well_formed { AreWellFormed V.holds V.now view.old }
+    requires well_formed { AreAgreeing V.holds V.now view.old }
     ensures lasts { Lasts V.holds V.home V.anchor view.old view.new result }
     ensures left { IfOk result (λ o. Tells V.holds V.now view.old view.new (λ w. by_name_of w player text.now ≡ o)) }
 {

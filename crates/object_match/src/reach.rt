@@ -2,7 +2,7 @@
 ghost use Rattle.std.specs.Prelude.{◌≡◌, IfOk, codes};
 ghost use Rattle.spec_world.specs.World.{object_at};
 ghost use Rattle.spec_world.specs.Naming.{contents_of};
-ghost use Rattle.inherit.specs.Lines.{AreWellFormed};
+ghost use Rattle.inherit.specs.Lines.{AreAgreeing};
 ghost use Rattle.world.specs.Law.{Lasts, Tells};
 ghost use Rattle.object_match.specs.Fits.{some_fit, named_in, object_fit, with_objects};
 
@@ -24,7 +24,7 @@ pub(crate) fn with_contents<V: View>(
     aliases: &Text,
 ) -> Result<Matches, AllocError>
     requires home { V.holds view.old (V.home view.old) }
-    requires well_formed { AreWellFormed V.holds V.now view.old }
+    requires well_formed { AreAgreeing V.holds V.now view.old }
     requires aliases { aliases.now ≡ codes "aliases" }
     ensures lasts { Lasts V.holds V.home V.anchor view.old view.new result }
     ensures left { IfOk result (λ m. Tells V.holds V.now view.old view.new
@@ -46,7 +46,7 @@ fn with_each<V: View>(
     aliases: &Text,
 ) -> Result<Matches, AllocError>
     requires home { V.holds view.old (V.home view.old) }
-    requires well_formed { AreWellFormed V.holds V.now view.old }
+    requires well_formed { AreAgreeing V.holds V.now view.old }
     requires aliases { aliases.now ≡ codes "aliases" }
     ensures lasts { Lasts V.holds V.home V.anchor view.old view.new result }
     ensures left { IfOk result (λ m. Tells V.holds V.now view.old view.new (λ w. with_objects w text.now matches objects.now ≡ m)) }
@@ -62,7 +62,7 @@ fn with_each<V: View>(
 // How a text fits the name and the aliases of an object. Where it is the name, there is no more to ask.
 fn fit_of<V: View>(view: &mut V, object: i32, text: &str, aliases: &Text) -> Result<Fit, AllocError>
     requires home { V.holds view.old (V.home view.old) }
-    requires well_formed { AreWellFormed V.holds V.now view.old }
+    requires well_formed { AreAgreeing V.holds V.now view.old }
     requires aliases { aliases.now ≡ codes "aliases" }
     ensures lasts { Lasts V.holds V.home V.anchor view.old view.new result }
     ensures left { IfOk result (λ f. Tells V.holds V.now view.old view.new (λ w. object_fit w text.now object ≡ f)) }

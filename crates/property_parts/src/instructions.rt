@@ -3,7 +3,7 @@ ghost use Rattle.std.specs.Prelude.{◌≡◌, ◌<◌, ◌+◌, ◌^◌, length
 ghost use Rattle.moo_code.specs.Instruction.{in_property, length_of, target_at, store};
 ghost use Rattle.moo_program.specs.Meaning.{bracketed};
 ghost use Rattle.moo_value.specs.Answers.{answer_of};
-ghost use Rattle.inherit.specs.Lines.{AreWellFormed};
+ghost use Rattle.inherit.specs.Lines.{AreAgreeing};
 ghost use Rattle.world.specs.Law.{Goes, Lasts};
 ghost use Rattle.moo_objects.specs.Worlds.{Does, answer_stored};
 ghost use Rattle.moo_targets.specs.Targets.{count_in as count_in_of};
@@ -32,11 +32,11 @@ pub fn length_of_part<V: View>(
 ) -> Result<Did, AllocError>
     requires place { state.old.place + 1 < 2 ^ 64 }
     requires home { V.holds view.old (V.home view.old) }
-    requires well_formed { AreWellFormed V.holds V.now view.old }
+    requires well_formed { AreAgreeing V.holds V.now view.old }
     ensures lasts { Lasts V.holds V.home V.anchor view.old view.new result }
     ensures left { IfOk result (λ d. Goes V.holds V.now view.old view.new
         (Does (length_of (target_at (bracketed brackets.now in_property) height)) call.now state.old d state.new)) }
-    ensures well_formed { OnOk result (AreWellFormed V.holds V.now view.new) }
+    ensures well_formed { OnOk result (AreAgreeing V.holds V.now view.new) }
 {
     if state.ticks == 0 {
         return Ok(Did::RanOut);
@@ -59,11 +59,11 @@ pub fn store_part<V: View>(
 ) -> Result<Did, AllocError>
     requires place { state.old.place + 1 < 2 ^ 64 }
     requires home { V.holds view.old (V.home view.old) }
-    requires well_formed { AreWellFormed V.holds V.now view.old }
+    requires well_formed { AreAgreeing V.holds V.now view.old }
     ensures lasts { Lasts V.holds V.home V.anchor view.old view.new result }
     ensures left { IfOk result (λ d. Goes V.holds V.now view.old view.new
         (Does (store (bracketed brackets.now in_property)) call.now state.old d state.new)) }
-    ensures well_formed { OnOk result (AreWellFormed V.holds V.now view.new) }
+    ensures well_formed { OnOk result (AreAgreeing V.holds V.now view.new) }
 {
     if brackets.is_empty() {
         let did = store_property(alloc, view, call, state)?;
@@ -91,7 +91,7 @@ fn store_paid<V: View>(
 ) -> Result<Did, AllocError>
     requires place { state.old.place + 1 < 2 ^ 64 }
     requires home { V.holds view.old (V.home view.old) }
-    requires well_formed { AreWellFormed V.holds V.now view.old }
+    requires well_formed { AreAgreeing V.holds V.now view.old }
     requires brackets { 0 < length brackets.now }
     requires count { count ≡ count_in_of brackets.now + 2 }
     requires room { count + 1 < 2 ^ 64 }
@@ -100,7 +100,7 @@ fn store_paid<V: View>(
     ensures lasts { Lasts V.holds V.home V.anchor view.old view.new result }
     ensures left { IfOk result (λ d. Goes V.holds V.now view.old view.new
         (Does (store (bracketed brackets.now in_property)) call.now state.old d state.new)) }
-    ensures well_formed { OnOk result (AreWellFormed V.holds V.now view.new) }
+    ensures well_formed { OnOk result (AreAgreeing V.holds V.now view.new) }
 {
     let Some(values) = state.operands.top(count + 1) else {
         return Ok(Did::LacksOperand);

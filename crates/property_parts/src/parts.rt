@@ -3,7 +3,7 @@ ghost use Rattle.std.specs.Prelude.{◌≡◌, ◌<◌, length, IfOk, OnOk};
 ghost use Rattle.spec_moo.specs.Effects.Lists.{length_in};
 ghost use Rattle.moo_value.specs.Answers.{answer_of};
 ghost use Rattle.moo_targets.specs.Targets.{part_answer, whole_answer};
-ghost use Rattle.inherit.specs.Lines.{AreWellFormed};
+ghost use Rattle.inherit.specs.Lines.{AreAgreeing};
 ghost use Rattle.world.specs.Law.{Goes, Lasts, Tells};
 ghost use Rattle.access.specs.Writing.{IsWritten};
 ghost use Rattle.property_parts.specs.Parts.{part_there, part_written};
@@ -28,7 +28,7 @@ pub fn length_there<V: View>(
     values: &[Value],
 ) -> Result<Answer, AllocError>
     requires home { V.holds view.old (V.home view.old) }
-    requires well_formed { AreWellFormed V.holds V.now view.old }
+    requires well_formed { AreAgreeing V.holds V.now view.old }
     ensures lasts { Lasts V.holds V.home V.anchor view.old view.new result }
     ensures left { IfOk result (λ a. Tells V.holds V.now view.old view.new
         (λ w. length_in (part_there w programmer brackets.now values.now) ≡ answer_of a)) }
@@ -70,12 +70,12 @@ pub fn write_part<V: View>(
     value: Value,
 ) -> Result<Result<(), MooError>, AllocError>
     requires home { V.holds view.old (V.home view.old) }
-    requires well_formed { AreWellFormed V.holds V.now view.old }
+    requires well_formed { AreAgreeing V.holds V.now view.old }
     requires brackets { 0 < length brackets.now }
     ensures lasts { Lasts V.holds V.home V.anchor view.old view.new result }
     ensures left { IfOk result (λ r. Goes V.holds V.now view.old view.new
         (λ before after. IsWritten before after (part_written before programmer brackets.now values.now value) r)) }
-    ensures well_formed { OnOk result (AreWellFormed V.holds V.now view.new) }
+    ensures well_formed { OnOk result (AreAgreeing V.holds V.now view.new) }
 {
     let [object, name, inner @ ..] = values else {
         return Ok(Err(MooError::TypeMismatch));

@@ -3,14 +3,14 @@ use Rattle.std.proofs.Common.{◌≡◌, ℤ, List, Result, Ok, Err, OnOk, sym, 
 use Rattle.spec_value.specs.Datum.{Text}
 use Rattle.spec_world.specs.World.{World, Slot, object_at}
 use Rattle.spec_world.specs.Families.{parent_of, put_below, with_heirs, reparented}
-use Rattle.inherit.specs.Lines.{AreWellFormed}
+use Rattle.inherit.specs.Lines.{AreAgreeing}
 use Rattle.family.specs.Below.{IsFamily}
 use Rattle.world.specs.Law.{Goes, Tells}
 use Rattle.reparenting.specs.Heirs.{names_beside, slots_beside, lose_each, inherit_each}
 use Rattle.reparenting.proofs.Descent.{heirs_so}
 
 module _ {V A E : Type 0} (holds : V → World → Type 0) (now : V → World → World) (o before p : ℤ) (ds : List ℤ) where
-  pub heirs_told : (a b c d e : V) (r : Result A E) (ts : List Text) (es : List (Text × Slot)) → AreWellFormed holds now a
+  pub heirs_told : (a b c d e : V) (r : Result A E) (ts : List Text) (es : List (Text × Slot)) → AreAgreeing holds now a
       → Tells holds now a b (λ w. ts ≡ names_beside w before p) → Tells holds now b c (λ w. es ≡ slots_beside w p before)
       → Goes holds now c d (λ was is. is ≡ lose_each ts ds was) → OnOk r (Goes holds now d e (λ was is. is ≡ inherit_each es ds was))
       → OnOk r (Goes holds now a e (λ was is. IsFamily was o ds → parent_of (object_at was o) ≡ before → is ≡ with_heirs was o p))

@@ -5,20 +5,21 @@ use Rattle.std.specs.List.{list_any}
 use Rattle.spec_value.specs.Datum.{Text, fold_case}
 use Rattle.spec_world.specs.World.{World, Object, object_at}
 use Rattle.spec_world.specs.Inherit.{slot_of, ancestors}
-use Rattle.spec_world.specs.WellFormed.{IsWellFormed, passes, defined_on, has_name}
+use Rattle.spec_world.specs.WellFormed.{passes, defined_on, has_name}
+use Rattle.spec_world.specs.Agreeing.{ObjectsAgree}
 use Rattle.spec_world.specs.Families.{slots_at, shares_name, clashes}
 use Rattle.spec_value.specs.Table.{named}
 use Rattle.spec_world.proofs.Trees.{Path, path_from}
 use Rattle.spec_world.proofs.WorldTrees.{parents, ancestors_of}
-use Rattle.spec_world.proofs.Households.{Household, household, objects_of}
+use Rattle.spec_world.proofs.Households.{Household, household}
 use Rattle.spec_world.proofs.Reparenting.{slots_above}
 use Rattle.family.specs.Below.{IsFamily}
 use Rattle.family.proofs.Anyone.{any_of, any_is}
 use Rattle.reparenting.specs.Clashes.{has_slot, any_slot, any_clashes}
 
-module _ (w : World) (sound : IsWellFormed w) (p : ℤ) where
+module _ (w : World) (sound : ObjectsAgree w) (p : ℤ) where
   house : Household w
-  house = household w (objects_of w sound)
+  house = household w sound
 
   way : (us : List ℤ) × Path (parents w) p us
   way = path_from (parents w) house.family p

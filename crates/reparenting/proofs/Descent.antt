@@ -10,12 +10,13 @@ use Rattle.spec_value.proofs.Keys.{as_type}
 use Rattle.spec_value.proofs.Same.{text_itself}
 use Rattle.spec_world.specs.World.{World, Object, Slot, object_at}
 use Rattle.spec_world.specs.Inherit.{slot_of, slot_at}
-use Rattle.spec_world.specs.WellFormed.{IsWellFormed, defined_on, has_name, lists}
+use Rattle.spec_world.specs.WellFormed.{defined_on, has_name, lists}
+use Rattle.spec_world.specs.Agreeing.{ObjectsAgree}
 use Rattle.spec_world.specs.Families.{heir_slot, heir_slots, slots_at, slots_named, added_slot, with_slots, parent_of, is_below, kept_names, heir_of, with_heirs}
 use Rattle.spec_world.specs.Members.{with_own_slot}
 use Rattle.spec_world.proofs.Trees.{Path, path_from, same_or_not}
 use Rattle.spec_world.proofs.WorldTrees.{parents, ancestors_of}
-use Rattle.spec_world.proofs.Households.{Own, Household, household, objects_of, at_each, each_numbered, change_numbered}
+use Rattle.spec_world.proofs.Households.{Own, Household, household, at_each, each_numbered, change_numbered}
 use Rattle.spec_world.proofs.SlotChanges.{names_total, names_apart}
 use Rattle.spec_world.proofs.SlotTables.{text_turned, named_with, named_without, without_sorted, named_heirs, named_kept, kept_sorted, or_first, named_both, both_sorted}
 use Rattle.spec_world.proofs.ObjectChanges.{at_change}
@@ -202,9 +203,9 @@ neither true false m e = refl
 neither false true m e = refl
 neither false false m e = e
 
-module _ (w : World) (sound : IsWellFormed w) (o before p : ℤ) (ds : List ℤ) (all : IsFamily w o ds) (parent_is : parent_of (object_at w o) ≡ before) where
+module _ (w : World) (sound : ObjectsAgree w) (o before p : ℤ) (ds : List ℤ) (all : IsFamily w o ds) (parent_is : parent_of (object_at w o) ≡ before) where
   house : Household w
-  house = household w (objects_of w sound)
+  house = household w sound
 
   -- of one below
   slots_so : (q : ℤ) (x : Object) (ps : List ℤ) → object_at w q ≡ Some x → Path (parents w) q ps → IsTrue (lists ps o)

@@ -6,11 +6,12 @@ use Rattle.spec_value.specs.Table.{named}
 use Rattle.spec_value.proofs.Same.{text_itself}
 use Rattle.spec_world.specs.World.{World, Object, Slot, object_at}
 use Rattle.spec_world.specs.Inherit.{slot_at, slot_of, ancestors}
-use Rattle.spec_world.specs.WellFormed.{IsWellFormed, defined_on, folded_names, has_name}
+use Rattle.spec_world.specs.WellFormed.{defined_on, folded_names, has_name}
+use Rattle.spec_world.specs.Agreeing.{ObjectsAgree}
 use Rattle.spec_world.specs.Families.{slots_at}
 use Rattle.spec_world.proofs.Trees.{Path, path_from}
 use Rattle.spec_world.proofs.WorldTrees.{parents, ancestors_of}
-use Rattle.spec_world.proofs.Households.{Household, household, objects_of}
+use Rattle.spec_world.proofs.Households.{Household, household}
 use Rattle.spec_world.proofs.SlotTables.{text_or_not, sought}
 use Rattle.spec_world.proofs.Reparenting.{slots_above}
 use Rattle.spec_view.specs.Questions.{defines_at}
@@ -67,7 +68,7 @@ named_of w o (p ∷ ps) t = go (slot_at w o p) (found_of (object_at w o) p) (tex
         ap (λ b. cond b (Some x) (named (folded (slots_of w o ps)) t)) (sought t (fold_case p) ∙ s) ∙ rest ∙ ap (λ b. cond (b || later) own None) (sym s)
 
 -- all of them
-pub heritage_is : (w : World) → IsWellFormed w → (o : ℤ) (t : Text) → named (folded (heritage w o)) t ≡ named (slots_at (object_at w o)) t
+pub heritage_is : (w : World) → ObjectsAgree w → (o : ℤ) (t : Text) → named (folded (heritage w o)) t ≡ named (slots_at (object_at w o)) t
 heritage_is w sound o t =
     named_of w o (names_on w (ancestors w o)) t
     ∙ ap (λ ts. cond (has_name ts t) (named (slots_at (object_at w o)) t) None) (names_are w (ancestors w o))
@@ -75,7 +76,7 @@ heritage_is w sound o t =
     ∙ whole (named (slots_at (object_at w o)) t) (has_name (defined_on w way.0) t) (slots_above w house o way.0 way.1 t)
   where
     house : Household w
-    house = household w (objects_of w sound)
+    house = household w sound
 
     way : (ps : List ℤ) × Path (parents w) o ps
     way = path_from (parents w) house.family o

@@ -3,7 +3,7 @@ ghost use Rattle.std.specs.Prelude.{◌≡◌, ◌++◌, [], filter, not, IfOk, 
 ghost use Rattle.spec_world.specs.Inherit.{slot_at};
 ghost use Rattle.spec_world.specs.WellFormed.{lists};
 ghost use Rattle.spec_view.specs.Questions.{defines_at};
-ghost use Rattle.inherit.specs.Lines.{AreWellFormed};
+ghost use Rattle.inherit.specs.Lines.{AreAgreeing};
 ghost use Rattle.world.specs.Law.{Lasts, Tells};
 ghost use Rattle.reparenting.specs.Along.{given, names_on, slots_of, with_found};
 ghost use Rattle.reparenting.specs.Heirs.{heritage, names_beside as names_beside_of, slots_beside as slots_beside_of};
@@ -23,7 +23,7 @@ pub fn inherited_slots<V: View>(
     object: i32,
 ) -> Result<Vec<(Text, Slot)>, AllocError>
     requires home { V.holds view.old (V.home view.old) }
-    requires well_formed { AreWellFormed V.holds V.now view.old }
+    requires well_formed { AreAgreeing V.holds V.now view.old }
     ensures lasts { Lasts V.holds V.home V.anchor view.old view.new result }
     ensures left { IfOk result (λ es. Tells V.holds V.now view.old view.new (λ w. es.items ≡ heritage w object)) }
 {
@@ -41,7 +41,7 @@ pub fn slots_beside<V: View>(
     other: i32,
 ) -> Result<Vec<(Text, Slot)>, AllocError>
     requires home { V.holds view.old (V.home view.old) }
-    requires well_formed { AreWellFormed V.holds V.now view.old }
+    requires well_formed { AreAgreeing V.holds V.now view.old }
     ensures lasts { Lasts V.holds V.home V.anchor view.old view.new result }
     ensures left { IfOk result (λ es. Tells V.holds V.now view.old view.new (λ w. es.items ≡ slots_beside_of w object other)) }
 {
@@ -58,7 +58,7 @@ pub fn names_beside<V: View>(
     other: i32,
 ) -> Result<Vec<Text>, AllocError>
     requires home { V.holds view.old (V.home view.old) }
-    requires well_formed { AreWellFormed V.holds V.now view.old }
+    requires well_formed { AreAgreeing V.holds V.now view.old }
     ensures lasts { Lasts V.holds V.home V.anchor view.old view.new result }
     ensures left { IfOk result (λ ts. Tells V.holds V.now view.old view.new (λ w. ts.items ≡ names_beside_of w object other)) }
 {

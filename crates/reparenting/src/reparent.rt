@@ -2,7 +2,7 @@
 ghost use Rattle.std.specs.Prelude.{◌≡◌, OnOk};
 ghost use Rattle.spec_world.specs.World.{object_at};
 ghost use Rattle.spec_world.specs.Families.{parent_of, with_heirs, reparented};
-ghost use Rattle.inherit.specs.Lines.{AreWellFormed};
+ghost use Rattle.inherit.specs.Lines.{AreAgreeing};
 ghost use Rattle.family.specs.Below.{IsFamily};
 ghost use Rattle.world.specs.Law.{Goes, Lasts};
 
@@ -22,7 +22,7 @@ pub fn reparent<V: View>(
     parent: i32,
 ) -> Result<(), AllocError>
     requires home { V.holds view.old (V.home view.old) }
-    requires well_formed { AreWellFormed V.holds V.now view.old }
+    requires well_formed { AreAgreeing V.holds V.now view.old }
     ensures lasts { Lasts V.holds V.home V.anchor view.old view.new result }
     ensures left { OnOk result (Goes V.holds V.now view.old view.new (λ was is.
         IsFamily was object family.now → parent_of (object_at was object) ≡ before → is ≡ reparented was object parent)) }
@@ -41,7 +41,7 @@ fn change_heirs<V: View>(
     parent: i32,
 ) -> Result<(), AllocError>
     requires home { V.holds view.old (V.home view.old) }
-    requires well_formed { AreWellFormed V.holds V.now view.old }
+    requires well_formed { AreAgreeing V.holds V.now view.old }
     ensures lasts { Lasts V.holds V.home V.anchor view.old view.new result }
     ensures left { OnOk result (Goes V.holds V.now view.old view.new (λ was is.
         IsFamily was object family.now → parent_of (object_at was object) ≡ before → is ≡ with_heirs was object parent)) }

@@ -3,7 +3,7 @@ ghost use Rattle.std.specs.Prelude.{◌≡◌, IfOk, IsTrue};
 ghost use Rattle.spec_value.specs.Datum.{Data, list, is_text};
 ghost use Rattle.spec_world.specs.VerbsSought.{find_verb as find_verb_of};
 ghost use Rattle.spec_moo.specs.Steps.Running.{system, system_call, system_task as system_task_of, unnamed as unnamed_of};
-ghost use Rattle.inherit.specs.Lines.{AreWellFormed};
+ghost use Rattle.inherit.specs.Lines.{AreAgreeing};
 ghost use Rattle.moo_task.specs.Outcomes.{ticks_of};
 ghost use Rattle.world.specs.Law.{Lasts, Tells};
 ghost use Rattle.step_tasks.specs.Tasks.{MayRun};
@@ -26,7 +26,7 @@ const NOWHERE: i32 = -1;
 /// The verb that a word names on `#0`.
 pub fn on_system<V: View>(view: &mut V, word: &str) -> Result<Option<FoundVerb>, AllocError>
     requires home { V.holds view.old (V.home view.old) }
-    requires well_formed { AreWellFormed V.holds V.now view.old }
+    requires well_formed { AreAgreeing V.holds V.now view.old }
     ensures lasts { Lasts V.holds V.home V.anchor view.old view.new result }
     ensures left { IfOk result (λ f. Tells V.holds V.now view.old view.new (λ w. find_verb_of w system word.now ≡ f)) }
 {

@@ -1,7 +1,8 @@
--- A world whose view was opened is well formed.
+-- The objects of a world whose view was opened agree with one another.
 use Rattle.spec_world.specs.World.{World}
-use Rattle.spec_world.specs.WellFormed.{IsWellFormed}
+use Rattle.spec_world.specs.Agreeing.{ObjectsAgree}
+use Rattle.spec_world.proofs.Households.{objects_of}
 use Rattle.world.specs.Sound.{IsSound}
 
-pub well_formed : (w : World) → IsSound w → IsWellFormed w
-well_formed w h = h.well_formed
+pub objects_agree : (w : World) → IsSound w → ObjectsAgree w
+objects_agree w h = objects_of w h.well_formed

@@ -10,7 +10,7 @@ use std::test::Fail;
 use world::live::Live;
 use world_fixture::fixture::fixture;
 
-#[tactic(auto, using(crate::proofs::Opened::well_formed))]
+#[tactic(auto, using(crate::proofs::Opened::objects_agree))]
 fn line(alloc: Global, object: i32) -> Result<Vec<i32>, AllocError> {
     let mut world = fixture(alloc)?;
     let mut live = Live::open(&mut world);
@@ -18,7 +18,7 @@ fn line(alloc: Global, object: i32) -> Result<Vec<i32>, AllocError> {
 }
 
 // Whether an object's property is this number.
-#[tactic(auto, using(crate::proofs::Opened::well_formed))]
+#[tactic(auto, using(crate::proofs::Opened::objects_agree))]
 fn has(alloc: Global, object: i32, name: &Text, number: i32) -> Result<bool, AllocError> {
     let mut world = fixture(alloc)?;
     let mut live = Live::open(&mut world);
@@ -29,7 +29,7 @@ fn has(alloc: Global, object: i32, name: &Text, number: i32) -> Result<bool, All
 }
 
 // On which object a called verb is found.
-#[tactic(auto, using(crate::proofs::Opened::well_formed))]
+#[tactic(auto, using(crate::proofs::Opened::objects_agree))]
 fn called(alloc: Global, object: i32, word: &str) -> Result<Option<i32>, AllocError> {
     let mut world = fixture(alloc)?;
     let mut live = Live::open(&mut world);
@@ -40,7 +40,7 @@ fn called(alloc: Global, object: i32, word: &str) -> Result<Option<i32>, AllocEr
 }
 
 // On which object a command's verb is found.
-#[tactic(auto, using(crate::proofs::Opened::well_formed))]
+#[tactic(auto, using(crate::proofs::Opened::objects_agree))]
 fn commanded(
     alloc: Global,
     object: i32,

@@ -1,6 +1,6 @@
 use Rattle.std.proofs.Common.{◌≡◌}
 use Rattle.world.specs.Law.{Tells}
-use Rattle.inherit.specs.Lines.{AreWellFormed}
+use Rattle.inherit.specs.Lines.{AreAgreeing}
 use Rattle.family.specs.Below.{Walked}
 use Rattle.family.proofs.below.walk.Given as goal
 
@@ -11,6 +11,6 @@ invariant-loop-done g l =
       anchor : view.anchor l.view ≡ view.anchor l.fn.view;
       home : view.home l.view ≡ view.home l.fn.view;
       there : view.holds l.view (view.home l.view);
-      well_formed : AreWellFormed view.holds view.now l.view;
+      well_formed : AreAgreeing view.holds view.now l.view;
       left : Tells view.holds view.now l.fn.view l.view (λ w. Walked w l.object l.done l.family.items);
     }

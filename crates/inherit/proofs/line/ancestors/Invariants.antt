@@ -1,7 +1,7 @@
 use Rattle.std.proofs.Common.{◌≡◌, ◌++◌}
 use Rattle.spec_world.specs.Inherit.{ancestors}
 use Rattle.world.specs.Law.{Tells}
-use Rattle.inherit.specs.Lines.{AreWellFormed, from, size}
+use Rattle.inherit.specs.Lines.{AreAgreeing, from, size}
 use Rattle.inherit.proofs.line.ancestors.Given as goal
 
 abbrev pub invariant-loop-next : goal.invariant-loop-next
@@ -11,7 +11,7 @@ invariant-loop-next g l =
       anchor : view.anchor l.view ≡ view.anchor l.fn.view;
       home : view.home l.view ≡ view.home l.fn.view;
       there : view.holds l.view (view.home l.view);
-      well_formed : AreWellFormed view.holds view.now l.view;
+      well_formed : AreAgreeing view.holds view.now l.view;
       left : Tells view.holds view.now l.fn.view l.view (λ w. ancestors w l.object ≡ l.line.items ++ from w l.next);
     }
 

@@ -2,7 +2,7 @@ use Rattle.std.proofs.Common.{◌≡◌}
 use Rattle.spec_world.specs.Inherit.{ancestors}
 use Rattle.spec_world.specs.VerbsSought.{first_on}
 use Rattle.world.specs.Law.{Tells}
-use Rattle.inherit.specs.Lines.{AreWellFormed, from, size}
+use Rattle.inherit.specs.Lines.{AreAgreeing, from, size}
 use Rattle.inherit.specs.Sought.{passes}
 use Rattle.inherit.proofs.verb.find.Given as goal
 
@@ -13,7 +13,7 @@ invariant-loop-next g l =
       anchor : view.anchor l.view ≡ view.anchor l.fn.view;
       home : view.home l.view ≡ view.home l.fn.view;
       there : view.holds l.view (view.home l.view);
-      well_formed : AreWellFormed view.holds view.now l.view;
+      well_formed : AreAgreeing view.holds view.now l.view;
       left : Tells view.holds view.now l.fn.view l.view (λ w. first_on w (passes l.purpose l.word) (ancestors w l.object) ≡ first_on w (passes l.purpose l.word) (from w l.next));
     }
 

@@ -1,6 +1,6 @@
 use Rattle.std.proofs.Common.{◌≡◌}
 use Rattle.spec_world.specs.World.{World}
-use Rattle.inherit.specs.Lines.{AreWellFormed}
+use Rattle.inherit.specs.Lines.{AreAgreeing}
 use Rattle.moo_code.specs.Runs.{ran, IsOver}
 use Rattle.moo_code.specs.Lasting.{lasting}
 use Rattle.moo_run.specs.Stopping.{bound_of, begun_at, Comes}
@@ -11,7 +11,7 @@ invariant-instructions g l = let view = g.V.View in record {
   anchor : view.anchor l.view ≡ view.anchor l.fn.view;
   home : view.home l.view ≡ view.home l.fn.view;
   held : view.holds l.view (view.home l.view);
-  well_formed : AreWellFormed view.holds view.now l.view;
+  well_formed : AreAgreeing view.holds view.now l.view;
   player : l.task.player ≡ l.fn.task.player;
   over : IsOver (ran l.fn.task.player (bound_of l.fn.deeds (view.now l.fn.view (view.home l.fn.view)) l.fn.task) (begun_at l.deeds (view.now l.view (view.home l.view)) l.task));
   comes : (w : World) → view.holds l.view w

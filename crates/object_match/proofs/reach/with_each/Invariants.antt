@@ -1,6 +1,6 @@
 use Rattle.std.proofs.Common.{◌≡◌, drop}
 use Rattle.world.specs.Law.{Tells}
-use Rattle.inherit.specs.Lines.{AreWellFormed}
+use Rattle.inherit.specs.Lines.{AreAgreeing}
 use Rattle.object_match.specs.Fits.{with_objects}
 use Rattle.object_match.proofs.reach.with_each.Given as goal
 
@@ -11,6 +11,6 @@ invariant-loop-object g l =
       anchor : view.anchor l.view ≡ view.anchor l.fn.view;
       home : view.home l.view ≡ view.home l.fn.view;
       there : view.holds l.view (view.home l.view);
-      well_formed : AreWellFormed view.holds view.now l.view;
+      well_formed : AreAgreeing view.holds view.now l.view;
       left : Tells view.holds view.now l.fn.view l.view (λ w. with_objects w l.text l.found (drop l.object-index l.objects) ≡ with_objects w l.text l.fn.matches l.objects);
     }

@@ -54,8 +54,12 @@ pub fn eval<V: View>(
 fn evaluated(alloc: Global, call: &Call, text: &Text) -> Result<NativeEffect, AllocError>
     ensures { IfOk result (λ e. (s : Scene) (c : Caller) → evaluated_of s (with_call c call.now) text.now (by.parsed text.now) ≡ effect_of e s) }
 {
-    match answered(alloc, text.as_str().as_bytes())? {
-        Ok(tree) => begun(alloc, call, text, tree),
+    let answer = answered(alloc, text.as_str().as_bytes())?;
+    match answer {
+        Ok(tree) => {
+            let effect = begun(alloc, call, text, tree)?;
+            Ok(effect)
+        }
         Err(fault) => {
             let told = refused(alloc, fault)?;
             Ok(NativeEffect::Answers(Ok(told)))

@@ -77,8 +77,12 @@ fn put_lines<V: View>(
         Programs object place (by.parsed_lines (texts_of (of_list lines.now))) before after (answer_of a))) }
 {
     let text = joined(alloc, lines)?;
-    match answered(alloc, text.as_bytes())? {
-        Ok(tree) => put_tree(alloc, view, object, verbs, place, verb, tree),
+    let parsed = answered(alloc, text.as_bytes())?;
+    match parsed {
+        Ok(tree) => {
+            let answer = put_tree(alloc, view, object, verbs, place, verb, tree)?;
+            Ok(answer)
+        }
         Err(fault) => {
             let told = fault_value(alloc, fault)?;
             Ok(Ok(told))

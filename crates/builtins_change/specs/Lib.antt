@@ -1,3 +1,4 @@
 pub mod Later
 pub mod Listed
+pub mod Programs
 pub mod Specifiers

@@ -8,6 +8,6 @@ mod asked;
 mod bits;
 pub mod made;
 pub mod properties;
-mod put;
+pub mod put;
 pub mod specifier;
 pub mod verbs;

@@ -2,6 +2,7 @@
 ghost use Rattle.std.specs.Prelude.{◌≡◌, not, IfOk};
 ghost use Rattle.spec_world.specs.VerbNames.{names_in};
 ghost use Rattle.spec_moo.specs.Natives.Verbs.{with_info as with_info_of, with_specifier as with_specifier_of, new_verb as new_verb_of, is_none_named};
+ghost use Rattle.builtins_change.specs.Programs.{with_program as with_program_of};
 ghost use Rattle.builtins_change.specs.Specifiers.{specifier_of};
 
 use crate::bits::has_bit;
@@ -54,6 +55,24 @@ pub fn with_specifier(verb: &Verb, specifier: Specifier) -> Result<Verb, AllocEr
         preposition: specifier.preposition,
         indirect: specifier.indirect,
         program: verb.program.clone()?,
+    })
+}
+
+/// A verb with another program.
+pub fn with_program(verb: &Verb, program: Program) -> Result<Verb, AllocError>
+    ensures { IfOk result (λ v. v ≡ with_program_of program verb.now) }
+{
+    Ok(Verb {
+        names: verb.names.clone()?,
+        owner: verb.owner,
+        readable: verb.readable,
+        writable: verb.writable,
+        callable: verb.callable,
+        debug: verb.debug,
+        direct: verb.direct,
+        preposition: verb.preposition,
+        indirect: verb.indirect,
+        program,
     })
 }
 

@@ -6,10 +6,12 @@ ghost use Rattle.spec_world.specs.Permissions.{in_place};
 ghost use Rattle.spec_view.specs.Questions.{verbs_at};
 ghost use Rattle.spec_moo.specs.Natives.Verbs.{with_info as with_info_of, with_specifier as with_specifier_of};
 ghost use Rattle.world.specs.Law.{Goes, Lasts};
+ghost use Rattle.builtins_change.specs.Programs.{with_program as with_program_of};
 ghost use Rattle.builtins_change.specs.Specifiers.{specifier_of};
 
-use crate::made::{Info, with_info, with_specifier};
+use crate::made::{Info, with_info, with_program, with_specifier};
 use crate::specifier::Specifier;
+use moo_compiler::program::Program;
 use std::alloc::{AllocError, Global};
 use world::law::View;
 use world::part::Part;
@@ -52,6 +54,26 @@ pub fn put_specifier<V: View>(
         verbs_at before object ≡ Some verbs.now → after ≡ verb_changed before object place (with_specifier_of (specifier_of specifier)))) }
 {
     let changed = with_specifier(verb, specifier)?;
+    let verbs = replaced(alloc, verbs, place, changed)?;
+    put_verbs(view, object, verbs)
+}
+
+/// A verb of an object, with these verbs, has another program.
+pub fn put_program<V: View>(
+    alloc: Global,
+    view: &mut V,
+    object: i32,
+    verbs: &[Verb],
+    place: usize,
+    verb: &Verb,
+    program: Program,
+) -> Result<(), AllocError>
+    requires there { in_place verbs.now place ≡ Some verb.now }
+    ensures lasts { Lasts V.holds V.home V.anchor view.old view.new result }
+    ensures left { OnOk result (Goes V.holds V.now view.old view.new (λ before after.
+        verbs_at before object ≡ Some verbs.now → after ≡ verb_changed before object place (with_program_of program))) }
+{
+    let changed = with_program(verb, program)?;
     let verbs = replaced(alloc, verbs, place, changed)?;
     put_verbs(view, object, verbs)
 }

@@ -38,9 +38,9 @@ fn last_line(tokens: &Tokens) -> u64
     }
 }
 
-// What comes of a text, unless memory runs out.
+/// What comes of a program's text: its tree, or its first fault. An `Err` says that memory ran out.
 #[tactic(auto, using(crate::proofs::Answered::answer_is))]
-fn answered(alloc: Global, text: &[u8]) -> Result<Result<Tree, SyntaxFault>, AllocError>
+pub fn answered(alloc: Global, text: &[u8]) -> Result<Result<Tree, SyntaxFault>, AllocError>
     ensures { IfOk result (λ r. IsAnswer r (by.parsed text.now)) }
 {
     let tokens = tokens_of(alloc, text)?;

@@ -1,22 +1,23 @@
 //! Expressions as text, behind what is there.
-ghost use Rattle.std.specs.Prelude.{◌≡◌, ◌++◌, OnOk, string_bytes};
+ghost use Rattle.std.specs.Prelude.{◌≡◌, ◌++◌, OnOk, IsTrue};
+ghost use Rattle.spec_value.specs.Datum.{is_text};
 ghost use Rattle.spec_program.specs.Spelling as spec;
 ghost use Rattle.moo_tree.specs.ExpressionView.{arguments_of, codes_of, items_of};
 ghost use Rattle.moo_value.specs.Operators.{unary_of, binary_of};
 ghost use Rattle.moo_printer.specs.Written.{one_argument, one_item};
 
 use crate::level::{left_level, level, right_level};
+use crate::line::Line;
 use crate::name::{is_system, plain_name};
 use moo_tree::expression::{
     Argument, Codes, Expression, ExpressionNode, Fallback, Item, Target, TargetNode,
 };
 use moo_value::operator::{BinaryOperator, UnaryOperator};
-use moo_value::value::{Shown, Value};
-use moo_value::write::Literal;
 use std::alloc::AllocError;
 
 fn unary_sign(operator: UnaryOperator) -> &'static str
-    ensures { result.now ≡ spec.unary_sign (unary_of operator) }
+    ensures sign { result.now ≡ spec.unary_sign (unary_of operator) }
+    ensures allowed { IsTrue (is_text result.now) }
 {
     match operator {
         UnaryOperator::Negation => "-",
@@ -25,7 +26,8 @@ fn unary_sign(operator: UnaryOperator) -> &'static str
 }
 
 fn binary_sign(operator: BinaryOperator) -> &'static str
-    ensures { result.now ≡ spec.binary_sign (binary_of operator) }
+    ensures sign { result.now ≡ spec.binary_sign (binary_of operator) }
+    ensures allowed { IsTrue (is_text result.now) }
 {
     match operator {
         BinaryOperator::Plus => " + ",
@@ -44,30 +46,14 @@ fn binary_sign(operator: BinaryOperator) -> &'static str
     }
 }
 
-// The least integer is written as the number after the greatest.
-fn write_literal(out: &mut String, value: &Value) -> Result<(), AllocError>
-    ensures { OnOk result (string_bytes out.new ≡ string_bytes out.old ++ spec.literal_text value.now) }
-{
-    match value.shown() {
-        Shown::Integer(number) => {
-            let magnitude = number.unsigned_abs();
-            write!(out, "{magnitude}")
-        }
-        _ => {
-            let literal = Literal(value);
-            write!(out, "{literal}")
-        }
-    }
-}
-
 /// Writes an expression.
 #[cycle(write)]
-pub fn write_expression(out: &mut String, expression: &Expression) -> Result<(), AllocError>
-    ensures { OnOk result (string_bytes out.new ≡ string_bytes out.old ++ spec.expression_text expression.now) }
+pub fn write_expression(out: &mut Line, expression: &Expression) -> Result<(), AllocError>
+    ensures { OnOk result (out.new ≡ out.old ++ spec.expression_text expression.now) }
 {
     match &expression.node {
-        ExpressionNode::Literal(value) => write_literal(out, value),
-        ExpressionNode::Variable(name) => out.push_str(name.as_str()),
+        ExpressionNode::Literal(value) => out.push_literal(value),
+        ExpressionNode::Variable(name) => out.push_text(name),
         ExpressionNode::OwnLength => out.push_str("$"),
         ExpressionNode::Unary(operator, operand) => {
             out.push_str(unary_sign(*operator))?;
@@ -99,7 +85,7 @@ pub fn write_expression(out: &mut String, expression: &Expression) -> Result<(),
             out.push_str("}")
         }
         ExpressionNode::Call(function, arguments) => {
-            out.push_str(function.as_str())?;
+            out.push_text(function)?;
             out.push_str("(")?;
             write_arguments(out, arguments)?;
             out.push_str(")")
@@ -153,8 +139,8 @@ pub fn write_expression(out: &mut String, expression: &Expression) -> Result<(),
 
 // In parentheses where it binds less tightly than its place wants.
 #[cycle(write)]
-fn write_at(out: &mut String, wanted: u8, expression: &Expression) -> Result<(), AllocError>
-    ensures { OnOk result (string_bytes out.new ≡ string_bytes out.old ++ spec.at_level wanted (spec.level expression.now) (spec.expression_text expression.now)) }
+fn write_at(out: &mut Line, wanted: u8, expression: &Expression) -> Result<(), AllocError>
+    ensures { OnOk result (out.new ≡ out.old ++ spec.at_level wanted (spec.level expression.now) (spec.expression_text expression.now)) }
 {
     if wanted <= level(expression) {
         return write_expression(out, expression);
@@ -166,14 +152,16 @@ fn write_at(out: &mut String, wanted: u8, expression: &Expression) -> Result<(),
 
 #[cycle(write)]
 fn write_infix(
-    out: &mut String,
+    out: &mut Line,
     left: &Expression,
     left_wanted: u8,
     sign: &str,
     right: &Expression,
     right_wanted: u8,
 ) -> Result<(), AllocError>
-    ensures { OnOk result (string_bytes out.new ≡ string_bytes out.old ++ spec.within (spec.at_level left_wanted (spec.level left.now) (spec.expression_text left.now)) sign.now (spec.at_level right_wanted (spec.level right.now) (spec.expression_text right.now))) }
+    requires { IsTrue (is_text sign.now) }
+    ensures { OnOk result (out.new ≡ out.old ++ spec.within (spec.at_level left_wanted (spec.level left.now) (spec.expression_text left.now)) sign.now
+        (spec.at_level right_wanted (spec.level right.now) (spec.expression_text right.now))) }
 {
     write_at(out, left_wanted, left)?;
     out.push_str(sign)?;
@@ -183,12 +171,14 @@ fn write_infix(
 // A property or a verb of an object: `$` stands for `#0` before a plain name.
 #[cycle(write)]
 fn write_dotted(
-    out: &mut String,
+    out: &mut Line,
     sign: &str,
     object: &Expression,
     name: &Expression,
 ) -> Result<(), AllocError>
-    ensures { OnOk result (string_bytes out.new ≡ string_bytes out.old ++ spec.dotted sign.now (spec.at_level 8 (spec.level object.now) (spec.expression_text object.now)) (spec.is_system object.now) (spec.plain_name name.now) (spec.expression_text name.now)) }
+    requires { IsTrue (is_text sign.now) }
+    ensures { OnOk result (out.new ≡ out.old ++ spec.dotted sign.now (spec.at_level 8 (spec.level object.now) (spec.expression_text object.now))
+        (spec.is_system object.now) (spec.plain_name name.now) (spec.expression_text name.now)) }
 {
     let plain = plain_name(name);
     if is_system(object) {
@@ -210,8 +200,8 @@ fn write_dotted(
 }
 
 #[cycle(write)]
-fn write_arguments(out: &mut String, arguments: &[Argument]) -> Result<(), AllocError>
-    ensures { OnOk result (string_bytes out.new ≡ string_bytes out.old ++ spec.arguments_text (arguments_of arguments.now)) }
+fn write_arguments(out: &mut Line, arguments: &[Argument]) -> Result<(), AllocError>
+    ensures { OnOk result (out.new ≡ out.old ++ spec.arguments_text (arguments_of arguments.now)) }
 {
     if let Some((first, rest)) = arguments.split_first() {
         write_argument(out, first)?;
@@ -224,8 +214,8 @@ fn write_arguments(out: &mut String, arguments: &[Argument]) -> Result<(), Alloc
 }
 
 #[cycle(write)]
-fn write_argument(out: &mut String, argument: &Argument) -> Result<(), AllocError>
-    ensures { OnOk result (string_bytes out.new ≡ string_bytes out.old ++ one_argument argument.now) }
+fn write_argument(out: &mut Line, argument: &Argument) -> Result<(), AllocError>
+    ensures { OnOk result (out.new ≡ out.old ++ one_argument argument.now) }
 {
     match argument {
         Argument::Value(value) => write_expression(out, value),
@@ -238,8 +228,8 @@ fn write_argument(out: &mut String, argument: &Argument) -> Result<(), AllocErro
 
 /// Writes the codes that a handler takes.
 #[cycle(write)]
-pub fn write_codes(out: &mut String, codes: &Codes) -> Result<(), AllocError>
-    ensures { OnOk result (string_bytes out.new ≡ string_bytes out.old ++ spec.codes_text (codes_of codes.now)) }
+pub fn write_codes(out: &mut Line, codes: &Codes) -> Result<(), AllocError>
+    ensures { OnOk result (out.new ≡ out.old ++ spec.codes_text (codes_of codes.now)) }
 {
     match codes {
         Codes::Any => out.push_str("ANY"),
@@ -248,11 +238,11 @@ pub fn write_codes(out: &mut String, codes: &Codes) -> Result<(), AllocError>
 }
 
 #[cycle(write)]
-fn write_target(out: &mut String, target: &Target) -> Result<(), AllocError>
-    ensures { OnOk result (string_bytes out.new ≡ string_bytes out.old ++ spec.target_text target.now) }
+fn write_target(out: &mut Line, target: &Target) -> Result<(), AllocError>
+    ensures { OnOk result (out.new ≡ out.old ++ spec.target_text target.now) }
 {
     match &target.node {
-        TargetNode::Variable(name) => out.push_str(name.as_str()),
+        TargetNode::Variable(name) => out.push_text(name),
         TargetNode::Property(object, name) => write_dotted(out, ".", object, name),
         TargetNode::Index(base, index) => {
             write_target(out, base)?;
@@ -272,8 +262,8 @@ fn write_target(out: &mut String, target: &Target) -> Result<(), AllocError>
 }
 
 #[cycle(write)]
-fn write_items(out: &mut String, items: &[Item]) -> Result<(), AllocError>
-    ensures { OnOk result (string_bytes out.new ≡ string_bytes out.old ++ spec.items_text (items_of items.now)) }
+fn write_items(out: &mut Line, items: &[Item]) -> Result<(), AllocError>
+    ensures { OnOk result (out.new ≡ out.old ++ spec.items_text (items_of items.now)) }
 {
     if let Some((first, rest)) = items.split_first() {
         write_item(out, first)?;
@@ -286,22 +276,22 @@ fn write_items(out: &mut String, items: &[Item]) -> Result<(), AllocError>
 }
 
 #[cycle(write)]
-fn write_item(out: &mut String, item: &Item) -> Result<(), AllocError>
-    ensures { OnOk result (string_bytes out.new ≡ string_bytes out.old ++ one_item item.now) }
+fn write_item(out: &mut Line, item: &Item) -> Result<(), AllocError>
+    ensures { OnOk result (out.new ≡ out.old ++ one_item item.now) }
 {
     match item {
-        Item::Required(name) => out.push_str(name.as_str()),
+        Item::Required(name) => out.push_text(name),
         Item::Optional(name) => {
             out.push_str("?")?;
-            out.push_str(name.as_str())
+            out.push_text(name)
         }
         Item::Rest(name) => {
             out.push_str("@")?;
-            out.push_str(name.as_str())
+            out.push_text(name)
         }
         Item::Default(name, value) => {
             out.push_str("?")?;
-            out.push_str(name.as_str())?;
+            out.push_text(name)?;
             out.push_str(" = ")?;
             write_expression(out, value)
         }

@@ -3,6 +3,7 @@
 
 mod expression;
 mod level;
+mod line;
 mod name;
 pub mod print;
 mod statement;

@@ -1,8 +1,8 @@
 //! Names that may be written plainly.
-ghost use Rattle.std.specs.Prelude.{◌≡◌, List, ℕ, Option, Some, None, map, not};
+ghost use Rattle.std.specs.Prelude.{◌≡◌, List, ℕ, Option, Some, None, map, not, IfSome, IsTrue};
 ghost use Rattle.std.specs.List.{list_all, list_any};
 ghost use Rattle.std.specs.Borrow.{Bor};
-ghost use Rattle.spec_value.specs.Datum.{same_text, fold_case};
+ghost use Rattle.spec_value.specs.Datum.{same_text, fold_case, is_text};
 ghost use Rattle.spec_program.specs.Names as spec;
 ghost use Rattle.spec_program.specs.Spelling as spelling;
 ghost use Rattle.moo_printer.specs.Written.{text_of};
@@ -116,11 +116,13 @@ fn is_identifier(text: &str) -> bool
 
 /// The name that an expression behind a `.` or a `:` may be written as, if there is one.
 pub fn plain_name(name: &Expression) -> Option<&str>
-    ensures { text_of result ≡ spelling.plain_name name.now }
+    ensures name { text_of result ≡ spelling.plain_name name.now }
+    ensures allowed { IfSome result (λ t. IsTrue (is_text t.now)) }
 {
     let ExpressionNode::Literal(value) = &name.node else {
         return None;
     };
+    value.know();
     match value.shown() {
         Shown::Text(text) => if is_identifier(text) {
             Some(text)

@@ -1,67 +1,75 @@
 //! Statements as lines, behind what is there.
-ghost use Rattle.std.specs.Prelude.{◌≡◌, ◌++◌, [], ◌∷◌, OnOk, IfOk, map, string_bytes};
+ghost use Rattle.std.specs.Prelude.{◌≡◌, ◌++◌, [], ◌∷◌, OnOk, IfOk, IsTrue};
+ghost use Rattle.spec_value.specs.Datum.{is_text};
 ghost use Rattle.spec_program.specs.Spelling as spec;
 ghost use Rattle.moo_tree.specs.StatementView.{program_of, branches_of, arms_of};
 ghost use Rattle.moo_printer.specs.Written.{branch_lines, except_line};
 
 use crate::expression::{write_codes, write_expression};
+use crate::line::Line;
 use moo_tree::expression::Expression;
 use moo_tree::statement::{Arm, Branch, Statement, StatementNode};
 use moo_value::text::Text;
 use std::alloc::{AllocError, Global};
 
 // The beginning of a line.
-fn indented(alloc: Global, indent: &str, text: &str) -> Result<String, AllocError>
-    ensures { IfOk result (λ line. string_bytes line ≡ indent.now ++ text.now) }
+fn indented(alloc: Global, indent: &Text, text: &str) -> Result<Line, AllocError>
+    requires { IsTrue (is_text text.now) }
+    ensures { IfOk result (λ line. line ≡ indent.now ++ text.now) }
 {
-    let mut line = String::new(alloc);
-    line.push_str(indent)?;
+    let mut line = Line::new(alloc);
+    line.push_text(indent)?;
     line.push_str(text)?;
     Ok(line)
 }
 
 // The indent of what stands within.
-fn deeper(alloc: Global, indent: &str) -> Result<String, AllocError>
-    ensures { IfOk result (λ inner. string_bytes inner ≡ spec.deeper indent.now) }
+fn deeper(alloc: Global, indent: &Text) -> Result<Text, AllocError>
+    ensures { IfOk result (λ inner. inner ≡ spec.deeper indent.now) }
 {
-    indented(alloc, "  ", indent)
+    let mut line = Line::new(alloc);
+    line.push_str("  ")?;
+    line.push_text(indent)?;
+    line.into_text()
 }
 
 // A line of its own, behind the others.
-fn put(lines: &mut Vec<String>, line: String) -> Result<(), AllocError>
-    ensures { OnOk result (map string_bytes lines.new.items ≡ map string_bytes lines.old.items ++ string_bytes line ∷ []) }
+fn put(lines: &mut Vec<Text>, line: Line) -> Result<(), AllocError>
+    ensures { OnOk result (lines.new.items ≡ lines.old.items ++ line ∷ []) }
 {
-    lines.push(line)?;
+    let text = line.into_text()?;
+    lines.push(text)?;
     Ok(())
 }
 
 fn put_text(
     alloc: Global,
-    lines: &mut Vec<String>,
-    indent: &str,
+    lines: &mut Vec<Text>,
+    indent: &Text,
     text: &str,
 ) -> Result<(), AllocError>
-    ensures { OnOk result (map string_bytes lines.new.items ≡ map string_bytes lines.old.items ++ (indent.now ++ text.now) ∷ []) }
+    requires { IsTrue (is_text text.now) }
+    ensures { OnOk result (lines.new.items ≡ lines.old.items ++ (indent.now ++ text.now) ∷ []) }
 {
     put(lines, indented(alloc, indent, text)?)
 }
 
 // A name behind a space, if there is one.
-fn write_name(line: &mut String, name: &Option<Text>) -> Result<(), AllocError>
-    ensures { OnOk result (string_bytes line.new ≡ string_bytes line.old ++ spec.before_name name.now) }
+fn write_name(line: &mut Line, name: &Option<Text>) -> Result<(), AllocError>
+    ensures { OnOk result (line.new ≡ line.old ++ spec.before_name name.now) }
 {
     match name {
         Some(name) => {
             line.push_str(" ")?;
-            line.push_str(name.as_str())
+            line.push_text(name)
         }
         None => Ok(()),
     }
 }
 
 // An expression in parentheses, behind a space.
-fn write_condition(line: &mut String, condition: &Expression) -> Result<(), AllocError>
-    ensures { OnOk result (string_bytes line.new ≡ string_bytes line.old ++ (32 ∷ spec.in_parentheses (spec.expression_text condition.now))) }
+fn write_condition(line: &mut Line, condition: &Expression) -> Result<(), AllocError>
+    ensures { OnOk result (line.new ≡ line.old ++ (32 ∷ spec.in_parentheses (spec.expression_text condition.now))) }
 {
     line.push_str(" (")?;
     write_expression(line, condition)?;
@@ -71,13 +79,15 @@ fn write_condition(line: &mut String, condition: &Expression) -> Result<(), Allo
 // A word with a name and an expression: the head of a `while`, a `fork`, an `if`.
 fn put_head(
     alloc: Global,
-    lines: &mut Vec<String>,
-    indent: &str,
+    lines: &mut Vec<Text>,
+    indent: &Text,
     word: &str,
     name: &Option<Text>,
     condition: &Expression,
 ) -> Result<(), AllocError>
-    ensures { OnOk result (map string_bytes lines.new.items ≡ map string_bytes lines.old.items ++ (indent.now ++ spec.head (word.now ++ spec.before_name name.now) (spec.expression_text condition.now)) ∷ []) }
+    requires { IsTrue (is_text word.now) }
+    ensures { OnOk result (lines.new.items ≡ lines.old.items
+        ++ (indent.now ++ spec.head (word.now ++ spec.before_name name.now) (spec.expression_text condition.now)) ∷ []) }
 {
     let mut line = indented(alloc, indent, word)?;
     write_name(&mut line, name)?;
@@ -87,12 +97,13 @@ fn put_head(
 
 fn put_evaluation(
     alloc: Global,
-    lines: &mut Vec<String>,
-    indent: &str,
+    lines: &mut Vec<Text>,
+    indent: &Text,
     word: &str,
     value: &Expression,
 ) -> Result<(), AllocError>
-    ensures { OnOk result (map string_bytes lines.new.items ≡ map string_bytes lines.old.items ++ (indent.now ++ (word.now ++ (spec.expression_text value.now ++ 59 ∷ []))) ∷ []) }
+    requires { IsTrue (is_text word.now) }
+    ensures { OnOk result (lines.new.items ≡ lines.old.items ++ (indent.now ++ (word.now ++ (spec.expression_text value.now ++ 59 ∷ []))) ∷ []) }
 {
     let mut line = indented(alloc, indent, word)?;
     write_expression(&mut line, value)?;
@@ -102,12 +113,13 @@ fn put_evaluation(
 
 fn put_leaving(
     alloc: Global,
-    lines: &mut Vec<String>,
-    indent: &str,
+    lines: &mut Vec<Text>,
+    indent: &Text,
     word: &str,
     name: &Option<Text>,
 ) -> Result<(), AllocError>
-    ensures { OnOk result (map string_bytes lines.new.items ≡ map string_bytes lines.old.items ++ (indent.now ++ (word.now ++ (spec.before_name name.now ++ 59 ∷ []))) ∷ []) }
+    requires { IsTrue (is_text word.now) }
+    ensures { OnOk result (lines.new.items ≡ lines.old.items ++ (indent.now ++ (word.now ++ (spec.before_name name.now ++ 59 ∷ []))) ∷ []) }
 {
     let mut line = indented(alloc, indent, word)?;
     write_name(&mut line, name)?;
@@ -117,15 +129,16 @@ fn put_leaving(
 
 fn put_for_each(
     alloc: Global,
-    lines: &mut Vec<String>,
-    indent: &str,
+    lines: &mut Vec<Text>,
+    indent: &Text,
     variable: &Text,
     list: &Expression,
 ) -> Result<(), AllocError>
-    ensures { OnOk result (map string_bytes lines.new.items ≡ map string_bytes lines.old.items ++ (indent.now ++ ((102 ∷ 111 ∷ 114 ∷ 32 ∷ []) ++ spec.head (variable.now ++ (32 ∷ 105 ∷ 110 ∷ [])) (spec.expression_text list.now))) ∷ []) }
+    ensures { OnOk result (lines.new.items ≡ lines.old.items ++ (indent.now ++ ((102 ∷ 111 ∷ 114 ∷ 32 ∷ [])
+        ++ spec.head (variable.now ++ (32 ∷ 105 ∷ 110 ∷ [])) (spec.expression_text list.now))) ∷ []) }
 {
     let mut line = indented(alloc, indent, "for ")?;
-    line.push_str(variable.as_str())?;
+    line.push_text(variable)?;
     line.push_str(" in")?;
     write_condition(&mut line, list)?;
     put(lines, line)
@@ -133,16 +146,18 @@ fn put_for_each(
 
 fn put_for_range(
     alloc: Global,
-    lines: &mut Vec<String>,
-    indent: &str,
+    lines: &mut Vec<Text>,
+    indent: &Text,
     variable: &Text,
     first: &Expression,
     last: &Expression,
 ) -> Result<(), AllocError>
-    ensures { OnOk result (map string_bytes lines.new.items ≡ map string_bytes lines.old.items ++ (indent.now ++ ((102 ∷ 111 ∷ 114 ∷ 32 ∷ []) ++ (variable.now ++ spec.within (32 ∷ 105 ∷ 110 ∷ 32 ∷ 91 ∷ []) (spec.within (spec.expression_text first.now) (46 ∷ 46 ∷ []) (spec.expression_text last.now)) (93 ∷ [])))) ∷ []) }
+    ensures { OnOk result (lines.new.items ≡ lines.old.items ++ (indent.now ++ ((102 ∷ 111 ∷ 114 ∷ 32 ∷ [])
+        ++ (variable.now ++ spec.within (32 ∷ 105 ∷ 110 ∷ 32 ∷ 91 ∷ [])
+        (spec.within (spec.expression_text first.now) (46 ∷ 46 ∷ []) (spec.expression_text last.now)) (93 ∷ [])))) ∷ []) }
 {
     let mut line = indented(alloc, indent, "for ")?;
-    line.push_str(variable.as_str())?;
+    line.push_text(variable)?;
     line.push_str(" in [")?;
     write_expression(&mut line, first)?;
     line.push_str("..")?;
@@ -153,11 +168,11 @@ fn put_for_range(
 
 fn put_except(
     alloc: Global,
-    lines: &mut Vec<String>,
-    indent: &str,
+    lines: &mut Vec<Text>,
+    indent: &Text,
     arm: &Arm,
 ) -> Result<(), AllocError>
-    ensures { OnOk result (map string_bytes lines.new.items ≡ map string_bytes lines.old.items ++ except_line indent.now arm.now ∷ []) }
+    ensures { OnOk result (lines.new.items ≡ lines.old.items ++ except_line indent.now arm.now ∷ []) }
 {
     let mut line = indented(alloc, indent, "except")?;
     write_name(&mut line, &arm.variable)?;
@@ -171,11 +186,11 @@ fn put_except(
 #[cycle(statement)]
 fn put_statement(
     alloc: Global,
-    lines: &mut Vec<String>,
-    indent: &str,
+    lines: &mut Vec<Text>,
+    indent: &Text,
     statement: &Statement,
 ) -> Result<(), AllocError>
-    ensures { OnOk result (map string_bytes lines.new.items ≡ map string_bytes lines.old.items ++ spec.statement_lines indent.now statement.now) }
+    ensures { OnOk result (lines.new.items ≡ lines.old.items ++ spec.statement_lines indent.now statement.now) }
 {
     match &statement.node {
         StatementNode::Evaluate(value) => put_evaluation(alloc, lines, indent, "", value),
@@ -253,25 +268,25 @@ fn put_statement(
 #[cycle(statement)]
 fn put_body(
     alloc: Global,
-    lines: &mut Vec<String>,
-    indent: &str,
+    lines: &mut Vec<Text>,
+    indent: &Text,
     body: &[Statement],
 ) -> Result<(), AllocError>
-    ensures { OnOk result (map string_bytes lines.new.items ≡ map string_bytes lines.old.items ++ spec.program_lines (spec.deeper indent.now) (program_of body.now)) }
+    ensures { OnOk result (lines.new.items ≡ lines.old.items ++ spec.program_lines (spec.deeper indent.now) (program_of body.now)) }
 {
     let inner = deeper(alloc, indent)?;
-    put_statements(alloc, lines, inner.as_str(), body)
+    put_statements(alloc, lines, &inner, body)
 }
 
 /// Adds the lines of statements.
 #[cycle(statement)]
 pub fn put_statements(
     alloc: Global,
-    lines: &mut Vec<String>,
-    indent: &str,
+    lines: &mut Vec<Text>,
+    indent: &Text,
     statements: &[Statement],
 ) -> Result<(), AllocError>
-    ensures { OnOk result (map string_bytes lines.new.items ≡ map string_bytes lines.old.items ++ spec.program_lines indent.now (program_of statements.now)) }
+    ensures { OnOk result (lines.new.items ≡ lines.old.items ++ spec.program_lines indent.now (program_of statements.now)) }
 {
     for statement in statements {
         put_statement(alloc, lines, indent, statement)?;
@@ -282,11 +297,11 @@ pub fn put_statements(
 #[cycle(statement)]
 fn put_branches(
     alloc: Global,
-    lines: &mut Vec<String>,
-    indent: &str,
+    lines: &mut Vec<Text>,
+    indent: &Text,
     branches: &[Branch],
 ) -> Result<(), AllocError>
-    ensures { OnOk result (map string_bytes lines.new.items ≡ map string_bytes lines.old.items ++ spec.branches_lines indent.now (105 ∷ 102 ∷ []) (branches_of branches.now)) }
+    ensures { OnOk result (lines.new.items ≡ lines.old.items ++ spec.branches_lines indent.now (105 ∷ 102 ∷ []) (branches_of branches.now)) }
 {
     if let Some((first, rest)) = branches.split_first() {
         put_branch(alloc, lines, indent, "if", first)?;
@@ -300,12 +315,13 @@ fn put_branches(
 #[cycle(statement)]
 fn put_branch(
     alloc: Global,
-    lines: &mut Vec<String>,
-    indent: &str,
+    lines: &mut Vec<Text>,
+    indent: &Text,
     word: &str,
     branch: &Branch,
 ) -> Result<(), AllocError>
-    ensures { OnOk result (map string_bytes lines.new.items ≡ map string_bytes lines.old.items ++ branch_lines indent.now word.now branch.now) }
+    requires { IsTrue (is_text word.now) }
+    ensures { OnOk result (lines.new.items ≡ lines.old.items ++ branch_lines indent.now word.now branch.now) }
 {
     put_head(alloc, lines, indent, word, &None, &branch.condition)?;
     put_body(alloc, lines, indent, &branch.body)
@@ -314,11 +330,11 @@ fn put_branch(
 #[cycle(statement)]
 fn put_arms(
     alloc: Global,
-    lines: &mut Vec<String>,
-    indent: &str,
+    lines: &mut Vec<Text>,
+    indent: &Text,
     arms: &[Arm],
 ) -> Result<(), AllocError>
-    ensures { OnOk result (map string_bytes lines.new.items ≡ map string_bytes lines.old.items ++ spec.arms_lines indent.now (arms_of arms.now)) }
+    ensures { OnOk result (lines.new.items ≡ lines.old.items ++ spec.arms_lines indent.now (arms_of arms.now)) }
 {
     for arm in arms {
         put_except(alloc, lines, indent, arm)?;

@@ -1,5 +1,5 @@
 use Rattle.std.proofs.Common.{◌≡◌, ◌+◌, ◌*◌, [], ◌∷◌, ◌++◌, drop}
-use Rattle.std.specs.Prelude.{max, string_bytes}
+use Rattle.std.specs.Prelude.{max}
 use Rattle.spec_program.specs.Spelling.{arguments_text, further_arguments, items_text, further_items}
 use Rattle.moo_tree.specs.Depth.{expr_depth, arguments_depth, codes_depth, target_depth, items_depth}
 use Rattle.moo_tree.specs.ExpressionView.{arguments_of, codes_of, items_of}
@@ -37,8 +37,8 @@ decreases-write_item l = 4 * items_depth (items_of (l.item.now ∷ [])) + 1
 
 abbrev pub invariant-write_arguments-loop-argument : goal.invariant-write_arguments-loop-argument
 invariant-write_arguments-loop-argument l =
-    string_bytes l.out ++ further_arguments (arguments_of (drop l.argument-index l.rest)) ≡ string_bytes l.fn.out ++ arguments_text (arguments_of l.arguments)
+    l.out ++ further_arguments (arguments_of (drop l.argument-index l.rest)) ≡ l.fn.out ++ arguments_text (arguments_of l.arguments)
 
 abbrev pub invariant-write_items-loop-item : goal.invariant-write_items-loop-item
 invariant-write_items-loop-item l =
-    string_bytes l.out ++ further_items (items_of (drop l.item-index l.rest)) ≡ string_bytes l.fn.out ++ items_text (items_of l.items)
+    l.out ++ further_items (items_of (drop l.item-index l.rest)) ≡ l.fn.out ++ items_text (items_of l.items)

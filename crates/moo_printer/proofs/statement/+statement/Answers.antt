@@ -1,4 +1,4 @@
-use Rattle.std.proofs.Common.{◌≤◌, ap, arith}
+use Rattle.std.proofs.Common.{◌≤◌, refl, ap, arith}
 use Rattle.moo_tree.specs.Depth.{statement_depth, program_depth, branches_depth, arms_depth}
 use Rattle.moo_tree.specs.StatementView.{program_of, branches_of, branch_of, arms_of, arm_of}
 use Rattle.moo_tree.proofs.Sameness.{statement_within, branch_within, arm_within}
@@ -19,4 +19,4 @@ pub put_branches-put_branch-requires-in-loop-branch : goal.put_branches-put_bran
 put_branches-put_branch-requires-in-loop-branch t c =
     let h : branches_depth (branch_of c.branch-item.result) ≤ branches_depth (branches_of c.in-Some.rest.now) = rw c.branch-item.is (branch_within _ _ _ c.loop-branch-test.true) in
     let e = ap (λ bs. branches_depth (branches_of bs)) c.in-Some.ensures.cases.0 in
-    (omega (arith, h, e), tt)
+    (omega (arith, h, e), refl)

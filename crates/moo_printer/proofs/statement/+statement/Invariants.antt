@@ -1,5 +1,5 @@
-use Rattle.std.proofs.Common.{◌≡◌, ◌+◌, ◌*◌, [], ◌∷◌, ◌++◌, drop, map}
-use Rattle.std.specs.Prelude.{string_bytes, codes}
+use Rattle.std.proofs.Common.{◌≡◌, ◌+◌, ◌*◌, [], ◌∷◌, ◌++◌, drop}
+use Rattle.std.specs.Prelude.{codes}
 use Rattle.spec_program.specs.Spelling.{program_lines, branches_lines, arms_lines}
 use Rattle.moo_tree.specs.Depth.{statement_depth, program_depth, branches_depth, arms_depth}
 use Rattle.moo_tree.specs.StatementView.{program_of, branches_of, branch_of, arms_of}
@@ -25,13 +25,13 @@ decreases-put_arms l = 5 * arms_depth (arms_of l.arms.now) + 3
 
 abbrev pub invariant-put_statements-loop-statement : goal.invariant-put_statements-loop-statement
 invariant-put_statements-loop-statement l =
-    map string_bytes l.lines.items ++ program_lines l.indent (program_of (drop l.statement-index l.statements)) ≡ map string_bytes l.fn.lines.items ++ program_lines l.indent (program_of l.statements)
+    l.lines.items ++ program_lines l.indent (program_of (drop l.statement-index l.statements)) ≡ l.fn.lines.items ++ program_lines l.indent (program_of l.statements)
 
 abbrev pub invariant-put_branches-loop-branch : goal.invariant-put_branches-loop-branch
 invariant-put_branches-loop-branch l =
-    map string_bytes l.lines.items ++ branches_lines l.indent (codes "elseif") (branches_of (drop l.branch-index l.rest))
-    ≡ map string_bytes l.fn.lines.items ++ branches_lines l.indent (105 ∷ 102 ∷ []) (branches_of l.branches)
+    l.lines.items ++ branches_lines l.indent (codes "elseif") (branches_of (drop l.branch-index l.rest))
+    ≡ l.fn.lines.items ++ branches_lines l.indent (105 ∷ 102 ∷ []) (branches_of l.branches)
 
 abbrev pub invariant-put_arms-loop-arm : goal.invariant-put_arms-loop-arm
 invariant-put_arms-loop-arm l =
-    map string_bytes l.lines.items ++ arms_lines l.indent (arms_of (drop l.arm-index l.arms)) ≡ map string_bytes l.fn.lines.items ++ arms_lines l.indent (arms_of l.arms)
+    l.lines.items ++ arms_lines l.indent (arms_of (drop l.arm-index l.arms)) ≡ l.fn.lines.items ++ arms_lines l.indent (arms_of l.arms)

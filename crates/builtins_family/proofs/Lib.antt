@@ -1,0 +1,4 @@
+pub mod OneChange
+pub mod Slots
+pub mod Chains
+pub mod RowsKeep

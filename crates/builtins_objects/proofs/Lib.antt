@@ -1,0 +1,5 @@
+pub mod Chains
+pub mod Parents
+pub mod Gone
+pub mod RowsKeep
+pub mod Flags

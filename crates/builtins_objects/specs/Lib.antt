@@ -1,0 +1,4 @@
+pub mod Verdict
+pub mod Parents
+pub mod Going
+pub mod Flags

@@ -1,0 +1,100 @@
+//! A line that is being written.
+ghost use Rattle.std.specs.Prelude.{◌≡◌, ◌++◌, [], IfOk, OnOk, IsTrue};
+ghost use Rattle.spec_value.specs.Datum.{integer, is_text};
+ghost use Rattle.spec_value.specs.Literal.{literal};
+ghost use Rattle.spec_program.specs.Spelling.{literal_text};
+
+use moo_value::text::Text;
+use moo_value::value::{Shown, Value};
+use moo_value::write::to_literal;
+use std::alloc::{AllocError, Global};
+use std::marker::Model;
+
+/// A line that is being written: at each time its characters are those of texts.
+#[derive(Drop)]
+pub struct Line {
+    characters: String,
+}
+
+impl Model for Line {
+    ghost use Rattle.std.specs.Prelude.{ℕ, List, IsTrue, string_bytes};
+    ghost use Rattle.spec_value.specs.Datum.{is_text};
+
+    ghost Value = { List ℕ };
+
+    ghost view = { λ a. string_bytes a.characters };
+
+    ghost invariant = { λ a. IsTrue (is_text (string_bytes a.characters)) };
+}
+
+impl Line {
+    /// A line with nothing in it.
+    pub fn new(alloc: Global) -> Line
+        ensures { result ≡ [] }
+    {
+        Line {
+            characters: String::new(alloc),
+        }
+    }
+
+    /// Adds characters that are known to be allowed in texts.
+    #[tactic(auto, using(crate::proofs::Digits::text_behind))]
+    pub fn push_str(&mut self, text: &str) -> Result<(), AllocError>
+        requires { IsTrue (is_text text.now) }
+        ensures { OnOk result (self.new ≡ self.old ++ text.now) }
+    {
+        self.characters.push_str(text)
+    }
+
+    /// Adds a text.
+    pub fn push_text(&mut self, text: &Text) -> Result<(), AllocError>
+        ensures { OnOk result (self.new ≡ self.old ++ text.now) }
+    {
+        text.know();
+        self.push_str(text.as_str())
+    }
+
+    /// Adds a literal value.
+    pub fn push_literal(&mut self, value: &Value) -> Result<(), AllocError>
+        ensures { OnOk result (self.new ≡ self.old ++ literal_text value.now) }
+    {
+        let alloc = *self.characters.allocator();
+        let text = literal_of(alloc, value)?;
+        self.push_text(&text)
+    }
+
+    /// The line as a text.
+    pub fn into_text(self) -> Result<Text, AllocError>
+        ensures { IfOk result (λ t. t ≡ self) }
+    {
+        Text::from_string(self.characters)
+    }
+}
+
+// A literal value. The least integer is written as the number after the greatest.
+fn literal_of(alloc: Global, value: &Value) -> Result<Text, AllocError>
+    ensures { IfOk result (λ t. t ≡ literal_text value.now) }
+{
+    match value.shown() {
+        Shown::Integer(number) => number_of(alloc, number),
+        _ => plain_literal_of(alloc, value),
+    }
+}
+
+#[tactic(auto, using(crate::proofs::Digits::text_decimal))]
+fn number_of(alloc: Global, number: i32) -> Result<Text, AllocError>
+    ensures { IfOk result (λ t. t ≡ literal_text (integer number)) }
+{
+    let magnitude = number.unsigned_abs();
+    let digits = format!(in alloc; "{magnitude}")?;
+    Text::from_string(digits)
+}
+
+#[tactic(auto, using(moo_value::proofs::Written::text_literal))]
+fn plain_literal_of(alloc: Global, value: &Value) -> Result<Text, AllocError>
+    ensures { IfOk result (λ t. t ≡ literal value.now) }
+{
+    value.know();
+    let text = to_literal(alloc, value)?;
+    Text::from_string(text)
+}

@@ -1,3 +1,4 @@
 pub mod Walks
 pub mod Tellings
 pub mod Keeping
+pub mod Standing

@@ -12,13 +12,13 @@ use Rattle.spec_world.specs.WellFormed.{lists, once, link_fits, read_by, links_r
 use Rattle.spec_world.specs.Agreeing.{ObjectsAgree, LinksAgree, Agrees}
 use Rattle.spec_world.specs.Families.{change_object}
 use Rattle.spec_world.specs.ObjectLaws.{SameRelations, Defines}
-use Rattle.spec_world.specs.Links.{reads_on, reader_among, open_link, close_link}
+use Rattle.spec_world.specs.Links.{connection_of, reads_on, reader_among, open_link, close_link}
 use Rattle.spec_value.proofs.Keys.{still_sorted}
 use Rattle.spec_value.proofs.Same.{same_integer}
 use Rattle.spec_world.proofs.Trees.{either}
 use Rattle.spec_world.proofs.ObjectsKept.{attributes_keep, content_keeps}
 use Rattle.spec_world.proofs.TablesKept.{held_by, held_once, left_once, left_numbered}
-use Rattle.spec_world.proofs.WorldsKept.{IsPlayer, Rest, PlayersStay, IsFree, change_rest, change_players, slot_rest, slot_players, elsewhere, objects_changed, link_put, link_closed_keeps, none_reads, agrees_of, put_task}
+use Rattle.spec_world.proofs.WorldsKept.{IsPlayer, Rest, PlayersStay, IsFree, IsNobodys, nobodys, closed_is_free, change_rest, change_players, slot_rest, slot_players, elsewhere, objects_changed, link_put, link_closed_keeps, none_reads, agrees_of, put_task}
 use Rattle.inherit.specs.Standing.{IsStanding}
 
 -- ---- where there are no tasks, all agrees
@@ -162,6 +162,11 @@ closed_stands w c h =
       tasks_in_order = left.tasks_in_order;
       readers = left.readers;
     }
+
+-- then it is nobody's
+pub closed_is_nobodys : (w : World) (c o : ℤ) → IsStanding w → connection_of w o ≡ Some c → IsNobodys (close_link w c) o
+unfolding close_link
+closed_is_nobodys w c o h k = nobodys (close_link w c) o (closed_is_free (quiet w) c o (quiet_agrees w h.objects h.links) k)
 
 -- ---- the next number, and the end
 

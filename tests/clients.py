@@ -10,6 +10,9 @@ import time
 
 port, pid = int(sys.argv[1]), int(sys.argv[2])
 UNKNOWN = b"I couldn't understand that.\r\n"
+# What an opened link is told, and each line of it until somebody has logged in.
+GREETING = b"Type connect #n\r\n"
+CONNECTED = b"*** Connected ***\r\n"
 failures = 0
 
 
@@ -24,9 +27,19 @@ def wants(name, got, wanted):
         fail(f"{name}: got {got!r}, not {wanted!r}")
 
 
-def connect(seconds=5.0):
+def connect(seconds=5.0, greeted=True):
     link = socket.create_connection(("127.0.0.1", port), timeout=seconds)
     link.setsockopt(socket.IPPROTO_TCP, socket.TCP_NODELAY, 1)
+    if greeted:
+        wants("the greeting", read(link, len(GREETING)), GREETING)
+    return link
+
+
+def log_in(player):
+    """A link on which this player has logged in."""
+    link = connect()
+    link.sendall(b"connect " + player + b"\r\n")
+    wants("a login", read(link, len(CONNECTED)), CONNECTED)
     return link
 
 
@@ -56,9 +69,9 @@ def is_shut(link, seconds=5.0):
 
 
 def answers(link):
-    """Whether this link is told what it asks for: the fixture's links 1 and 2 are."""
+    """Whether this link, on which nobody has logged in, is told how to."""
     link.sendall(b"looks\r\n")
-    return read(link, len(UNKNOWN)) == UNKNOWN
+    return read(link, len(GREETING)) == GREETING
 
 
 def settle():
@@ -77,8 +90,27 @@ def ticks():
     return int(fields[11]) + int(fields[12])
 
 
+def logins():
+    """Players log in, are closed where they log in again, and have tasks that go on later."""
+    link = log_in(b"#4")
+    link.sendall(b"looks\r\n;notify(player, \"one\") + suspend(1) + notify(player, \"two\")\r\n")
+    wants("a player's lines", read(link, len(UNKNOWN) + 10), UNKNOWN + b"one\r\ntwo\r\n")
+    other = log_in(b"#5")
+    other.sendall(b"tell\r\n")
+    wants("another player's notice", read(link, 4), b"hi\r\n")
+    again = log_in(b"#4")
+    if not is_shut(link):
+        fail("a player's older link is not closed")
+    again.sendall(b";boot_player(#5)\r\n")
+    if not is_shut(other):
+        fail("a player who was booted is not cut")
+    for ended in (link, other, again):
+        ended.close()
+    settle()
+
+
 def lines_and_replies():
-    link = connect()
+    link = log_in(b"#4")
     for piece in [b"loo", b"ks\r", b"\n\xff\xfd\x01cou", b"nt\n\xff\xf6LOOKS\n", b"\xff\xfa\x01\r\n\xff\xf0looks\r\0\n"]:
         link.sendall(piece)
         time.sleep(0.05)
@@ -94,7 +126,7 @@ def half_closed():
         link = connect()
         link.sendall(count * b"looks\n")
         link.shutdown(socket.SHUT_WR)
-        wants(f"half-closed after {count}", len(read(link, 1 << 30)), count * len(UNKNOWN))
+        wants(f"half-closed after {count}", len(read(link, 1 << 30)), count * len(GREETING))
         link.close()
         settle()
 
@@ -103,26 +135,22 @@ def in_order():
     """Replies and lines come whole, and as many as were asked for."""
     link = connect()
     link.sendall(300 * b"looks\r\n\xff\xf6")
-    got = read(link, 300 * (len(UNKNOWN) + 7))
-    wants("whole lines", (got.count(UNKNOWN), got.count(b"[Yes]\r\n"), len(got)), (300, 300, 300 * (len(UNKNOWN) + 7)))
+    got = read(link, 300 * (len(GREETING) + 7))
+    wants("whole lines", (got.count(GREETING), got.count(b"[Yes]\r\n"), len(got)), (300, 300, 300 * (len(GREETING) + 7)))
     link.close()
     settle()
 
 
 def numbers():
-    """A socket gets the least number that is free; the fixture's links are 1 and 2."""
+    """Each link is greeted, also one whose number another had."""
     one, two, three = connect(), connect(), connect()
-    settle()
-    if not (answers(one) and answers(two)):
-        fail("the first two links are not told anything")
-    three.settimeout(0.3)
-    if answers(three):
-        fail("a third link is told something")
+    if not (answers(one) and answers(two) and answers(three)):
+        fail("the first links are not told anything")
     two.close()
     settle()
     four = connect()
     if not answers(four):
-        fail("the number of a link that was closed is not given again")
+        fail("a link with the number of one that was closed is not told anything")
     for link in (one, three, four):
         link.close()
     settle()
@@ -206,7 +234,7 @@ def no_line_end():
         link.sendall(blob)
     resident = status_of("VmRSS")
     link.sendall(b"\r\n")
-    wants("100 MB without a line end", read(link, len(UNKNOWN)), UNKNOWN)
+    wants("100 MB without a line end", read(link, len(GREETING)), GREETING)
     if resident > 20_000:
         fail(f"100 MB without a line end: {resident} kB are resident")
     link.close()
@@ -276,7 +304,7 @@ def few_descriptors():
     """More sockets than the server has descriptors for: links that are open go on, and new ones get in when others are closed."""
     links = [connect(), connect()]
     settle()
-    links += [connect() for _ in range(30)]
+    links += [connect(greeted=False) for _ in range(30)]
     settle()
     if not (answers(links[0]) and answers(links[1])):
         fail("without descriptors the first two links are not told anything")
@@ -292,6 +320,7 @@ def few_descriptors():
 if sys.argv[3:] == ["descriptors"]:
     few_descriptors()
 else:
+    logins()
     lines_and_replies()
     half_closed()
     in_order()

@@ -88,13 +88,14 @@ start "$(ulimit -n)" --workers 2
 run fixture --port "$port"
 wants "a port that is taken" 2 'moo-server: port\n'
 
-# Two lines, cut and ended in several ways, options and "are you there". The client has half-closed when its output comes.
+# Three lines, cut and ended in several ways, options and "are you there". The client has half-closed when its output comes.
 printf 'loo' >"$work/lines"
 printf 'ks\r\ncount\r\n\377\375\001\377\366LOOKS\n' >>"$work/lines"
-printf "\377\374\001[Yes]\r\nI couldn't understand that.\r\nI couldn't understand that.\r\n" | sort >"$work/wanted"
+# Nobody has logged in on the link, so its opening and each of its lines are answered by how to log in.
+printf '[Yes]\r\nType connect #n\r\nType connect #n\r\nType connect #n\r\nType connect #n\r\n' | sort >"$work/wanted"
 if command -v nc >/dev/null 2>&1; then
     for client in "nc -N" "nc"; do
-        (cat "$work/lines"; [ "$client" = "nc -N" ] || sleep 1) | timeout 5 $client 127.0.0.1 "$port" 2>/dev/null | sort >"$work/got"
+        (cat "$work/lines"; [ "$client" = "nc -N" ] || sleep 1) | timeout 5 $client 127.0.0.1 "$port" 2>/dev/null | tr -d '\377\374\001' | sort >"$work/got"
         # Other netcats have no -N.
         [ -s "$work/got" ] || [ "$client" = nc ] || continue
         cmp -s "$work/wanted" "$work/got" || fail "$client: got $(cat "$work/got")"

@@ -4,8 +4,8 @@ use Rattle.std.proofs.Math.Seq.{take-suc, take-length}
 use Rattle.spec_world.specs.World.{World}
 use Rattle.spec_step.specs.Step.{Step}
 use Rattle.spec_step.specs.Outcome.{Outcome}
-use Rattle.spec_task.specs.Step.{play1, play}
-use Rattle.spec_task.proofs.Steps.{play_goes_on}
+use Rattle.spec_moo.specs.Steps.{play1, play}
+use Rattle.spec_moo.proofs.StepWorlds.{play_goes_on}
 use Rattle.task_run.specs.Performed.{StepsTo}
 
 -- what a step left and gave is what it plays

@@ -1,11 +1,12 @@
 -- The fixture with 64 more rooms, and that with one, are sound worlds: their tests come out true.
 use Rattle.std.proofs.Common.{refl}
-use Rattle.spec_rows.specs.Opened.{opened}
+use Rattle.spec_fixture.specs.Opened.{opened}
 use Rattle.spec_world.specs.World.{World}
 use Rattle.spec_world.specs.WellFormed.{IsWellFormed}
-use Rattle.spec_rows.specs.Fixture.{fixture}
+use Rattle.spec_fixture.specs.Fixture.{fixture}
 use Rattle.spec_value.proofs.Entries.{each_entry}
-use Rattle.world.specs.Sound.{IsSound, IsSimple, reads, aims, is_covered}
+use Rattle.spec_holding.specs.Whole.{TextsSpell}
+use Rattle.world.specs.Sound.{IsSound}
 use Rattle.world_fixture.specs.Rooms.{adding, with_rooms, with_endless_verb}
 
 roomy : World
@@ -40,13 +41,13 @@ rooms_fit =
       readers = refl;
     }
 
-rooms_are_simple : IsSimple roomy
-unfolding reads aims is_covered adding with_rooms roomy
-rooms_are_simple = record { verbs = each_entry _ roomy.objects refl; slots = each_entry _ roomy.objects refl }
+rooms_are_spelled : TextsSpell roomy
+unfolding adding with_rooms roomy
+rooms_are_spelled = (each_entry _ roomy.objects refl, each_entry _ roomy.tasks refl)
 
 pub rooms_are_sound : IsSound (with_rooms 64 fixture)
 unfolding roomy
-rooms_are_sound = record { well_formed = rooms_fit; simple = rooms_are_simple }
+rooms_are_sound = record { well_formed = rooms_fit; spelled = rooms_are_spelled }
 
 endless : World
 endless = with_endless_verb fixture
@@ -80,10 +81,10 @@ endless_fits =
       readers = refl;
     }
 
-endless_is_simple : IsSimple endless
-unfolding reads aims is_covered adding endless
-endless_is_simple = record { verbs = each_entry _ endless.objects refl; slots = each_entry _ endless.objects refl }
+endless_is_spelled : TextsSpell endless
+unfolding adding endless
+endless_is_spelled = (each_entry _ endless.objects refl, each_entry _ endless.tasks refl)
 
 pub endless_is_sound : IsSound (with_endless_verb fixture)
 unfolding endless
-endless_is_sound = record { well_formed = endless_fits; simple = endless_is_simple }
+endless_is_sound = record { well_formed = endless_fits; spelled = endless_is_spelled }

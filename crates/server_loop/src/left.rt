@@ -1,0 +1,90 @@
+//! Links that a world has from before a server serves it.
+use crate::draft::{Draft, LONGEST_LIST};
+use crate::running::{End, Plan, Played, moment, next_number, play};
+use connections::links::MOST_LINKS;
+use speculate::gate::Gate;
+use std::alloc::{AllocError, Global};
+use std::rt::Clock;
+use std::sync::Wait;
+use std::thread::Threads;
+use task_step::step::GREATEST_CONNECTION;
+use world::question::{Answer, Question};
+use world::worlds::World;
+
+/// Closes the links on which players have logged in, and those that sockets could have: none of them has a socket.
+pub fn close_left<G: Gate, R: Threads + Wait + Sync, C: Clock>(
+    rt: &R,
+    alloc: Global,
+    gate: &G,
+    clock: &C,
+    plan: Plan,
+    mut world: World,
+) -> Result<World, End> {
+    let Ok(left) = left_links(alloc, &world) else {
+        return Err(End::Memory(0));
+    };
+    'list: for part in left.chunks(LONGEST_LIST) {
+        let next = next_number(&world)?;
+        let Ok(draft) = closing(alloc, next, moment(clock), plan.key, part) else {
+            return Err(End::Memory(0));
+        };
+        let Played {
+            world: after,
+            end,
+            ..
+        } = play(rt, alloc, gate, world, draft.steps.as_slice(), 1);
+        match end {
+            None => world = after,
+            Some(end) => return Err(end),
+        }
+    }
+    Ok(world)
+}
+
+// The list that closes these links.
+fn closing(
+    alloc: Global,
+    next: u32,
+    moment: u32,
+    key: [u8; 32],
+    links: &[u32],
+) -> Result<Draft, AllocError> {
+    let mut draft = Draft::new(alloc, next, moment, key)?;
+    'link: for number in links {
+        draft.close(*number)?;
+    }
+    Ok(draft)
+}
+
+fn left_links(alloc: Global, world: &World) -> Result<Vec<u32>, AllocError> {
+    let mut left = Vec::new(alloc);
+    if let Answer::Connected(players) = world.ask(&Question::Connected)? {
+        'player: for (connection, _) in players.as_slice() {
+            if let Some(number) = link_number(*connection) {
+                left.push(number)?;
+            }
+        }
+    }
+    'number: for number in 1..=MOST_LINKS as u32 {
+        if !left.contains(&number) && has_link(world, number)? {
+            left.push(number)?;
+        }
+    }
+    Ok(left)
+}
+
+fn has_link(world: &World, number: u32) -> Result<bool, AllocError> {
+    Ok(matches!(
+        world.ask(&Question::Link(number as i32))?,
+        Answer::Link(Some(_))
+    ))
+}
+
+// The number of a connection, if it can have a step.
+fn link_number(connection: i32) -> Option<u32> {
+    let number = u32::try_from(connection).ok()?;
+    if number == 0 || number > GREATEST_CONNECTION {
+        return None;
+    }
+    Some(number)
+}

@@ -15,7 +15,7 @@ use Rattle.spec_value.specs.Table.{Numbered, at, is_numbered}
 use Rattle.spec_value.proofs.Entries.{first_holds, second_holds}
 use Rattle.spec_value.proofs.Same.{same_integer, integer_itself}
 use Rattle.spec_world.specs.World.{World, Object, Link, object_at}
-use Rattle.spec_world.specs.WellFormed.{IsWellFormed, lists, passes, link_fits}
+use Rattle.spec_world.specs.WellFormed.{lists, passes, link_fits}
 use Rattle.spec_world.specs.Links.{connection_among, connection_of}
 use Rattle.spec_world.proofs.Trees.{same_or_not, turned, either}
 use Rattle.spec_world.proofs.TablesKept.{left_numbered}
@@ -25,7 +25,8 @@ use Rattle.spec_moo.specs.Scene.{in_world}
 use Rattle.spec_moo.specs.Natives.Rows.{list_value, answers_with}
 use Rattle.spec_moo.specs.Natives.Tasks.{connected_among, connected_players_row}
 use Rattle.world.specs.Law.{Tells}
-use Rattle.inherit.specs.Lines.{AreWellFormed}
+use Rattle.inherit.specs.Lines.{AreAgreeing}
+use Rattle.inherit.specs.Standing.{IsStanding}
 use Rattle.builtins_world.specs.Said.{Says}
 
 abbrev keys : {X : Type 0} → Numbered X → List ℤ
@@ -91,11 +92,11 @@ someone None test h = h
 someone (Some x) test h = refl
 
 -- who has a link is an object just where the number is not negative
-linked_object : (w : World) (q : ℤ) → IsWellFormed w → IsTrue (lists (persons w.links) q) → int_le (pos 0) q ≡ is_some (object_at w q)
+linked_object : (w : World) (q : ℤ) → IsStanding w → IsTrue (lists (persons w.links) q) → int_le (pos 0) q ≡ is_some (object_at w q)
 linked_object w q h l = go (int_le (pos 0) q) refl (is_some (object_at w q)) refl
   where
     found : (c : ℤ) × ((k : Link) × (at w.links c ≡ Some k) × (k.person ≡ q))
-    found = person_found w.links q h.links_in_order l
+    found = person_found w.links q h.links.links_in_order l
 
     go : (b : Bool) → int_le (pos 0) q ≡ b → (m : Bool) → is_some (object_at w q) ≡ m → b ≡ m
     go true e true d = refl
@@ -104,11 +105,11 @@ linked_object w q h l = go (int_le (pos 0) q) refl (is_some (object_at w q)) ref
       where
         by : (o : Option Object) → object_at w q ≡ o → is_some o ≡ true → false ≡ true
         by None is k = k
-        by (Some x) is k = sym e ∙ first_holds (int_le (pos 0) q) _ (h.numbers q x is)
+        by (Some x) is k = sym e ∙ first_holds (int_le (pos 0) q) _ (h.objects.numbers q x is)
     go true e false d = by (either (int_eq (found.1.0).person (neg_ℤ (pos 3) -ℤ found.0)) _ (second_holds _ _ fits))
       where
         fits : IsTrue (link_fits w found.0 found.1.0)
-        fits = h.links found.0 found.1.0 found.1.1
+        fits = h.links.links found.0 found.1.0 found.1.1
 
         by : IsTrue (int_eq (found.1.0).person (neg_ℤ (pos 3) -ℤ found.0)) ⊎ IsTrue (passes (object_at w (found.1.0).person) (λ x. x.header.is_player)) → true ≡ false
         by (inl s) =
@@ -130,7 +131,7 @@ map_twice : (es : Numbered Link) → map (λ (p : ℤ × ℤ). p.1) (map (λ e. 
 map_twice [] = refl
 map_twice (e ∷ es) = ap (λ z. (e.1).person ∷ z) (map_twice es)
 
-same_members : (w : World) (q : ℤ) → IsWellFormed w → lists (linked_players w) q ≡ lists (linked_objects w) q
+same_members : (w : World) (q : ℤ) → IsStanding w → lists (linked_players w) q ≡ lists (linked_objects w) q
 same_members w q h =
     ap (λ os. lists os q) (map_twice (filter (λ e. int_le (pos 0) (e.1).person) w.links)) ∙ among (λ e. (e.1).person) (int_le (pos 0)) w.links q
     ∙ by (lists (persons w.links) q) refl
@@ -157,9 +158,9 @@ unfolding IsStrictlySortedBy
 keys_rise [] h = tt
 keys_rise (e ∷ es) h = (below_keys e.0 es (first_holds _ _ h), keys_rise es (second_holds _ _ h))
 
-in_order_are : (w : World) (s : BTreeSet ℤ) → IsWellFormed w → IsFromIterResult int_cmp (linked_players w) s → s.keys ≡ linked_objects w
+in_order_are : (w : World) (s : BTreeSet ℤ) → IsStanding w → IsFromIterResult int_cmp (linked_players w) s → s.keys ≡ linked_objects w
 in_order_are w s h made =
-    btree_set_from_contains int_cmp_total s (record { keys = linked_objects w }) made.1 (keys_rise (filter (λ e. linked w e.0) w.objects) (left_numbered (λ e. linked w e.0) w.objects h.objects_in_order))
+    btree_set_from_contains int_cmp_total s (record { keys = linked_objects w }) made.1 (keys_rise (filter (λ e. linked w e.0) w.objects) (left_numbered (λ e. linked w e.0) w.objects h.objects.objects_in_order))
     (λ q. made.0 q ∙ same_members w q h) int_cmp-IsAntisymmetric
 
 listed_so : (w : World) (es : Numbered Object) → connected_among w es ≡ map object (keys (filter (λ e. linked w e.0) es))
@@ -174,7 +175,7 @@ listed_so w (e ∷ es) = go (listed_so w es) (linked w e.0)
 -- ---- the answer
 
 pub connected_told : {V : Type 0} (holds : V → World → Type 0) (now : V → World → World) (a b : V) (ps : List (ℤ × ℤ)) (s : BTreeSet ℤ) (vs : List Datum) (x : Datum)
-    → AreWellFormed holds now a → Tells holds now a b (λ w. connected w ≡ ps) → IsFromIterResult int_cmp (map (λ p. p.1) ps) s → vs ≡ map object s.keys → x ≡ list_value vs
+    → AreAgreeing holds now a → Tells holds now a b (λ w. connected w ≡ ps) → IsFromIterResult int_cmp (map (λ p. p.1) ps) s → vs ≡ map object s.keys → x ≡ list_value vs
     → Tells holds now a b (λ w. (who : ℤ) → Says (λ n c. connected_players_row n c []) w who (gives x))
 connected_told holds now a b ps s vs x known told made items value w left =
     let t = told w left in

@@ -8,7 +8,7 @@ ghost use Rattle.moo_task.specs.Deeds.{scene_of};
 ghost use Rattle.moo_task.specs.Effects.{effect_of};
 ghost use Rattle.moo_task.specs.declared.effect.NativeEffect.TheVariants.{Answers};
 ghost use Rattle.world.specs.Law.{Goes, Lasts, Tells};
-ghost use Rattle.inherit.specs.Lines.{AreWellFormed};
+ghost use Rattle.inherit.specs.Lines.{AreAgreeing};
 ghost use Rattle.builtins_links.specs.Acting.{Acts, with_player};
 
 use crate::acting::refusal;
@@ -33,11 +33,11 @@ pub fn boot_player<V: View>(
     object: i32,
 ) -> Result<Answer, AllocError>
     requires home { V.holds view.old (V.home view.old) }
-    requires well_formed { AreWellFormed V.holds V.now view.old }
+    requires well_formed { AreAgreeing V.holds V.now view.old }
     ensures lasts { Lasts V.holds V.home V.anchor view.old view.new result }
     ensures left { IfOk result (λ a. Goes V.holds V.now view.old view.new
         (λ before after. Acts (λ s c. boot_player_row s c (object_of object ∷ [])) deeds.old before programmer (Answers a) deeds.new after)) }
-    ensures well_formed { OnOk result (AreWellFormed V.holds V.now view.new) }
+    ensures well_formed { OnOk result (AreAgreeing V.holds V.now view.new) }
 {
     let refused = refusal(view, programmer, object)?;
     if let Some(error) = refused {

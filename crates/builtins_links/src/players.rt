@@ -6,7 +6,7 @@ ghost use Rattle.spec_value.specs.Datum.{object as object_of};
 ghost use Rattle.spec_moo.specs.Natives.Tasks.{connected_players_row};
 ghost use Rattle.moo_value.specs.Answers.{answer_of};
 ghost use Rattle.world.specs.Law.{Lasts, Tells};
-ghost use Rattle.inherit.specs.Lines.{AreWellFormed};
+ghost use Rattle.inherit.specs.Lines.{AreAgreeing};
 ghost use Rattle.builtins_world.specs.Said.{Says};
 
 use moo_value::answer::Answer;
@@ -18,7 +18,7 @@ use world::readers::read_connected;
 
 /// `connected_players`: the players that have a link, in the order of their numbers.
 pub fn connected_players<V: View>(alloc: Global, view: &mut V) -> Result<Answer, AllocError>
-    requires well_formed { AreWellFormed V.holds V.now view.old }
+    requires well_formed { AreAgreeing V.holds V.now view.old }
     ensures lasts { Lasts V.holds V.home V.anchor view.old view.new result }
     ensures left { IfOk result (λ a. Tells V.holds V.now view.old view.new
         (λ w. (who : ℤ) → Says (λ s c. connected_players_row s c []) w who (answer_of a))) }

@@ -57,7 +57,7 @@ module _ {V : Type 0} (holds : V → World → Type 0) (now : V → World → Wo
       let t = third w left in
       let u = second w t.0 in
       let v = first w u.0 in
-      let sound : ObjectsAgree (now a w) = known w v.0 in
+      let sound : ObjectsAgree (now a w) = (known w v.0).objects in
       let family : IsFamily (now a w) o ds = subst (λ x. IsFamily x o ds) v.1.0 u.1.1 in
       let same : now c w ≡ now a w = u.1.0 ∙ v.1.0 in
       let clash : clashes (now a w) o p ≡ true = sym (clashes_so (now a w) sound p o ds family) ∙ ap (λ x. any_clashes x p ds) (sym same) ∙ t.1.1 in (
@@ -76,7 +76,7 @@ module _ {V : Type 0} (holds : V → World → Type 0) (now : V → World → Wo
       let t = third w q.0 in
       let u = second w t.0 in
       let f = first w u.0 in
-      let sound : ObjectsAgree (now a w) = known w f.0 in
+      let sound : ObjectsAgree (now a w) = (known w f.0).objects in
       let family : IsFamily (now a w) o ds = subst (λ x. IsFamily x o ds) f.1.0 u.1.1 in
       let same : now c w ≡ now a w = u.1.0 ∙ f.1.0 in
       let all : now d w ≡ now a w = t.1.0 ∙ same in

@@ -19,7 +19,7 @@ use Rattle.spec_moo.specs.NativeEffect.{Caller}
 use Rattle.spec_moo.specs.Natives.Rows.{list_value, answers_with}
 use Rattle.spec_moo.specs.Natives.Tasks.{innermost, task_programmer, task_value, listed_tasks, queued_tasks_row}
 use Rattle.world.specs.Law.{Tells}
-use Rattle.inherit.specs.Lines.{AreWellFormed}
+use Rattle.inherit.specs.Lines.{AreAgreeing}
 use Rattle.builtins_world.specs.Said.{with_programmer, Says}
 use Rattle.builtins_queue.specs.Listed.{seen_task, seen_at, seen_of}
 
@@ -97,7 +97,7 @@ no_more_seen all who ts is n vs all_seen past so = sym so ∙ ap (λ us. vs ++ u
 -- ---- the answer
 
 module _ {V : Type 0} (holds : V → World → Type 0) (now : V → World → World) where
-  pub queued : (a b e f : V) (who : ℤ) (all : Bool) (is : List ℤ) (vs : List Datum) (x : Datum) → AreWellFormed holds now a → Tells holds now a b (λ w. is_wizard w who ≡ all)
+  pub queued : (a b e f : V) (who : ℤ) (all : Bool) (is : List ℤ) (vs : List Datum) (x : Datum) → AreAgreeing holds now a → Tells holds now a b (λ w. is_wizard w who ≡ all)
       → Tells holds now b e (λ w. waiting_ids w ≡ is) → Tells holds now e f (λ w. seen_of all who w.tasks is ≡ vs) → x ≡ list_value vs
       → Tells holds now a f (λ w. Says (λ s c. queued_tasks_row s c []) w who (gives x))
   queued a b e f who all is vs x known wizard waiting seen value w left =

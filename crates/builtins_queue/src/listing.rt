@@ -7,7 +7,7 @@ ghost use Rattle.spec_moo.specs.Natives.Rows.{list_value};
 ghost use Rattle.moo_value.specs.Answers.{answer_of};
 ghost use Rattle.moo_task.specs.Effects.{waiting_of};
 ghost use Rattle.world.specs.Law.{Lasts, Tells};
-ghost use Rattle.inherit.specs.Lines.{AreWellFormed};
+ghost use Rattle.inherit.specs.Lines.{AreAgreeing};
 ghost use Rattle.builtins_world.specs.Said.{Says};
 ghost use Rattle.builtins_queue.specs.Listed.{seen_task, seen_at, seen_of};
 
@@ -29,7 +29,7 @@ pub fn queued_tasks<V: View>(
     programmer: i32,
 ) -> Result<Answer, AllocError>
     requires home { V.holds view.old (V.home view.old) }
-    requires well_formed { AreWellFormed V.holds V.now view.old }
+    requires well_formed { AreAgreeing V.holds V.now view.old }
     ensures lasts { Lasts V.holds V.home V.anchor view.old view.new result }
     ensures left { IfOk result (λ a. Tells V.holds V.now view.old view.new
         (λ w. Says (λ s c. queued_tasks_row s c []) w programmer (answer_of a))) }

@@ -1,3 +1,5 @@
 pub mod Walks
 pub mod Tellings
 pub mod Keeping
+pub mod Standing
+pub mod ObjectsStand

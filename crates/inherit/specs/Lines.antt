@@ -2,18 +2,13 @@
 use Rattle.std.specs.Prelude.{◌≡◌, ℤ, negsuc, List, [], ◌∷◌, length, suc, ℕ, drop, Option, Some, None, is_some, IsTrue, MatchOption}
 use Rattle.spec_world.specs.World.{World, Header, Slot}
 use Rattle.spec_world.specs.Inherit.{ancestors}
-use Rattle.spec_world.specs.WellFormed.{IsWellFormed}
-use Rattle.spec_world.specs.Agreeing.{ObjectsAgree}
+use Rattle.inherit.specs.Standing.{IsStanding}
 use Rattle.inherit.specs.declared.property.Own.{Own}
 use Rattle.inherit.specs.declared.property.Own.TheVariants.{Settled, Clear}
 
--- the objects of the world now agree with one another, whichever start it was
+-- the world now stands, whichever start it was: its objects and its links agree, and its tasks are in order
 abbrev pub AreAgreeing : {V : Type 0} → (V → World → Type 0) → (V → World → World) → V → Type 0
-AreAgreeing holds now view = (w : World) → holds view w → ObjectsAgree (now view w)
-
--- so do its links and its queue of tasks: the world now is well formed
-abbrev pub AreWellFormed : {V : Type 0} → (V → World → Type 0) → (V → World → World) → V → Type 0
-AreWellFormed holds now view = (w : World) → holds view w → IsWellFormed (now view w)
+AreAgreeing holds now view = (w : World) → holds view w → IsStanding (now view w)
 
 -- what stands above an object: nothing, or the ancestors of its parent
 abbrev pub IsAbove : World → ℤ → Option ℤ → Type 0

@@ -24,7 +24,7 @@ module _ {V A E : Type 0} (holds : V → World → Type 0) (now : V → World �
       let slots : es ≡ slots_beside (now a w) p before = g.1.1 ∙ ap (λ v. slots_beside v p before) n.1.0 in (
         n.0,
         λ family parent_is. i.1 ∙ (λ j. inherit_each (slots j) ds (l.1 j)) ∙ (λ j. inherit_each (slots_beside (now a w) p before) ds (lose_each (n.1.1 j) ds (same j)))
-            ∙ heirs_so (now a w) (known w n.0) o before p ds family parent_is,
+            ∙ heirs_so (now a w) (known w n.0).objects o before p ds family parent_is,
       )
 
   pub hung_told : (a b c : V) (r : Result A E) → Goes holds now a b (λ was is. IsFamily was o ds → parent_of (object_at was o) ≡ before → is ≡ with_heirs was o p)

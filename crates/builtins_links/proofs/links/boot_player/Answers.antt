@@ -1,6 +1,6 @@
 use Rattle.std.proofs.Common.{◌≡◌, Some, None, rules, w32}
 use Rattle.std.proofs.lemmas.Int.{to_z-of_z}
-use Rattle.spec_world.specs.WellFormed.{IsWellFormed}
+use Rattle.inherit.specs.Standing.{IsStanding}
 use Rattle.inherit.proofs.Tellings.{stays_known}
 use Rattle.builtins_links.specs.Refused.{IsRefusal}
 use Rattle.builtins_links.proofs.Rows.{boots_not, boots}
@@ -16,7 +16,7 @@ pub returns-in-Some-clause-well_formed : goal.returns-in-Some-clause-well_formed
 returns-in-Some-clause-well_formed g c =
     let object = to_z-of_z w32 c.args.object c.ranges.object in
     let programmer = to_z-of_z w32 c.args.programmer c.ranges.programmer in
-    stays_known g.V.View.holds g.V.View.now IsWellFormed c.args.view.now c.refusal.new.view (λ w. IsRefusal w c.args.programmer c.args.object (Some c.in-Some.error)) c.requires.well_formed
+    stays_known g.V.View.holds g.V.View.now IsStanding c.args.view.now c.refusal.new.view (λ w. IsRefusal w c.args.programmer c.args.object (Some c.in-Some.error)) c.requires.well_formed
     (rw (object, programmer, c.in-Some.is) at c.in_ok-refused.ensures.left)
 
 pub close_connection_of-requires-clause-well_formed : goal.close_connection_of-requires-clause-well_formed
@@ -24,7 +24,7 @@ close_connection_of-requires-clause-well_formed g c =
     let object = to_z-of_z w32 c.args.object c.ranges.object in
     let programmer = to_z-of_z w32 c.args.programmer c.ranges.programmer in
     let none : c.in_ok-refused.refused ≡ None = first_of (search rules, cc) in
-    stays_known g.V.View.holds g.V.View.now IsWellFormed c.args.view.now c.refusal.new.view (λ w. IsRefusal w c.args.programmer c.args.object None) c.requires.well_formed
+    stays_known g.V.View.holds g.V.View.now IsStanding c.args.view.now c.refusal.new.view (λ w. IsRefusal w c.args.programmer c.args.object None) c.requires.well_formed
     (rw (object, programmer, none) at c.in_ok-refused.ensures.left)
 
 pub returns-clause-left : goal.returns-clause-left

@@ -17,7 +17,7 @@ loop-done-init g c =
       left =
           rw object
           (told_before g.V.View.holds g.V.View.now c.args.view.now (λ w. Walked w c.args.object 0 c.push.new.self.items)
-          (λ w is. subst (Walked (g.V.View.now c.args.view.now w) c.args.object 0) (sym ((rw object at c.in_ok-push.ensures.items) ∙ ap (λ xs. xs ++ c.args.object ∷ []) c.new-family.ensures.items)) (walk_begins (g.V.View.now c.args.view.now w) (c.requires.well_formed w is) c.args.object (c.requires.there w is))));
+          (λ w is. subst (Walked (g.V.View.now c.args.view.now w) c.args.object 0) (sym ((rw object at c.in_ok-push.ensures.items) ∙ ap (λ xs. xs ++ c.args.object ∷ []) c.new-family.ensures.items)) (walk_begins (g.V.View.now c.args.view.now w) (c.requires.well_formed w is).objects c.args.object (c.requires.there w is))));
     }
 
 pub returns-then-done-count-clause-left : goal.returns-then-done-count-clause-left

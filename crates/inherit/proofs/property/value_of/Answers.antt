@@ -9,7 +9,7 @@ use Rattle.inherit.proofs.property.value_of.Goals as goal
 pub returns-in-Settled-clause-left : goal.returns-in-Settled-clause-left
 returns-in-Settled-clause-left g c =
     told_before g.V.View.holds g.V.View.now c.args.view.now (λ w. property_value w c.args.object c.args.name.now ≡ c.in-Settled.value)
-    (λ w is. settled_value (g.V.View.now c.args.view.now w) c.args.object c.args.name.now c.args.slot c.in-Settled.value (c.requires.well_formed w is) (c.requires.slot w is) c.in-Settled.ensures)
+    (λ w is. settled_value (g.V.View.now c.args.view.now w) c.args.object c.args.name.now c.args.slot c.in-Settled.value (c.requires.well_formed w is).objects (c.requires.slot w is) c.in-Settled.ensures)
 
 pub returns-in-Clear-clause-left : goal.returns-in-Clear-clause-left
 returns-in-Clear-clause-left g c =

@@ -1,5 +1,5 @@
 use Rattle.std.proofs.Common.{◌≡◌, ◌∙◌, ap, sym, subst, suc, ◌-◌, ◌∷◌, Result, Ok, Err, OnOk, arith}
-use Rattle.spec_world.specs.Agreeing.{ObjectsAgree}
+use Rattle.inherit.specs.Standing.{IsStanding}
 use Rattle.moo_objects.proofs.Entering.{calls_there, call_refused, call_found}
 use Rattle.moo_objects.proofs.calling.call_verb.Goals as goal
 
@@ -9,7 +9,7 @@ whichever (Err e) p = tt
 
 pub returns-in-Ok-found-clause-well_formed : goal.returns-in-Ok-found-clause-well_formed
 returns-in-Ok-found-clause-well_formed g c =
-    whichever c.enters_on.result (λ w is. let t = c.in_ok-found.ensures.left w is in subst ObjectsAgree (sym t.1.0) (c.requires.well_formed w t.0))
+    whichever c.enters_on.result (λ w is. let t = c.in_ok-found.ensures.left w is in subst IsStanding (sym t.1.0) (c.requires.well_formed w t.0))
 
 pub returns-in-Err-clause-left : goal.returns-in-Err-clause-left
 returns-in-Err-clause-left g c =

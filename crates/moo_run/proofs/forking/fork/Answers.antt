@@ -1,6 +1,6 @@
-use Rattle.std.proofs.Common.{◌≡◌, ◌∙◌, ap, sym, rules, w32, to_z, of_z}
+use Rattle.std.proofs.Common.{◌≡◌, ◌∙◌, ap, sym, subst, rules, w32, to_z, of_z}
 use Rattle.spec_world.specs.World.{World}
-use Rattle.moo_forks.specs.Forking.{fork_shown}
+use Rattle.moo_forks.specs.Forking.{fork_shown, ReadsNowhere}
 use Rattle.moo_forks.specs.declared.fork.Fork.{Fork}
 use Rattle.moo_task.specs.declared.outcome.Outcome.TheVariants.{On}
 use Rattle.moo_run.specs.Scenes.{scene_at, led_at}
@@ -28,4 +28,4 @@ returns-in_ok-write_task-in-Started-clause-led g c w h =
 pub returns-in_ok-write_task-in-Started-clause-well_formed : goal.returns-in_ok-write_task-in-Started-clause-well_formed
 returns-in_ok-write_task-in-Started-clause-well_formed g c =
     let whole : to_z w32 (of_z w32 c.in-Started.id) ≡ c.in-Started.id = search rules in
-    queued_agree g.V.View.holds g.V.View.now c.args.view.now c.write_task.new.view c.in-Started.id c.in-Started.started c.requires.well_formed (rw whole at c.in_ok-write_task-in-Started.ensures.left)
+    queued_agree g.V.View.holds g.V.View.now c.args.view.now c.write_task.new.view c.in-Started.id c.in-Started.started (subst ReadsNowhere c.in-Started.is c.in_ok-forked.ensures.quiet) c.requires.well_formed (rw whole at c.in_ok-write_task-in-Started.ensures.left)

@@ -8,8 +8,13 @@ use Rattle.spec_ready.specs.Ready.{IsReady}
 use Rattle.moo_task.specs.Deeds.{scene_of}
 use Rattle.moo_task.specs.declared.deeds.Deeds.{Deeds}
 use Rattle.world.specs.Law.{Goes, Tells}
+use Rattle.step_deeds.specs.Closing.{IsReadOnce}
 use Rattle.step_tasks.specs.Performed.{StepsTo}
 use Rattle.step_tasks.specs.Ready.{AreReady}
+
+-- one task at most reads on each link
+pub read_once : (s : Scene) → IsReady s → IsReadOnce s.world
+read_once s h = let queue = h.agrees.world.queue in record { tasks_in_order = queue.tasks_in_order; readers = queue.readers }
 
 pub on_ok : {T E : Type 0} (r : Result T E) (P Q : Type 0) → (P → Q) → OnOk r P → OnOk r Q
 on_ok (Ok x) P Q f h = f h

@@ -114,23 +114,14 @@ given_well w o flag h why =
     of_link (inl e) c k is = inl e
     of_link (inr e) c k is = inr (e c k is)
 
-<<<<<<< ours
-pub closed_well : (s : Scene) (o : ℤ) → IsWellFormed s.world → IsWellFormed (link_closed s o).world
-unfolding close_link
-=======
-closed_well : (s : Scene) (o : ℤ) → IsStanding s.world → IsStanding (link_closed s o).world
->>>>>>> theirs
+pub closed_well : (s : Scene) (o : ℤ) → IsStanding s.world → IsStanding (link_closed s o).world
 closed_well s o h = go (connection_of s.world o)
   where
     go : (m : Option ℤ) → IsStanding (connection_closed s m).world
     go None = h
     go (Some c) = closed_stands s.world c h
 
-<<<<<<< ours
-pub closed_nobodys : (s : Scene) (o : ℤ) → IsWellFormed s.world → IsNobodys (link_closed s o).world o
-=======
-closed_nobodys : (s : Scene) (o : ℤ) → IsStanding s.world → IsNobodys (link_closed s o).world o
->>>>>>> theirs
+pub closed_nobodys : (s : Scene) (o : ℤ) → IsStanding s.world → IsNobodys (link_closed s o).world o
 closed_nobodys s o h = go (connection_of s.world o) refl
   where
     go : (m : Option ℤ) → connection_of s.world o ≡ m → IsNobodys (connection_closed s m).world o

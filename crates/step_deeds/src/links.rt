@@ -6,14 +6,9 @@ ghost use Rattle.spec_view.specs.Laws.{first as first_of};
 ghost use Rattle.spec_moo.specs.Linking.{link_closed};
 ghost use Rattle.moo_task.specs.Deeds.{scene_of};
 ghost use Rattle.world.specs.Law.{Goes, Lasts, Tells};
-<<<<<<< ours
 ghost use Rattle.inherit.specs.Lines.{AreAgreeing};
 ghost use Rattle.inherit.specs.Standing.{IsStanding};
 ghost use Rattle.step_deeds.specs.Closing.{without_readers};
-=======
-ghost use Rattle.inherit.specs.Lines.{AreAgreeing, AreWellFormed};
-ghost use Rattle.step_deeds.specs.Closing.{AreReadOnce, IsReadOnce, without_readers};
->>>>>>> theirs
 
 use moo_task::deeds::Deeds;
 use std::alloc::AllocError;
@@ -43,18 +38,10 @@ pub fn reader<V: View>(view: &mut V, connection: i32) -> Result<Option<i32>, All
 /// A link goes, and a task that reads on it goes with it.
 pub fn close_link<V: View>(view: &mut V, connection: i32) -> Result<(), AllocError>
     requires home { V.holds view.old (V.home view.old) }
-<<<<<<< ours
     requires well_formed { AreAgreeing V.holds V.now view.old }
     ensures lasts { Lasts V.holds V.home V.anchor view.old view.new result }
     ensures left { OnOk result (Goes V.holds V.now view.old view.new (λ before after. after ≡ close_link_of before connection)) }
     ensures well_formed { OnOk result (AreAgreeing V.holds V.now view.new) }
-=======
-    requires readers { AreReadOnce V.holds V.now view.old }
-    ensures lasts { Lasts V.holds V.home V.anchor view.old view.new result }
-    ensures left { OnOk result (Goes V.holds V.now view.old view.new (λ before after. after ≡ close_link_of before connection)) }
-    ensures well_formed { AreWellFormed V.holds V.now view.old → OnOk result (AreWellFormed V.holds V.now view.new) }
-    ensures agreeing { AreAgreeing V.holds V.now view.old → OnOk result (AreAgreeing V.holds V.now view.new) }
->>>>>>> theirs
 {
     drop_reader(view, connection)?;
     write_link(view, connection, None)?;
@@ -68,20 +55,11 @@ pub fn close_connection_of<V: View>(
     object: i32,
 ) -> Result<(), AllocError>
     requires home { V.holds view.old (V.home view.old) }
-<<<<<<< ours
     requires well_formed { AreAgreeing V.holds V.now view.old }
     ensures lasts { Lasts V.holds V.home V.anchor view.old view.new result }
     ensures left { OnOk result (Goes V.holds V.now view.old view.new
         (λ before after. (t : ℕ) → scene_of deeds.new after t ≡ link_closed (scene_of deeds.old before t) object)) }
     ensures well_formed { OnOk result (AreAgreeing V.holds V.now view.new) }
-=======
-    requires readers { AreReadOnce V.holds V.now view.old }
-    ensures lasts { Lasts V.holds V.home V.anchor view.old view.new result }
-    ensures left { OnOk result (Goes V.holds V.now view.old view.new
-        (λ before after. (t : ℕ) → scene_of deeds.new after t ≡ link_closed (scene_of deeds.old before t) object)) }
-    ensures well_formed { AreWellFormed V.holds V.now view.old → OnOk result (AreWellFormed V.holds V.now view.new) }
-    ensures agreeing { AreAgreeing V.holds V.now view.old → OnOk result (AreAgreeing V.holds V.now view.new) }
->>>>>>> theirs
 {
     let Some(link) = connection(view, object)? else {
         return Ok(());
@@ -91,15 +69,11 @@ pub fn close_connection_of<V: View>(
     Ok(())
 }
 
-// The task that reads on a connection goes, if there is one. Where tasks read on links of their own there is one at most.
+// The task that reads on a connection goes, if there is one. In a well-formed world there is one at most.
 fn drop_reader<V: View>(view: &mut V, connection: i32) -> Result<(), AllocError>
     ensures lasts { Lasts V.holds V.home V.anchor view.old view.new result }
     ensures left { OnOk result (Goes V.holds V.now view.old view.new
-<<<<<<< ours
         (λ before after. IsStanding before → after ≡ without_readers before connection)) }
-=======
-        (λ before after. IsReadOnce before → after ≡ without_readers before connection)) }
->>>>>>> theirs
 {
     let Some(task) = reader(view, connection)? else {
         return Ok(());

@@ -19,28 +19,13 @@ returns-in-Some-clause-well_formed g c =
     stays_known g.V.View.holds g.V.View.now IsStanding c.args.view.now c.refusal.new.view (λ w. IsRefusal w c.args.programmer c.args.object (Some c.in-Some.error)) c.requires.well_formed
     (rw (object, programmer, c.in-Some.is) at c.in_ok-refused.ensures.left)
 
-pub close_connection_of-requires-clause-readers : goal.close_connection_of-requires-clause-readers
-close_connection_of-requires-clause-readers g c w h =
+pub close_connection_of-requires-clause-well_formed : goal.close_connection_of-requires-clause-well_formed
+close_connection_of-requires-clause-well_formed g c =
     let object = to_z-of_z w32 c.args.object c.ranges.object in
     let programmer = to_z-of_z w32 c.args.programmer c.ranges.programmer in
     let none : c.in_ok-refused.refused ≡ None = first_of (search rules, cc) in
-<<<<<<< ours
     stays_known g.V.View.holds g.V.View.now IsStanding c.args.view.now c.refusal.new.view (λ w. IsRefusal w c.args.programmer c.args.object None) c.requires.well_formed
     (rw (object, programmer, none) at c.in_ok-refused.ensures.left)
-=======
-    let well = stays_known g.V.View.holds g.V.View.now IsWellFormed c.args.view.now c.refusal.new.view (λ w. IsRefusal w c.args.programmer c.args.object None) c.requires.well_formed
-    (rw (object, programmer, none) at c.in_ok-refused.ensures.left) w h in
-    record { tasks_in_order = well.tasks_in_order; readers = well.readers }
-
-pub returns-clause-well_formed : goal.returns-clause-well_formed
-returns-clause-well_formed g c =
-    let object = to_z-of_z w32 c.args.object c.ranges.object in
-    let programmer = to_z-of_z w32 c.args.programmer c.ranges.programmer in
-    let none : c.in_ok-refused.refused ≡ None = first_of (search rules, cc) in
-    c.in_ok-close_connection_of.ensures.well_formed
-    (stays_known g.V.View.holds g.V.View.now IsWellFormed c.args.view.now c.refusal.new.view (λ w. IsRefusal w c.args.programmer c.args.object None) c.requires.well_formed
-    (rw (object, programmer, none) at c.in_ok-refused.ensures.left))
->>>>>>> theirs
 
 pub returns-clause-left : goal.returns-clause-left
 returns-clause-left g c =

@@ -1,14 +1,8 @@
 use Rattle.std.proofs.Common.{◌≡◌, Some, None, rules, w32, to_z, of_z}
 use Rattle.std.proofs.lemmas.Int.{to_z-of_z}
 use Rattle.spec_world.specs.Links.{connection_of}
-<<<<<<< ours
 use Rattle.inherit.specs.Standing.{IsStanding}
-=======
-use Rattle.spec_world.specs.WellFormed.{IsWellFormed}
-use Rattle.spec_world.specs.Agreeing.{ObjectsAgree}
->>>>>>> theirs
 use Rattle.inherit.proofs.Tellings.{stays_known}
-use Rattle.step_deeds.specs.Closing.{IsReadOnce}
 use Rattle.step_deeds.proofs.Closing.{none_closed, one_closed}
 use Rattle.step_deeds.proofs.links.close_connection_of.Goals as goal
 
@@ -19,40 +13,15 @@ returns-in_default-clause-left g c =
     none_closed g.V.View.holds g.V.View.now c.args.view.now c.connection.new.view c.args.deeds.now c.args.object (rw (object, none) at c.in_ok-link.ensures.left)
 
 pub returns-in_default-clause-well_formed : goal.returns-in_default-clause-well_formed
-returns-in_default-clause-well_formed g c known =
+returns-in_default-clause-well_formed g c =
     let object = to_z-of_z w32 c.args.object c.ranges.object in
-<<<<<<< ours
     stays_known g.V.View.holds g.V.View.now IsStanding c.args.view.now c.connection.new.view (λ w. connection_of w c.args.object ≡ c.in_ok-link.field-0) c.requires.well_formed (rw object at c.in_ok-link.ensures.left)
-=======
-    stays_known g.V.View.holds g.V.View.now IsWellFormed c.args.view.now c.connection.new.view (λ w. connection_of w c.args.object ≡ c.in_ok-link.field-0) known (rw object at c.in_ok-link.ensures.left)
->>>>>>> theirs
 
-pub returns-in_default-clause-agreeing : goal.returns-in_default-clause-agreeing
-returns-in_default-clause-agreeing g c known =
+pub close_link-requires-clause-well_formed : goal.close_link-requires-clause-well_formed
+close_link-requires-clause-well_formed g c =
     let object = to_z-of_z w32 c.args.object c.ranges.object in
-<<<<<<< ours
     stays_known g.V.View.holds g.V.View.now IsStanding c.args.view.now c.connection.new.view (λ w. connection_of w c.args.object ≡ Some c.in-Some.link) c.requires.well_formed
-=======
-    stays_known g.V.View.holds g.V.View.now ObjectsAgree c.args.view.now c.connection.new.view (λ w. connection_of w c.args.object ≡ c.in_ok-link.field-0) known (rw object at c.in_ok-link.ensures.left)
-
-pub close_link-requires-clause-readers : goal.close_link-requires-clause-readers
-close_link-requires-clause-readers g c =
-    let object = to_z-of_z w32 c.args.object c.ranges.object in
-    stays_known g.V.View.holds g.V.View.now IsReadOnce c.args.view.now c.connection.new.view (λ w. connection_of w c.args.object ≡ Some c.in-Some.link) c.requires.readers
->>>>>>> theirs
     (rw (object, c.in-Some.is) at c.in_ok-link.ensures.left)
-
-pub returns-clause-well_formed : goal.returns-clause-well_formed
-returns-clause-well_formed g c known =
-    let object = to_z-of_z w32 c.args.object c.ranges.object in
-    c.in_ok-close_link.ensures.well_formed
-    (stays_known g.V.View.holds g.V.View.now IsWellFormed c.args.view.now c.connection.new.view (λ w. connection_of w c.args.object ≡ c.in_ok-link.field-0) known (rw object at c.in_ok-link.ensures.left))
-
-pub returns-clause-agreeing : goal.returns-clause-agreeing
-returns-clause-agreeing g c known =
-    let object = to_z-of_z w32 c.args.object c.ranges.object in
-    c.in_ok-close_link.ensures.agreeing
-    (stays_known g.V.View.holds g.V.View.now ObjectsAgree c.args.view.now c.connection.new.view (λ w. connection_of w c.args.object ≡ c.in_ok-link.field-0) known (rw object at c.in_ok-link.ensures.left))
 
 pub returns-clause-left : goal.returns-clause-left
 returns-clause-left g c =

@@ -8,6 +8,7 @@ ghost use Rattle.builtin_requests.specs.Requests.{asking_of, said_of};
 
 use builtin_requests::asking::Asking;
 use builtin_requests::missing::missing;
+use builtins_players::listing::players;
 use builtins_world::objects::{children, is_player, max_object, parent, valid};
 use builtins_world::properties::{is_clear_property, properties, property_info};
 use builtins_world::verbs::{verb_args, verb_info, verbs};
@@ -33,7 +34,7 @@ pub fn ask<V: View>(
         Asking::Parent(object) => Ok(parent(view, object)?),
         Asking::Children(object) => Ok(children(alloc, view, object)?),
         Asking::MaxObject => Ok(max_object(view)?),
-        Asking::Players => missing(),
+        Asking::Players => Ok(players(alloc, view)?),
         Asking::Properties(object) => Ok(properties(alloc, view, programmer, object)?),
         Asking::PropertyInfo(object, name) => {
             Ok(property_info(alloc, view, programmer, object, &name)?)

@@ -10,6 +10,9 @@ use builtin_requests::changing::Changing;
 use builtin_requests::missing::missing;
 use builtins_change::properties::set_property_info;
 use builtins_change::verbs::{add_verb, delete_verb, set_verb_args, set_verb_info};
+use builtins_family::adding::add_property;
+use builtins_family::deleting::delete_property;
+use builtins_objects::chparent::chparent;
 use builtins_task::server::shutdown;
 use builtins_world::properties::clear_property;
 use moo_value::answer::Answer;
@@ -31,12 +34,18 @@ pub fn change<V: View>(
     ensures well_formed { OnOk result (AreAgreeing V.holds V.now view.new) }
 {
     match changing {
-        Changing::Chparent(_, _) => missing(),
+        Changing::Chparent(object, parent) => {
+            Ok(chparent(alloc, view, programmer, object, parent)?)
+        }
         Changing::SetPropertyInfo(object, name, owner, bits) => {
             Ok(set_property_info(view, programmer, object, &name, owner, &bits)?)
         }
-        Changing::AddProperty(_, _, _, _, _) => missing(),
-        Changing::DeleteProperty(_, _) => missing(),
+        Changing::AddProperty(object, name, value, owner, bits) => Ok(add_property(
+            alloc, view, programmer, object, &name, value, owner, &bits,
+        )?),
+        Changing::DeleteProperty(object, name) => {
+            Ok(delete_property(alloc, view, programmer, object, &name)?)
+        }
         Changing::ClearProperty(object, name) => {
             Ok(clear_property(view, programmer, object, &name)?)
         }

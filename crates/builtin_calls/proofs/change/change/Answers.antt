@@ -3,10 +3,18 @@ use Rattle.std.proofs.lemmas.Int.{to_z-of_z}
 use Rattle.spec_moo.specs.Natives.Tasks.{shutdown_row}
 use Rattle.moo_value.specs.Answers.{answer_of}
 use Rattle.builtins_world.proofs.Keeping.{goes_well}
-use Rattle.builtin_requests.specs.declared.changing.Changing.TheVariants.{SetPropertyInfo, ClearProperty, SetVerbInfo, SetVerbArgs, AddVerb, DeleteVerb, Shutdown}
+use Rattle.builtin_requests.specs.declared.changing.Changing.TheVariants.{Chparent, SetPropertyInfo, AddProperty, DeleteProperty, ClearProperty, SetVerbInfo, SetVerbArgs, AddVerb, DeleteVerb, Shutdown}
 use Rattle.builtin_calls.proofs.Ending.{shutdown_keeps}
 use Rattle.builtin_calls.proofs.Requested.{done_so}
 use Rattle.builtin_calls.proofs.change.change.Goals as goal
+
+pub returns-in-Chparent-clause-left : goal.returns-in-Chparent-clause-left
+returns-in-Chparent-clause-left g c =
+    let object : to_z w32 (of_z w32 c.in-Chparent.object) ≡ c.in-Chparent.object = search rules in
+    let parent : to_z w32 (of_z w32 c.in-Chparent.parent) ≡ c.in-Chparent.parent = search rules in
+    let programmer = to_z-of_z w32 c.args.programmer c.ranges.programmer in
+    done_so g.V.View.holds g.V.View.now c.args.view.now c.chparent.new.view c.args.programmer (answer_of c.in_ok-chparent-in-Chparent.field-0) c.args.changing (Chparent c.in-Chparent.object c.in-Chparent.parent) c.in-Chparent.is
+    (rw (object, parent, programmer) at c.in_ok-chparent-in-Chparent.ensures.left)
 
 pub returns-in-SetPropertyInfo-clause-left : goal.returns-in-SetPropertyInfo-clause-left
 returns-in-SetPropertyInfo-clause-left g c =
@@ -15,6 +23,21 @@ returns-in-SetPropertyInfo-clause-left g c =
     let programmer = to_z-of_z w32 c.args.programmer c.ranges.programmer in
     done_so g.V.View.holds g.V.View.now c.args.view.now c.set_property_info.new.view c.args.programmer (answer_of c.in_ok-set_property_info-in-SetPropertyInfo.field-0) c.args.changing (SetPropertyInfo c.in-SetPropertyInfo.object c.in-SetPropertyInfo.name c.in-SetPropertyInfo.owner c.in-SetPropertyInfo.bits) c.in-SetPropertyInfo.is
     (rw (object, owner, programmer) at c.in_ok-set_property_info-in-SetPropertyInfo.ensures.left)
+
+pub returns-in-AddProperty-clause-left : goal.returns-in-AddProperty-clause-left
+returns-in-AddProperty-clause-left g c =
+    let object : to_z w32 (of_z w32 c.in-AddProperty.object) ≡ c.in-AddProperty.object = search rules in
+    let owner : to_z w32 (of_z w32 c.in-AddProperty.owner) ≡ c.in-AddProperty.owner = search rules in
+    let programmer = to_z-of_z w32 c.args.programmer c.ranges.programmer in
+    done_so g.V.View.holds g.V.View.now c.args.view.now c.add_property.new.view c.args.programmer (answer_of c.in_ok-add_property-in-AddProperty.field-0) c.args.changing (AddProperty c.in-AddProperty.object c.in-AddProperty.name c.in-AddProperty.value c.in-AddProperty.owner c.in-AddProperty.bits) c.in-AddProperty.is
+    (rw (object, owner, programmer) at c.in_ok-add_property-in-AddProperty.ensures.left)
+
+pub returns-in-DeleteProperty-clause-left : goal.returns-in-DeleteProperty-clause-left
+returns-in-DeleteProperty-clause-left g c =
+    let object : to_z w32 (of_z w32 c.in-DeleteProperty.object) ≡ c.in-DeleteProperty.object = search rules in
+    let programmer = to_z-of_z w32 c.args.programmer c.ranges.programmer in
+    done_so g.V.View.holds g.V.View.now c.args.view.now c.delete_property.new.view c.args.programmer (answer_of c.in_ok-delete_property-in-DeleteProperty.field-0) c.args.changing (DeleteProperty c.in-DeleteProperty.object c.in-DeleteProperty.name) c.in-DeleteProperty.is
+    (rw (object, programmer) at c.in_ok-delete_property-in-DeleteProperty.ensures.left)
 
 pub returns-in-ClearProperty-clause-left : goal.returns-in-ClearProperty-clause-left
 returns-in-ClearProperty-clause-left g c =

@@ -5,6 +5,9 @@
 
 pub mod asked;
 pub mod chparent;
+<<<<<<< ours
 pub mod departing;
+=======
+>>>>>>> theirs
 pub mod players;
 pub mod recycling;

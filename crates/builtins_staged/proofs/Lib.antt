@@ -1,0 +1,7 @@
+pub mod Leading
+pub mod Children
+pub mod Creating
+pub mod Beginning
+pub mod Ways
+pub mod Telling
+pub mod Refusing

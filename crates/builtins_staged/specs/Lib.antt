@@ -1,0 +1,3 @@
+pub mod Led
+pub mod Children
+pub mod Moves

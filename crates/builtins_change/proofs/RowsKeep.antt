@@ -29,11 +29,7 @@ set_property_info_keeps _ s c h = h
 
 -- ---- verbs
 
-<<<<<<< ours
 pub changed_verb : (w : World) (o : ℤ) (n : ℕ) (f : Verb → Verb) → IsStanding w → IsStanding (verb_changed w o n f)
-=======
-pub changed_verb : (w : World) (o : ℤ) (n : ℕ) (f : Verb → Verb) → ObjectsAgree w → ObjectsAgree (verb_changed w o n f)
->>>>>>> theirs
 unfolding verb_changed
 changed_verb w o n f h =
     attributes_stand w o (λ x. record x { verbs = with_verb x.verbs n f }) h (λ x. record { parent = refl; location = refl; children = refl; contents = refl; defines = refl; slots = refl }) (λ x. refl)
@@ -48,11 +44,7 @@ unfolding verb_deleted
 deleted_verb w o n h =
     attributes_stand w o (λ x. record x { verbs = without_verb x.verbs n }) h (λ x. record { parent = refl; location = refl; children = refl; contents = refl; defines = refl; slots = refl }) (λ x. refl)
 
-<<<<<<< ours
 pub verb_there : (s : Scene) (o : ℤ) (d : Datum) (f : ℕ → Verb → NativeEffect) → IsStanding s.world → ((n : ℕ) (v : Verb) → LeavesWell (f n v)) → LeavesWell (if_verb s o d f)
-=======
-pub verb_there : (s : Scene) (o : ℤ) (d : Datum) (f : ℕ → Verb → NativeEffect) → ObjectsAgree s.world → ((n : ℕ) (v : Verb) → LeavesWell (f n v)) → LeavesWell (if_verb s o d f)
->>>>>>> theirs
 verb_there s o d f h more =
     there s invalid_argument (object_at s.world o) _ h (λ x e. there s verb_not_found (verb_place x.verbs d) _ h (λ n k. there s verb_not_found (in_place x.verbs n) (f n) h (λ v l. more n v)))
 

@@ -134,11 +134,7 @@ deleted_does holds now a b c d e o p ts ds who v zero known first named second t
     let r = first w s.0 in
     let same : now d w ≡ now a w = t.1.0 ∙ s.1.0 ∙ r.1.0 in
     let after : now e w ≡ property_deleted (now d w) o p =
-<<<<<<< ours
     u.1 (subst ObjectsAgree (sym same) (known w r.0).objects) (subst (λ v. IsFamily v o ds) (sym t.1.0) t.1.1) (subst (λ v. defines_at v o ≡ Some ts) (sym same) r.1.1)
-=======
-    u.1 (subst ObjectsAgree (sym same) (known w r.0)) (subst (λ v. IsFamily v o ds) (sym t.1.0) t.1.1) (subst (λ v. defines_at v o ≡ Some ts) (sym same) r.1.1)
->>>>>>> theirs
     in
     let changed : property_deleted (now a w) o p ≡ now e w = sym (after ∙ ap (λ v. property_deleted v o p) same) in (
       r.0,

@@ -1,29 +1,13 @@
 -- Objects that are changed one after the other are changed at once.
-<<<<<<< ours
 use Rattle.std.proofs.Common.{◌≡◌, ◌⊎◌, inl, inr, ℤ, Bool, true, false, List, Option, Some, None, refl, sym, ap, ◌∙◌, subst, cond, IsTrue, is_some, Result, Ok, Err, OnOk}
 use Rattle.std.specs.Prelude.{option_map}
 use Rattle.std.specs.Ordering.{int_eq}
 use Rattle.spec_value.specs.Datum.{Text}
-=======
-use Rattle.std.proofs.Common.{◌≡◌, ◌⊎◌, inl, inr, ℤ, Bool, true, false, not, ◌||◌, List, [], ◌∷◌, Option, Some, None, refl, sym, ap, ◌∙◌, subst, cond, IsTrue, is_some, int_cmp, Result, Ok, Err, OnOk}
-use Rattle.std.specs.Prelude.{option_map}
-use Rattle.std.specs.Ordering.{int_eq}
-use Rattle.std.specs.Cmp.{int_cmp_total}
-use Rattle.std.specs.FinMap.{int_cmp-IsAntisymmetric}
-use Rattle.std.specs.FinMap.Entries.{same_entries}
-use Rattle.spec_value.specs.Datum.{Text}
-use Rattle.spec_value.specs.Table.{Numbered, at, is_numbered}
-use Rattle.spec_value.proofs.Keys.{as_type}
->>>>>>> theirs
 use Rattle.spec_value.proofs.Same.{integer_itself}
 use Rattle.spec_world.specs.World.{World, Object, object_at}
 use Rattle.spec_world.specs.WellFormed.{lists}
 use Rattle.spec_world.specs.Agreeing.{ObjectsAgree}
-<<<<<<< ours
 use Rattle.spec_world.specs.Families.{change_at, change_object, change_each, is_below}
-=======
-use Rattle.spec_world.specs.Families.{change_at, change_object, change_each, changed_each, is_below}
->>>>>>> theirs
 use Rattle.spec_view.specs.Questions.{defines_at, apply, new_part, new_defines}
 use Rattle.spec_world.proofs.Trees.{same_or_not, some_same}
 use Rattle.spec_world.proofs.Households.{at_each, each_numbered, change_numbered}

@@ -1,4 +1,3 @@
-<<<<<<< ours
 -- Properties that come and go: a world that stood stands afterwards.
 use Rattle.std.proofs.Common.{◌≡◌, Bool, true, false, not, ◌&&◌, List, [], ◌∷◌, Option, Some, None, refl, sym, ap, ◌∙◌, is_none}
 use Rattle.std.specs.Prelude.{codes}
@@ -15,25 +14,6 @@ use Rattle.spec_moo.specs.Natives.Properties.{are_bits, defines_it, defined_belo
 use Rattle.inherit.specs.Standing.{IsStanding}
 use Rattle.inherit.proofs.ObjectsStand.{property_added_stands, property_deleted_stands}
 use Rattle.builtins_world.proofs.Keeping.{Keeping, tested, there}
-=======
--- Properties that come and go: what a world's objects agreed on they agree on afterwards.
-use Rattle.std.proofs.Common.{◌≡◌, ℤ, Bool, true, false, not, ◌&&◌, List, [], ◌∷◌, Option, Some, None, refl, sym, ap, ◌∙◌, is_none}
-use Rattle.std.specs.Prelude.{codes}
-use Rattle.spec_value.specs.Datum.{Datum, object, text, list, no_data, item, Text, invalid_argument}
-use Rattle.spec_value.proofs.Entries.{first_holds, second_holds}
-use Rattle.spec_world.specs.World.{World, Object, Slot, object_at}
-use Rattle.spec_world.specs.Inherit.{slot_at}
-use Rattle.spec_world.specs.Agreeing.{ObjectsAgree}
-use Rattle.spec_world.specs.Permissions.{change_members, change_owner, may}
-use Rattle.spec_world.specs.Families.{is_below}
-use Rattle.spec_world.specs.Members.{property_added, property_deleted}
-use Rattle.spec_world.proofs.PropertyChanges.{none_passes}
-use Rattle.spec_world.proofs.ObjectsKept.{property_added_keeps, property_deleted_keeps}
-use Rattle.spec_moo.specs.Scene.{Scene, in_world}
-use Rattle.spec_moo.specs.Natives.Rows.{is_valid}
-use Rattle.spec_moo.specs.Natives.Properties.{are_bits, defines_it, defined_below, is_new_name, slot_with, add_property_row, delete_property_row}
-use Rattle.builtins_world.proofs.Keeping.{LeavesWell, Keeping, tested, there}
->>>>>>> theirs
 
 is_not : (b : Bool) → not b ≡ true → b ≡ false
 is_not true h = cc
@@ -50,19 +30,11 @@ add_property_keeps (object o ∷ text p ∷ v ∷ list (item (object owner) (ite
     tested (may s.world c.call.programmer (change_owner c.call.programmer owner)) _ _ h (λ k2.
     tested (is_new_name s o p && are_bits (codes "rwc") b && is_valid s owner) _ _ h (λ k3. go x e (first_holds (is_new_name s o p) _ (first_holds _ (is_valid s owner) k3))))))
   where
-<<<<<<< ours
     go : (x : Object) → object_at s.world o ≡ Some x → is_new_name s o p ≡ true → IsStanding (property_added s.world o p (slot_with v owner b))
     go x e k =
         let above : slot_at s.world o p ≡ None = nothing _ (second_holds _ (is_none (slot_at s.world o p)) (first_holds _ (not (defined_below s.world o p)) k)) in
         let below : defined_below s.world o p ≡ false = is_not _ (second_holds _ (not (defined_below s.world o p)) k) in
         property_added_stands s.world o p (slot_with v owner b) x e h refl above
-=======
-    go : (x : Object) → object_at s.world o ≡ Some x → is_new_name s o p ≡ true → ObjectsAgree (property_added s.world o p (slot_with v owner b))
-    go x e k =
-        let above : slot_at s.world o p ≡ None = nothing _ (second_holds _ (is_none (slot_at s.world o p)) (first_holds _ (not (defined_below s.world o p)) k)) in
-        let below : defined_below s.world o p ≡ false = is_not _ (second_holds _ (not (defined_below s.world o p)) k) in
-        property_added_keeps s.world o p (slot_with v owner b) x e h refl above
->>>>>>> theirs
         (λ q y is under. sym (ap (λ a. a && defines_it y p) under) ∙ none_passes (λ d z. is_below s.world o d && defines_it z p) s.world.objects below q y is)
 add_property_keeps _ s c h = h
 
@@ -71,9 +43,5 @@ delete_property_keeps (object o ∷ text p ∷ []) s c h =
     there s invalid_argument (object_at s.world o) _ h (λ x e.
     tested (defines_it x p) _ _ h (λ k1.
     tested (may s.world c.call.programmer (change_members o)) _ _ h (λ k2.
-<<<<<<< ours
     property_deleted_stands s.world o p x e h k1)))
-=======
-    property_deleted_keeps s.world o p x e h k1)))
->>>>>>> theirs
 delete_property_keeps _ s c h = h

@@ -1,37 +1,20 @@
 -- Slots that come and go with a property, and whether one below an object defines it.
-<<<<<<< ours
 use Rattle.std.proofs.Common.{◌≡◌, ℤ, false, not, ◌||◌, List, [], ◌∷◌, ◌++◌, filter, Option, Some, None, refl, sym, ap, ◌∙◌, cond, Result, Ok, Err, OnOk, nat_cmp, Ordering, Less, Equal, Greater}
 use Rattle.std.specs.Prelude.{option_map}
 use Rattle.std.specs.Ordering.{int_eq}
-=======
-use Rattle.std.proofs.Common.{◌≡◌, ◌⊎◌, inl, inr, ℤ, Bool, true, false, not, ◌||◌, ◌&&◌, List, [], ◌∷◌, ◌++◌, filter, Option, Some, None, refl, sym, ap, ◌∙◌, subst, cond, IsTrue, is_some, Result, Ok, Err, OnOk, nat_cmp, Ordering, Less, Equal, Greater}
-use Rattle.std.specs.Prelude.{option_map}
-use Rattle.std.specs.Ordering.{int_eq}
-use Rattle.std.specs.List.{list_any}
->>>>>>> theirs
 use Rattle.std.specs.Cmp.{tied_itself}
 use Rattle.std.specs.Cmp.Lexicographic.{slice_cmp}
 use Rattle.std.specs.FinMap.Entries.{by_order}
 use Rattle.spec_value.specs.Datum.{Text, fold_case, same_text}
-<<<<<<< ours
 use Rattle.spec_value.specs.Table.{Named, with_name}
-=======
-use Rattle.spec_value.specs.Table.{Numbered, Named, with_name, at, is_numbered}
->>>>>>> theirs
 use Rattle.spec_value.proofs.Same.{integer_itself}
 use Rattle.spec_world.specs.World.{World, Header, Object, Slot, object_at, with_object}
 use Rattle.spec_world.specs.Inherit.{with_slot, put_slot}
 use Rattle.spec_world.specs.WellFormed.{passes}
 use Rattle.spec_world.specs.Agreeing.{ObjectsAgree}
-<<<<<<< ours
 use Rattle.spec_world.specs.Families.{change_at, change_object, heir_slot}
 use Rattle.spec_world.specs.Members.{property_added, property_deleted, with_own_slot}
 use Rattle.spec_view.specs.Questions.{header_at, defines_at}
-=======
-use Rattle.spec_world.specs.Families.{change_at, change_object, heir_slot, is_below}
-use Rattle.spec_world.specs.Members.{property_added, property_deleted, with_own_slot, lose_slot}
-use Rattle.spec_view.specs.Questions.{Part, header_at, defines_at, apply, new_part, new_slot}
->>>>>>> theirs
 use Rattle.spec_world.proofs.SlotChanges.{names_total}
 use Rattle.spec_world.proofs.Trees.{some_same}
 use Rattle.spec_moo.specs.Natives.Properties.{defines_it, defined_below}

@@ -1,9 +1,5 @@
 -- Checks before a change, one after the other.
-<<<<<<< ours
 use Rattle.std.proofs.Common.{◌≡◌, ℤ, Bool, true, false, not, ◌&&◌, List, [], ◌∷◌, Option, Some, None, Result, Ok, Err, refl, sym, ap, ◌∙◌, subst, is_some, if◌then◌else◌}
-=======
-use Rattle.std.proofs.Common.{◌≡◌, ℤ, Bool, true, false, not, ◌&&◌, ◌||◌, List, [], ◌∷◌, Option, Some, None, Result, Ok, Err, refl, sym, ap, ◌∙◌, subst, is_some, if◌then◌else◌}
->>>>>>> theirs
 use Rattle.std.specs.Prelude.{option_map, IfOk}
 use Rattle.spec_value.specs.Datum.{ErrorCode}
 use Rattle.spec_world.specs.World.{World, Header, Object, object_at}

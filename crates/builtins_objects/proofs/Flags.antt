@@ -1,14 +1,9 @@
 -- `set_player_flag`, call by call.
-<<<<<<< ours
 use Rattle.std.proofs.Common.{◌≡◌, ◌⊎◌, inl, inr, ℕ, ℤ, Bool, true, false, not, [], ◌∷◌, Option, Some, None, Result, Ok, Err, OnOk, refl, sym, ap, ◌∙◌, subst, cond, IsTrue}
-=======
-use Rattle.std.proofs.Common.{◌≡◌, ◌⊎◌, inl, inr, ℕ, ℤ, Bool, true, false, not, [], ◌∷◌, Option, Some, None, Result, Ok, Err, OnOk, refl, sym, ap, ◌∙◌, subst, cond, IsTrue, if◌then◌else◌}
->>>>>>> theirs
 use Rattle.std.specs.Prelude.{option_map, IfOk, pos}
 use Rattle.std.specs.Ordering.{int_eq}
 use Rattle.spec_value.specs.Datum.{Datum, ErrorCode, object, is_true}
 use Rattle.spec_value.specs.Table.{at}
-<<<<<<< ours
 use Rattle.spec_world.specs.World.{World, Object, Link, object_at}
 use Rattle.spec_world.specs.WellFormed.{passes}
 use Rattle.spec_world.specs.Families.{change_object}
@@ -19,36 +14,16 @@ use Rattle.spec_world.proofs.WorldsKept.{IsPlayer, IsNobodys, change_rest, nobod
 use Rattle.spec_moo.specs.Scene.{Scene}
 use Rattle.spec_moo.specs.Linking.{connection_closed, link_closed}
 use Rattle.spec_moo.specs.NativeEffect.{Caller, refuses}
-=======
-use Rattle.spec_world.specs.World.{World, Object, Link, Task, object_at}
-use Rattle.spec_world.specs.WellFormed.{IsWellFormed, passes}
-use Rattle.spec_world.specs.Families.{change_object}
-use Rattle.spec_world.specs.Links.{connection_of, reads_on, close_link}
-use Rattle.spec_world.proofs.ObjectChanges.{at_change}
-use Rattle.spec_world.proofs.ObjectsKept.{attributes_keep}
-use Rattle.spec_world.proofs.TablesKept.{at_left}
-use Rattle.spec_world.proofs.WorldsKept.{IsPlayer, IsNobodys, change_rest, objects_changed, nobodys, none_among, closed_is_free, link_closed_keeps, well_formed_agrees, agrees_is_well_formed, agrees_of}
-use Rattle.spec_moo.specs.Scene.{Scene}
-use Rattle.spec_moo.specs.Linking.{connection_closed, link_closed}
-use Rattle.spec_moo.specs.NativeEffect.{Caller, NativeEffect, answers, refuses}
->>>>>>> theirs
 use Rattle.spec_moo.specs.Natives.Rows.{answers_with, zero_value}
 use Rattle.spec_moo.specs.Natives.Objects.{with_flag, set_player_flag_row}
 use Rattle.moo_value.specs.Errors.{code_of}
 use Rattle.moo_value.specs.declared.error.MooError.{MooError}
 use Rattle.moo_task.specs.Deeds.{scene_of}
-<<<<<<< ours
 use Rattle.moo_task.specs.declared.deeds.Deeds.{Deeds}
 use Rattle.moo_task.specs.declared.effect.NativeEffect.TheVariants.{Answers}
 use Rattle.inherit.specs.Lines.{AreAgreeing}
 use Rattle.inherit.specs.Standing.{IsStanding}
 use Rattle.inherit.proofs.Standing.{objects_stand_for, closed_stands, closed_is_nobodys}
-=======
-use Rattle.moo_task.specs.Effects.{effect_of}
-use Rattle.moo_task.specs.declared.deeds.Deeds.{Deeds}
-use Rattle.moo_task.specs.declared.effect.NativeEffect.TheVariants.{Answers}
-use Rattle.inherit.specs.Lines.{AreWellFormed}
->>>>>>> theirs
 use Rattle.world.specs.Law.{Goes, Tells}
 use Rattle.builtins_world.specs.Said.{with_programmer}
 use Rattle.builtins_world.proofs.Keeping.{world_left}
@@ -117,11 +92,7 @@ module _ {V : Type 0} (holds : V → World → Type 0) (now : V → World → Wo
             ∙ ap (λ y. answers_with (scene_of f (now c w) n) y) (sym zero),
       )
 
-<<<<<<< ours
 -- ---- a world that stands stays so
-=======
--- ---- a world stays well formed
->>>>>>> theirs
 
 still_player : (w : World) (o q : ℤ) (flag : Bool) → (flag ≡ true) ⊎ (int_eq q o ≡ false) → IsPlayer w q → IsPlayer (change_object w o (given_flag flag)) q
 still_player w o q flag why h = ap (λ m. passes m (λ x. x.header.is_player)) (at_change w o q (given_flag flag)) ∙ go (object_at w q) (int_eq q o) refl why h
@@ -133,29 +104,16 @@ still_player w o q flag why h = ap (λ m. passes m (λ x. x.header.is_player)) (
     go (Some y) true s (inl k) j = k
     go (Some y) true s (inr k) j = absurd (cc (s, k))
 
-<<<<<<< ours
 given_well : (w : World) (o : ℤ) (flag : Bool) → IsStanding w → (flag ≡ true) ⊎ IsNobodys w o → IsStanding (change_object w o (given_flag flag))
 given_well w o flag h why =
     objects_stand_for w (change_object w o (given_flag flag)) h
     (attributes_keep w o (given_flag flag) h.objects (λ x. record { parent = refl; location = refl; children = refl; contents = refl; defines = refl; slots = refl }))
     (change_rest w o (given_flag flag)) (λ c k e p. still_player w o k.person flag (of_link why c k e) p)
-=======
-given_well : (w : World) (o : ℤ) (flag : Bool) → IsWellFormed w → (flag ≡ true) ⊎ IsNobodys w o → IsWellFormed (change_object w o (given_flag flag))
-given_well w o flag h why =
-    let parts = well_formed_agrees w h in
-    let rest = change_rest w o (given_flag flag) in
-    agrees_is_well_formed (change_object w o (given_flag flag))
-    (objects_changed w (change_object w o (given_flag flag)) parts.0
-    (attributes_keep w o (given_flag flag) parts.0.objects (λ x. record { parent = refl; location = refl; children = refl; contents = refl; defines = refl; slots = refl }))
-    rest (λ c k e p. still_player w o k.person flag (of_link why c k e) p))
-    (λ i t e. parts.1 i t (ap (λ ts. at ts i) (sym rest.tasks) ∙ e))
->>>>>>> theirs
   where
     of_link : (flag ≡ true) ⊎ IsNobodys w o → (c : ℤ) (k : Link) → at w.links c ≡ Some k → (flag ≡ true) ⊎ (int_eq k.person o ≡ false)
     of_link (inl e) c k is = inl e
     of_link (inr e) c k is = inr (e c k is)
 
-<<<<<<< ours
 pub closed_well : (s : Scene) (o : ℤ) → IsStanding s.world → IsStanding (link_closed s o).world
 closed_well s o h = go (connection_of s.world o)
   where
@@ -164,27 +122,10 @@ closed_well s o h = go (connection_of s.world o)
     go (Some c) = closed_stands s.world c h
 
 pub closed_nobodys : (s : Scene) (o : ℤ) → IsStanding s.world → IsNobodys (link_closed s o).world o
-=======
-closed_well : (s : Scene) (o : ℤ) → IsWellFormed s.world → IsWellFormed (link_closed s o).world
-unfolding close_link
-closed_well s o h = go (connection_of s.world o)
-  where
-    closed : (c : ℤ) → IsWellFormed (close_link s.world c)
-    closed c =
-        let parts = well_formed_agrees s.world h in
-        agrees_is_well_formed (close_link s.world c) (link_closed_keeps s.world c parts.0) (λ i t e. parts.1 i t (at_left (λ (m : ℤ × Task). not (reads_on c (m.1).waiting)) s.world.tasks h.tasks_in_order i t e).0)
-
-    go : (m : Option ℤ) → IsWellFormed (connection_closed s m).world
-    go None = h
-    go (Some c) = closed c
-
-closed_nobodys : (s : Scene) (o : ℤ) → IsWellFormed s.world → IsNobodys (link_closed s o).world o
->>>>>>> theirs
 closed_nobodys s o h = go (connection_of s.world o) refl
   where
     go : (m : Option ℤ) → connection_of s.world o ≡ m → IsNobodys (connection_closed s m).world o
     go None e = nobodys s.world o (none_among s.world.links o e)
-<<<<<<< ours
     go (Some c) e = closed_is_nobodys s.world c o h e
 
 flagged_well : (s : Scene) (o : ℤ) (flag : Bool) → IsStanding s.world → IsStanding (flagged s o flag).world
@@ -192,15 +133,6 @@ flagged_well s o true h = given_well s.world o true h (inl refl)
 flagged_well s o false h = given_well (link_closed s o).world o false (closed_well s o h) (inr (closed_nobodys s o h))
 
 decided_well : (s : Scene) (o : ℤ) (flag : Bool) (m : Option ErrorCode) → IsStanding s.world → IsStanding (world_left (by_verdict s m (answers_with (flagged s o flag) zero_value)))
-=======
-    go (Some c) e = nobodys (close_link s.world c) o (closed_is_free s.world c o (agrees_of s.world h) e)
-
-flagged_well : (s : Scene) (o : ℤ) (flag : Bool) → IsWellFormed s.world → IsWellFormed (flagged s o flag).world
-flagged_well s o true h = given_well s.world o true h (inl refl)
-flagged_well s o false h = given_well (link_closed s o).world o false (closed_well s o h) (inr (closed_nobodys s o h))
-
-decided_well : (s : Scene) (o : ℤ) (flag : Bool) (m : Option ErrorCode) → IsWellFormed s.world → IsWellFormed (world_left (by_verdict s m (answers_with (flagged s o flag) zero_value)))
->>>>>>> theirs
 decided_well s o flag None h = flagged_well s o flag h
 decided_well s o flag (Some e) h = h
 
@@ -215,19 +147,11 @@ some_caller =
 
 pub flags_well : {V E : Type 0} (holds : V → World → Type 0) (now : V → World → World) (a b : V) (d f : Deeds) (who o : ℤ) (v : Datum) (r : Result (Result Datum MooError) E)
     → IfOk r (λ x. Goes holds now a b (λ before after. Acts (λ s c. set_player_flag_row s c (object o ∷ v ∷ [])) d before who (Answers x) f after))
-<<<<<<< ours
     → AreAgreeing holds now a → OnOk r (AreAgreeing holds now b)
-=======
-    → AreWellFormed holds now a → OnOk r (AreWellFormed holds now b)
->>>>>>> theirs
 flags_well holds now a b d f who o v (Err e) told known = tt
 flags_well holds now a b d f who o v (Ok x) told known = λ w left.
     let t = told w left in
     let s : Scene = scene_of d (now a w) 0 in
     let after : world_left (set_player_flag_row s (with_programmer some_caller who) (object o ∷ v ∷ [])) ≡ now b w = ap world_left (t.1 0 some_caller) in
-<<<<<<< ours
     subst IsStanding (ap world_left (sym (row_is s some_caller who o v)) ∙ after)
-=======
-    subst IsWellFormed (ap world_left (sym (row_is s some_caller who o v)) ∙ after)
->>>>>>> theirs
     (decided_well s o (is_true v) (verdict (flag_checks (now a w) who o)) (known w t.0))

@@ -1,49 +1,30 @@
 -- An object goes, call by call.
-<<<<<<< ours
 use Rattle.std.proofs.Common.{◌≡◌, ℕ, suc, ◌+◌, ◌<◌, ℤ, pos, List, ◌∷◌, length, get_or, drop, Option, Some, None, Result, Ok, Err, OnOk, refl, sym, ap, ◌∙◌, subst, arith}
-=======
-use Rattle.std.proofs.Common.{◌≡◌, ℕ, suc, ◌+◌, ◌<◌, ℤ, pos, true, List, [], ◌∷◌, length, get_or, drop, Option, Some, None, Result, Ok, Err, OnOk, refl, sym, ap, ◌∙◌, subst, IsTrue, is_some, arith}
->>>>>>> theirs
 use Rattle.std.proofs.Math.Seq.{drop-cons}
 use Rattle.std.specs.Prelude.{option_map}
 use Rattle.std.specs.Ordering.{int_eq}
 use Rattle.spec_value.proofs.Same.{integer_itself}
 use Rattle.spec_world.specs.World.{World, Header, Object, object_at}
-<<<<<<< ours
 use Rattle.spec_world.specs.Families.{parent_of, reparented, reparented_each, to_nowhere, lose_child, out_of_place, recycled_object, recycled}
 use Rattle.spec_world.proofs.WorldsKept.{IsNobodys, reparented_rest, reparented_players}
-=======
-use Rattle.spec_world.specs.Agreeing.{ObjectsAgree}
-use Rattle.spec_world.specs.Families.{parent_of, reparented, reparented_each, to_nowhere, lose_child, out_of_place, recycled_object, recycled}
-use Rattle.spec_world.proofs.ObjectsKept.{recycled_keeps}
->>>>>>> theirs
 use Rattle.spec_world.proofs.Trees.{some_same, first_of}
 use Rattle.spec_world.proofs.WorldTrees.{object_there}
 use Rattle.spec_world.proofs.Households.{Household, household, objects_agree}
 use Rattle.spec_world.proofs.Recycling.{child_household, fewer_children}
 use Rattle.spec_view.specs.Questions.{header_at, children_at, contents_at, apply, new_object}
 use Rattle.inherit.specs.Lines.{AreAgreeing}
-<<<<<<< ours
 use Rattle.inherit.specs.Standing.{IsStanding}
 use Rattle.inherit.proofs.Standing.{objects_stand}
 use Rattle.inherit.proofs.ObjectsStand.{recycled_stands}
-=======
->>>>>>> theirs
 use Rattle.family.specs.Below.{IsFamily}
 use Rattle.world.specs.Law.{Goes, Tells}
 use Rattle.builtins_objects.specs.Going.{HasChildren, forgotten}
 
 -- ---- one child goes
 
-<<<<<<< ours
 module _ (w : World) (sound : IsStanding w) (o p c : ℤ) (cs : List ℤ) (has : HasChildren w o p (c ∷ cs)) where
   house : Household w
   house = household w sound.objects
-=======
-module _ (w : World) (sound : ObjectsAgree w) (o p c : ℤ) (cs : List ℤ) (has : HasChildren w o p (c ∷ cs)) where
-  house : Household w
-  house = household w sound
->>>>>>> theirs
 
   pub child_of : parent_of (object_at w c) ≡ o
   child_of =
@@ -51,13 +32,8 @@ module _ (w : World) (sound : ObjectsAgree w) (o p c : ℤ) (cs : List ℤ) (has
       let x = object_there (λ z. z.header.parent) (λ z. z.children) w c y.0 y.1 in
       ap parent_of x.1 ∙ sym (ap (λ (n : ℤ × List ℤ). n.0) x.2) ∙ y.2
 
-<<<<<<< ours
   pub raised_well : IsStanding (reparented w c p)
   raised_well = objects_stand w (reparented w c p) sound (objects_agree (reparented w c p) (child_household w o p c cs house has)) (reparented_rest w c p) (reparented_players w c p)
-=======
-  pub raised_well : ObjectsAgree (reparented w c p)
-  raised_well = objects_agree (reparented w c p) (child_household w o p c cs house has)
->>>>>>> theirs
 
   pub raised_has : HasChildren (reparented w c p) o p cs
   raised_has = fewer_children w o p c cs house has
@@ -79,11 +55,7 @@ module _ {V : Type 0} (holds : V → World → Type 0) (now : V → World → Wo
       let v = first w u.0 in
       subst (λ y. HasChildren y o h.parent cs) (sym (t.1.0 ∙ u.1.0 ∙ v.1.0)) (go (object_at (now a w) o) v.1.1 (subst (λ y. children_at y o ≡ Some cs) v.1.0 u.1.1))
     where
-<<<<<<< ours
       go : (m : Option Object) → option_map (λ x. x.header) m ≡ Some h → option_map (λ x. x.children) m ≡ Some cs → option_map {U = ℤ × List ℤ} (λ x. (x.header.parent, x.children)) m ≡ Some (h.parent, cs)
-=======
-      go : (m : Option Object) → option_map (λ x. x.header) m ≡ Some h → option_map (λ x. x.children) m ≡ Some cs → option_map (λ x. (x.header.parent, x.children)) m ≡ Some (h.parent, cs)
->>>>>>> theirs
       go None e f = cc
       go (Some x) e f = λ i. Some ((some_same e i).parent, some_same f i)
 
@@ -117,7 +89,6 @@ absent_told get holds now a b o told w left = let t = told w left in (t.0, t.1.0
     go None e = refl
     go (Some x) e = cc
 
-<<<<<<< ours
 -- it is there, and so are its children and its contents
 pub never_told : {X V : Type 0} (get : Object → X) (holds : V → World → Type 0) (now : V → World → World) (a b c : V) (o : ℤ) (h : Header) → Tells holds now a b (λ w. header_at w o ≡ Some h)
     → Tells holds now b c (λ w. option_map get (object_at w o) ≡ None) → Goes holds now a c (λ was is. is ≡ recycled was o)
@@ -130,8 +101,6 @@ never_told get holds now a b c o h first second w left =
     go None e f = cc
     go (Some x) e f = cc
 
-=======
->>>>>>> theirs
 -- its parent and its place forget it, and it is gone
 pub forgot_told : {V A E : Type 0} (holds : V → World → Type 0) (now : V → World → World) (a b c d : V) (r : Result A E) (o parent place : ℤ)
     → Goes holds now a b (λ was is. is ≡ lose_child was parent o) → Goes holds now b c (λ was is. is ≡ out_of_place was place o)
@@ -143,19 +112,11 @@ forgot_told holds now a b c d (Ok x) o parent place first second third = λ w le
     let v = first w u.0 in
     (v.0, t.1 ∙ ap (apply (new_object o None)) (u.1 ∙ ap (λ y. out_of_place y place o) v.1))
 
-<<<<<<< ours
 -- those that are left agree, if it was no link's person
 pub gone_well : {V A E : Type 0} (holds : V → World → Type 0) (now : V → World → World) (a b : V) (r : Result A E) (o : ℤ) → OnOk r (Goes holds now a b (λ was is. is ≡ recycled was o))
     → AreAgreeing holds now a → ((w : World) → holds a w → IsNobodys (now a w) o) → OnOk r (AreAgreeing holds now b)
 gone_well holds now a b (Err x) o told known free = tt
 gone_well holds now a b (Ok x) o told known free = λ w left. let t = told w left in subst IsStanding (sym t.1) (recycled_stands (now a w) o (known w t.0) (free w t.0))
-=======
--- those that are left agree
-pub gone_well : {V A E : Type 0} (holds : V → World → Type 0) (now : V → World → World) (a b : V) (r : Result A E) (o : ℤ) → OnOk r (Goes holds now a b (λ was is. is ≡ recycled was o))
-    → AreAgreeing holds now a → OnOk r (AreAgreeing holds now b)
-gone_well holds now a b (Err x) o told known = tt
-gone_well holds now a b (Ok x) o told known = λ w left. let t = told w left in subst ObjectsAgree (sym t.1) (recycled_keeps (now a w) o (known w t.0))
->>>>>>> theirs
 
 -- ---- the children that are left
 
@@ -189,11 +150,7 @@ module _ {V : Type 0} (holds : V → World → Type 0) (now : V → World → Wo
   after_one w left = let t = told w left in t.1 (child_of (now a w) (known w t.0) o p c cs (has w t.0))
 
   pub well_after : AreAgreeing holds now b
-<<<<<<< ours
   well_after w left = let t = told w left in subst IsStanding (sym (after_one w left)) (raised_well (now a w) (known w t.0) o p c cs (has w t.0))
-=======
-  well_after w left = let t = told w left in subst ObjectsAgree (sym (after_one w left)) (raised_well (now a w) (known w t.0) o p c cs (has w t.0))
->>>>>>> theirs
 
   pub has_after : (w : World) → holds b w → HasChildren (now b w) o p cs
   has_after w left = let t = told w left in subst (λ y. HasChildren y o p cs) (sym (after_one w left)) (raised_has (now a w) (known w t.0) o p c cs (has w t.0))

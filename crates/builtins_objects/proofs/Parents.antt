@@ -1,5 +1,4 @@
 -- `chparent`, call by call.
-<<<<<<< ours
 use Rattle.std.proofs.Common.{◌≡◌, ◌≢◌, ◌⊎◌, inl, inr, ℤ, Bool, true, false, not, List, [], ◌∷◌, Option, Some, None, Result, Ok, Err, OnOk, refl, sym, ap, ◌∙◌, subst, if◌then◌else◌}
 use Rattle.std.specs.Prelude.{option_map}
 use Rattle.std.specs.Ordering.{int_eq}
@@ -10,16 +9,6 @@ use Rattle.spec_world.specs.Agreeing.{ObjectsAgree}
 use Rattle.spec_world.specs.Families.{parent_of, clashes, reparented}
 use Rattle.spec_world.proofs.Trees.{same_or_not, some_same}
 use Rattle.spec_view.specs.Questions.{header_at}
-=======
-use Rattle.std.proofs.Common.{◌≡◌, ◌≢◌, ◌⊎◌, inl, inr, ℤ, Bool, true, false, not, ◌&&◌, List, [], ◌∷◌, Option, Some, None, Result, Ok, Err, OnOk, refl, sym, ap, ◌∙◌, subst, if◌then◌else◌}
-use Rattle.std.specs.Ordering.{int_eq}
-use Rattle.spec_value.specs.Datum.{Datum, object, invalid_argument, ErrorCode}
-use Rattle.spec_value.specs.Answer.{gives, raises}
-use Rattle.spec_world.specs.World.{World, object_at}
-use Rattle.spec_world.specs.Agreeing.{ObjectsAgree}
-use Rattle.spec_world.specs.Families.{parent_of, is_below, clashes, reparented}
-use Rattle.spec_world.proofs.Trees.{same_or_not}
->>>>>>> theirs
 use Rattle.spec_moo.specs.Scene.{Scene, in_world}
 use Rattle.spec_moo.specs.NativeEffect.{Caller, NativeEffect, answers, refuses}
 use Rattle.spec_moo.specs.Natives.Rows.{unless, wants, answers_with, zero_value}
@@ -68,11 +57,7 @@ module _ {V : Type 0} (holds : V → World → Type 0) (now : V → World → Wo
       let t = third w left in
       let u = second w t.0 in
       let v = first w u.0 in
-<<<<<<< ours
       let sound : ObjectsAgree (now a w) = (known w v.0).objects in
-=======
-      let sound : ObjectsAgree (now a w) = known w v.0 in
->>>>>>> theirs
       let family : IsFamily (now a w) o ds = subst (λ x. IsFamily x o ds) v.1.0 u.1.1 in
       let same : now c w ≡ now a w = u.1.0 ∙ v.1.0 in
       let clash : clashes (now a w) o p ≡ true = sym (clashes_so (now a w) sound p o ds family) ∙ ap (λ x. any_clashes x p ds) (sym same) ∙ t.1.1 in (
@@ -91,11 +76,7 @@ module _ {V : Type 0} (holds : V → World → Type 0) (now : V → World → Wo
       let t = third w q.0 in
       let u = second w t.0 in
       let f = first w u.0 in
-<<<<<<< ours
       let sound : ObjectsAgree (now a w) = (known w f.0).objects in
-=======
-      let sound : ObjectsAgree (now a w) = known w f.0 in
->>>>>>> theirs
       let family : IsFamily (now a w) o ds = subst (λ x. IsFamily x o ds) f.1.0 u.1.1 in
       let same : now c w ≡ now a w = u.1.0 ∙ f.1.0 in
       let all : now d w ≡ now a w = t.1.0 ∙ same in
@@ -126,7 +107,6 @@ stays_told holds now o p a b c ds before (Ok x) asked other told = λ w left.
           ∙ ap (λ y. reparented y o p) u.1.0
           ∙ ap (λ b. if b then now a w else reparented (now a w) o p) (sym (ap (λ q. int_eq q p) u.1.1 ∙ other)),
     )
-<<<<<<< ours
 
 -- a header tells the parent
 pub parent_told : {V : Type 0} (holds : V → World → Type 0) (now : V → World → World) (a b : V) (o : ℤ) (h : Header) → Tells holds now a b (λ w. header_at w o ≡ Some h)
@@ -136,5 +116,3 @@ parent_told holds now a b o h told w left = let t = told w left in (t.0, (t.1.0,
     go : (m : Option Object) → option_map (λ x. x.header) m ≡ Some h → parent_of m ≡ h.parent
     go None e = cc
     go (Some x) e = ap (λ (k : Header). k.parent) (some_same e)
-=======
->>>>>>> theirs

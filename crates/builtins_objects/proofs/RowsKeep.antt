@@ -1,34 +1,19 @@
-<<<<<<< ours
 -- Changes of objects: a world that stood stands afterwards.
-=======
--- Changes of objects: what they agreed on they agree on afterwards.
->>>>>>> theirs
 use Rattle.std.proofs.Common.{◌≡◌, ◌⊎◌, inl, inr, ℤ, Bool, true, false, not, ◌&&◌, ◌||◌, List, [], ◌∷◌, Option, Some, None, refl, IsTrue, is_some, if◌then◌else◌}
 use Rattle.std.specs.Ordering.{int_eq}
 use Rattle.spec_value.specs.Datum.{Datum, object}
 use Rattle.spec_value.proofs.Entries.{first_holds, second_holds}
 use Rattle.spec_value.proofs.Same.{same_integer}
 use Rattle.spec_world.specs.World.{World, Object, object_at}
-<<<<<<< ours
-=======
-use Rattle.spec_world.specs.Agreeing.{ObjectsAgree}
->>>>>>> theirs
 use Rattle.spec_world.specs.ObjectLaws.{IsPlace}
 use Rattle.spec_world.specs.Families.{nowhere, parent_of, is_below, clashes, reparented}
 use Rattle.spec_world.specs.Permissions.{change_object, have_child, may}
 use Rattle.spec_world.proofs.Trees.{either}
-<<<<<<< ours
 use Rattle.spec_moo.specs.Natives.Rows.{is_valid, is_valid_or_none}
 use Rattle.spec_moo.specs.Natives.Objects.{chparent_row}
 use Rattle.inherit.specs.Standing.{IsStanding}
 use Rattle.inherit.proofs.ObjectsStand.{reparented_stands}
 use Rattle.builtins_world.proofs.Keeping.{Keeping, tested}
-=======
-use Rattle.spec_world.proofs.ObjectsKept.{reparented_keeps}
-use Rattle.spec_moo.specs.Natives.Rows.{is_valid, is_valid_or_none}
-use Rattle.spec_moo.specs.Natives.Objects.{chparent_row}
-use Rattle.builtins_world.proofs.Keeping.{LeavesWell, Keeping, tested}
->>>>>>> theirs
 
 pub not_so : (b : Bool) → not b ≡ true → b ≡ false
 not_so true h = cc
@@ -54,15 +39,8 @@ chparent_keeps (object o ∷ object p ∷ []) s c h =
     (present (object_at s.world o) (first_holds (is_valid s o) _ k1)) (place_of s.world p (second_holds (is_valid s o) _ k1)) (not_so _ k3) (not_so _ k4)))))
   where
     go : (b : Bool) → (x : Object) × (object_at s.world o ≡ Some x) → IsPlace s.world p → is_below s.world o p ≡ false → clashes s.world o p ≡ false
-<<<<<<< ours
         → IsStanding (if b then s else record s { world = reparented s.world o p }).world
     go true x at_p outside clear = h
     go false x at_p outside clear =
         reparented_stands s.world o p x.0 x.1 h at_p outside clear
-=======
-        → ObjectsAgree (if b then s else record s { world = reparented s.world o p }).world
-    go true x at_p outside clear = h
-    go false x at_p outside clear =
-        reparented_keeps s.world o p x.0 x.1 h at_p outside clear
->>>>>>> theirs
 chparent_keeps _ s c h = h

@@ -5,9 +5,6 @@
 
 pub mod asked;
 pub mod chparent;
-<<<<<<< ours
 pub mod departing;
-=======
->>>>>>> theirs
 pub mod players;
 pub mod recycling;

@@ -6,11 +6,7 @@ ghost use Rattle.spec_moo.specs.Natives.Objects.{set_player_flag_row};
 ghost use Rattle.moo_value.specs.Errors.{code_of};
 ghost use Rattle.moo_task.specs.Deeds.{scene_of};
 ghost use Rattle.moo_task.specs.declared.effect.NativeEffect.TheVariants.{Answers};
-<<<<<<< ours
 ghost use Rattle.inherit.specs.Lines.{AreAgreeing};
-=======
-ghost use Rattle.inherit.specs.Lines.{AreWellFormed};
->>>>>>> theirs
 ghost use Rattle.world.specs.Law.{Goes, Lasts, Tells};
 ghost use Rattle.builtins_links.specs.Acting.{Acts};
 ghost use Rattle.builtins_objects.specs.Flags.{flag_checks, flagged};
@@ -40,19 +36,11 @@ pub fn set_player_flag<V: View>(
     value: &Value,
 ) -> Result<Answer, AllocError>
     requires home { V.holds view.old (V.home view.old) }
-<<<<<<< ours
     requires well_formed { AreAgreeing V.holds V.now view.old }
     ensures lasts { Lasts V.holds V.home V.anchor view.old view.new result }
     ensures left { IfOk result (λ a. Goes V.holds V.now view.old view.new
         (λ before after. Acts (λ s c. set_player_flag_row s c (object_of object ∷ value.now ∷ [])) deeds.old before programmer (Answers a) deeds.new after)) }
     ensures well_formed { OnOk result (AreAgreeing V.holds V.now view.new) }
-=======
-    requires well_formed { AreWellFormed V.holds V.now view.old }
-    ensures lasts { Lasts V.holds V.home V.anchor view.old view.new result }
-    ensures left { IfOk result (λ a. Goes V.holds V.now view.old view.new
-        (λ before after. Acts (λ s c. set_player_flag_row s c (object_of object ∷ value.now ∷ [])) deeds.old before programmer (Answers a) deeds.new after)) }
-    ensures well_formed { OnOk result (AreWellFormed V.holds V.now view.new) }
->>>>>>> theirs
 {
     change_flag(view, deeds, programmer, object, value)
 }
@@ -65,11 +53,7 @@ fn change_flag<V: View>(
     value: &Value,
 ) -> Result<Answer, AllocError>
     requires home { V.holds view.old (V.home view.old) }
-<<<<<<< ours
     requires well_formed { AreAgreeing V.holds V.now view.old }
-=======
-    requires well_formed { AreWellFormed V.holds V.now view.old }
->>>>>>> theirs
     ensures lasts { Lasts V.holds V.home V.anchor view.old view.new result }
     ensures left { IfOk result (λ a. Goes V.holds V.now view.old view.new
         (λ before after. Acts (λ s c. set_player_flag_row s c (object_of object ∷ value.now ∷ [])) deeds.old before programmer (Answers a) deeds.new after)) }
@@ -112,11 +96,7 @@ fn give_flag<V: View>(
     flag: bool,
 ) -> Result<(), AllocError>
     requires home { V.holds view.old (V.home view.old) }
-<<<<<<< ours
     requires well_formed { AreAgreeing V.holds V.now view.old }
-=======
-    requires well_formed { AreWellFormed V.holds V.now view.old }
->>>>>>> theirs
     ensures lasts { Lasts V.holds V.home V.anchor view.old view.new result }
     ensures left { OnOk result (Goes V.holds V.now view.old view.new
         (λ before after. (t : ℕ) → scene_of deeds.new after t ≡ flagged (scene_of deeds.old before t) object flag)) }

@@ -2,10 +2,7 @@
 ghost use Rattle.std.specs.Prelude.{◌≡◌, OnOk};
 ghost use Rattle.spec_world.specs.World.{World, object_at};
 ghost use Rattle.spec_world.specs.Families.{parent_of, recycled, reparented, reparented_each, to_nowhere};
-<<<<<<< ours
 ghost use Rattle.spec_world.proofs.WorldsKept.{IsNobodys};
-=======
->>>>>>> theirs
 ghost use Rattle.inherit.specs.Lines.{AreAgreeing};
 ghost use Rattle.world.specs.Law.{Goes, Lasts};
 ghost use Rattle.builtins_objects.specs.Going.{forgotten, HasChildren};
@@ -24,11 +21,7 @@ pub fn recycle_object<V: View>(alloc: Global, view: &mut V, object: i32) -> Resu
     requires well_formed { AreAgreeing V.holds V.now view.old }
     ensures lasts { Lasts V.holds V.home V.anchor view.old view.new result }
     ensures left { OnOk result (Goes V.holds V.now view.old view.new (λ was is. is ≡ recycled was object)) }
-<<<<<<< ours
     ensures well_formed { ((w : World) → V.holds view.old w → IsNobodys (V.now view.old w) object) → OnOk result (AreAgreeing V.holds V.now view.new) }
-=======
-    ensures well_formed { OnOk result (AreAgreeing V.holds V.now view.new) }
->>>>>>> theirs
 {
     let_go(alloc, view, object)
 }

@@ -5,10 +5,6 @@ use Rattle.spec_world.specs.World.{object_at}
 use Rattle.spec_world.specs.Inherit.{slot_at}
 use Rattle.spec_moo.specs.Properties.{built_in}
 use Rattle.spec_moo.specs.Natives.Properties.{are_bits, is_empty}
-<<<<<<< ours
-=======
-use Rattle.world.specs.Law.{Tells}
->>>>>>> theirs
 use Rattle.inherit.proofs.Tellings.{told_on}
 use Rattle.family.specs.Below.{IsFamily}
 use Rattle.builtins_family.specs.Slots.{any_defines}

@@ -1,8 +1,4 @@
-<<<<<<< ours
 use Rattle.std.proofs.Common.{◌++◌, [], ◌∷◌, w32}
-=======
-use Rattle.std.proofs.Common.{◌≡◌, ◌++◌, [], ◌∷◌, w32}
->>>>>>> theirs
 use Rattle.std.proofs.lemmas.Int.{to_z-of_z}
 use Rattle.builtins_family.specs.Slots.{getting}
 use Rattle.builtins_family.proofs.OneChange.{family_told}

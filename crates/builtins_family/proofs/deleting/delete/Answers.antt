@@ -1,8 +1,4 @@
-<<<<<<< ours
 use Rattle.std.proofs.Common.{◌≡◌, true, map, Some, w32}
-=======
-use Rattle.std.proofs.Common.{◌≡◌, true, false, map, Some, w32}
->>>>>>> theirs
 use Rattle.std.proofs.lemmas.Int.{to_z-of_z}
 use Rattle.spec_value.specs.Datum.{fold_case}
 use Rattle.spec_world.specs.WellFormed.{has_name}

@@ -1,8 +1,4 @@
-<<<<<<< ours
 use Rattle.std.proofs.Common.{not, filter, refl, w32}
-=======
-use Rattle.std.proofs.Common.{◌≡◌, not, filter, refl, w32}
->>>>>>> theirs
 use Rattle.std.proofs.lemmas.Int.{to_z-of_z}
 use Rattle.spec_value.specs.Datum.{fold_case, same_text}
 use Rattle.family.specs.Losing.{losing}

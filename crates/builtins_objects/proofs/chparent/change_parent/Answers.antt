@@ -1,9 +1,6 @@
 use Rattle.std.proofs.Common.{◌≡◌, false, None, w32}
 use Rattle.std.proofs.lemmas.Int.{to_z-of_z}
-<<<<<<< ours
 use Rattle.moo_value.specs.Errors.{code_of}
-=======
->>>>>>> theirs
 use Rattle.inherit.proofs.Tellings.{known_on}
 use Rattle.family.specs.Below.{IsFamily}
 use Rattle.reparenting.specs.Clashes.{any_clashes}
@@ -36,7 +33,6 @@ pub adopt-requires-clause-well_formed : goal.adopt-requires-clause-well_formed
 adopt-requires-clause-well_formed g c =
     let object = to_z-of_z w32 c.args.object c.ranges.object in
     let parent = to_z-of_z w32 c.args.parent c.ranges.parent in
-<<<<<<< ours
     let programmer = to_z-of_z w32 c.args.programmer c.ranges.programmer in
     known_on g.V.View.holds g.V.View.now c.below.new.view c.any_clashes.new.view (λ w. any_clashes w c.args.parent c.in_ok-family.family.items ≡ false)
     (known_on g.V.View.holds g.V.View.now c.refusal.new.view c.below.new.view (λ w. IsFamily w c.args.object c.in_ok-family.family.items)
@@ -63,9 +59,3 @@ returns-then-clash-clause-left g c =
     (rw (object, parent, programmer, c.in_default.is) at c.in_ok-refused.ensures.left)
     (rw object at c.in_ok-family.ensures.left)
     (rw (parent, c.as_slice.ensures.value, c.if-clash.true) at c.in_ok-clash.ensures.left)
-=======
-    known_on g.V.View.holds g.V.View.now c.below.new.view c.any_clashes.new.view (λ w. any_clashes w c.args.parent c.in_ok-family.family.items ≡ false)
-    (known_on g.V.View.holds g.V.View.now c.refusal.new.view c.below.new.view (λ w. IsFamily w c.args.object c.in_ok-family.family.items) (below-requires-clause-well_formed g c)
-    (rw object at c.in_ok-family.ensures.left))
-    (rw (parent, c.as_slice.ensures.value, c.if-clash.false) at c.in_ok-clash.ensures.left)
->>>>>>> theirs

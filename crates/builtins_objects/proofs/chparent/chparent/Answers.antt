@@ -14,7 +14,6 @@ returns-clause-well_formed g c =
     leaves_well g.V.View.holds g.V.View.now c.args.view.now c.change_parent.new.view (λ s k. chparent_row s k (object_of c.args.object ∷ object_of c.args.parent ∷ []))
     c.args.programmer c.change_parent.result (chparent_keeps (object_of c.args.object ∷ object_of c.args.parent ∷ [])) (rw (object, parent, programmer) at c.change_parent.ensures.left)
     c.requires.well_formed
-<<<<<<< ours
 
 pub returns-clause-left : goal.returns-clause-left
 returns-clause-left g c =
@@ -22,5 +21,3 @@ returns-clause-left g c =
     let parent = to_z-of_z w32 c.args.parent c.ranges.parent in
     let programmer = to_z-of_z w32 c.args.programmer c.ranges.programmer in
     rw (object, parent, programmer) at c.change_parent.ensures.left
-=======
->>>>>>> theirs

@@ -1,13 +1,6 @@
-<<<<<<< ours
 use Rattle.std.proofs.Common.{◌≡◌, None, rules, w32}
 use Rattle.std.proofs.lemmas.Int.{to_z-of_z}
 use Rattle.inherit.specs.Standing.{IsStanding}
-=======
-use Rattle.std.proofs.Common.{◌≡◌, Some, None, rules, w32}
-use Rattle.std.proofs.lemmas.Int.{to_z-of_z}
-use Rattle.moo_value.specs.Errors.{code_of}
-use Rattle.spec_world.specs.WellFormed.{IsWellFormed}
->>>>>>> theirs
 use Rattle.inherit.proofs.Tellings.{stays_known}
 use Rattle.builtins_objects.specs.Flags.{flag_checks}
 use Rattle.builtins_objects.specs.Verdict.{verdict}
@@ -26,11 +19,7 @@ give_flag-requires-clause-well_formed g c =
     let object = to_z-of_z w32 c.args.object c.ranges.object in
     let programmer = to_z-of_z w32 c.args.programmer c.ranges.programmer in
     let none : c.in_ok-refused.refused ≡ None = first_of (search rules, cc) in
-<<<<<<< ours
     stays_known g.V.View.holds g.V.View.now IsStanding c.args.view.now c.refusal.new.view (λ w. verdict (flag_checks w c.args.programmer c.args.object) ≡ None) c.requires.well_formed
-=======
-    stays_known g.V.View.holds g.V.View.now IsWellFormed c.args.view.now c.refusal.new.view (λ w. verdict (flag_checks w c.args.programmer c.args.object) ≡ None) c.requires.well_formed
->>>>>>> theirs
     (rw (object, programmer, none) at c.in_ok-refused.ensures.left)
 
 pub returns-clause-left : goal.returns-clause-left

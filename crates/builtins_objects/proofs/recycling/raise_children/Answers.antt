@@ -1,8 +1,4 @@
-<<<<<<< ours
 use Rattle.std.proofs.Common.{◌≡◌, ◌+◌, drop, get_or, pos, ◌∙◌, rules, w32, to_z, of_z}
-=======
-use Rattle.std.proofs.Common.{◌≡◌, ◌+◌, drop, get_or, pos, refl, ◌∙◌, rules, w32, to_z, of_z}
->>>>>>> theirs
 use Rattle.std.proofs.lemmas.Int.{to_z-of_z}
 use Rattle.builtins_objects.proofs.Gone.{well_after, has_after, each_after, has_next, each_next}
 use Rattle.builtins_objects.proofs.recycling.raise_children.Goals as goal

@@ -4,7 +4,6 @@ use Rattle.builtins_objects.proofs.Gone.{gone_well}
 use Rattle.builtins_objects.proofs.recycling.recycle_object.Goals as goal
 
 pub returns-clause-well_formed : goal.returns-clause-well_formed
-<<<<<<< ours
 returns-clause-well_formed g c free =
     let object = to_z-of_z w32 c.args.object c.ranges.object in
     gone_well g.V.View.holds g.V.View.now c.args.view.now c.let_go.new.view c.let_go.result c.args.object (rw object at c.let_go.ensures.left) c.requires.well_formed free
@@ -13,8 +12,3 @@ pub returns-clause-left : goal.returns-clause-left
 returns-clause-left g c =
     let object = to_z-of_z w32 c.args.object c.ranges.object in
     rw object at c.let_go.ensures.left
-=======
-returns-clause-well_formed g c =
-    let object = to_z-of_z w32 c.args.object c.ranges.object in
-    gone_well g.V.View.holds g.V.View.now c.args.view.now c.let_go.new.view c.let_go.result c.args.object (rw object at c.let_go.ensures.left) c.requires.well_formed
->>>>>>> theirs

@@ -165,7 +165,7 @@ def crowd():
     settle()
     if not (answers(links[0]) and answers(links[1])):
         fail("with 64 links the first two are not told anything")
-    extra = connect()
+    extra = connect(greeted=False)
     if not is_shut(extra):
         fail("a 65th socket is not refused")
     extra.close()

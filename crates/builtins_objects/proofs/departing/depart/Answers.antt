@@ -2,7 +2,7 @@ use Rattle.std.proofs.Common.{◌≡◌, true, is_some, w32}
 use Rattle.std.proofs.lemmas.Int.{to_z-of_z}
 use Rattle.spec_world.specs.World.{object_at}
 use Rattle.spec_world.specs.WellFormed.{IsWellFormed}
-use Rattle.inherit.proofs.Tellings.{stays_known}
+use Rattle.rules.proofs.Tellings.{stays_known}
 use Rattle.builtins_objects.proofs.Departures.{objects_known, departs_not, departs}
 use Rattle.builtins_objects.proofs.departing.depart.Goals as goal
 

@@ -1,7 +1,6 @@
 //! Links that a world has from before a server serves it.
 use crate::draft::{Draft, LONGEST_LIST};
-use crate::running::{End, Plan, Played, moment, next_number, play};
-use connections::links::MOST_LINKS;
+use crate::running::{End, Plan, Played, moment, next_number, play, unless_ending};
 use speculate::gate::Gate;
 use std::alloc::{AllocError, Global};
 use std::rt::Clock;
@@ -11,7 +10,7 @@ use task_step::step::GREATEST_CONNECTION;
 use world::question::{Answer, Question};
 use world::worlds::World;
 
-/// Closes the links on which players have logged in, and those that sockets could have: none of them has a socket.
+/// Closes every link of a world: none of them has a socket. Ends where a task asks for it meanwhile.
 pub fn close_left<G: Gate, R: Threads + Wait + Sync, C: Clock>(
     rt: &R,
     alloc: Global,
@@ -38,7 +37,7 @@ pub fn close_left<G: Gate, R: Threads + Wait + Sync, C: Clock>(
             Some(end) => return Err(end),
         }
     }
-    Ok(world)
+    unless_ending(world)
 }
 
 // The list that closes these links.
@@ -56,17 +55,11 @@ fn closing(
     Ok(draft)
 }
 
+// Their numbers.
 fn left_links(alloc: Global, world: &World) -> Result<Vec<u32>, AllocError> {
     let mut left = Vec::new(alloc);
-    if let Answer::Connected(players) = world.ask(&Question::Connected)? {
-        'player: for (connection, _) in players.as_slice() {
-            if let Some(number) = link_number(*connection) {
-                left.push(number)?;
-            }
-        }
-    }
-    'number: for number in 1..=MOST_LINKS as u32 {
-        if !left.contains(&number) && has_link(world, number)? {
+    'number: for number in 1..=GREATEST_CONNECTION {
+        if has_link(world, number)? {
             left.push(number)?;
         }
     }
@@ -78,13 +71,4 @@ fn has_link(world: &World, number: u32) -> Result<bool, AllocError> {
         world.ask(&Question::Link(number as i32))?,
         Answer::Link(Some(_))
     ))
-}
-
-// The number of a connection, if it can have a step.
-fn link_number(connection: i32) -> Option<u32> {
-    let number = u32::try_from(connection).ok()?;
-    if number == 0 || number > GREATEST_CONNECTION {
-        return None;
-    }
-    Some(number)
 }

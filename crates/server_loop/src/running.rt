@@ -9,6 +9,7 @@ use task_run::list::play_list;
 use task_step::outcome::Outcome;
 use task_step::partial::{Partial, Refusal};
 use task_step::step::{GREATEST_MOMENT, GREATEST_NUMBER, Step};
+use world::question::{Answer, Question};
 use world::worlds::World;
 
 /// How a server runs its lists.
@@ -98,5 +99,14 @@ pub fn moment<C: Clock>(clock: &C) -> u32 {
     match clock.since_1970() {
         Ok(since) => since.as_secs().min(u64::from(GREATEST_MOMENT)) as u32,
         Err(_) => 0,
+    }
+}
+
+/// The world, unless a task asked for the end of the server.
+pub fn unless_ending(world: World) -> Result<World, End> {
+    match world.ask(&Question::Ending) {
+        Ok(Answer::Ending(true)) => Err(End::Asked),
+        Ok(_) => Ok(world),
+        Err(_) => Err(End::Memory(0)),
     }
 }

@@ -3,7 +3,7 @@ use crate::draft::Draft;
 use crate::due::add_due;
 use crate::gather::gather;
 use crate::pace::Pace;
-use crate::running::{End, Plan, Played, moment, next_number, play};
+use crate::running::{End, Plan, Played, moment, next_number, play, unless_ending};
 use connections::door::Door;
 use connections::links::Links;
 use speculate::gate::Gate;
@@ -13,7 +13,6 @@ use std::sync::{Arc, Wait};
 use std::thread::{Parker, Threads};
 use std::time::Duration;
 use task_step::outcome::Outcome;
-use world::question::{Answer, Question};
 use world::worlds::World;
 
 /// The longest wait for the next task, in seconds.
@@ -110,13 +109,4 @@ fn tell_all<R: Threads>(
     }
     links.flush();
     Ok(())
-}
-
-// The world, unless a task asked for the end of the server.
-fn unless_ending(world: World) -> Result<World, End> {
-    match world.ask(&Question::Ending) {
-        Ok(Answer::Ending(true)) => Err(End::Asked),
-        Ok(_) => Ok(world),
-        Err(_) => Err(End::Memory(0)),
-    }
 }

@@ -1,4 +1,6 @@
 -- For proofs that compute: to unfold `opened` is to unfold each definition that a run goes through.
+use Rattle.std.specs.Fmt.{digits}
+use Rattle.std.specs.Int.{int_wrap}
 use Rattle.spec_value.specs.Datum.{same}
 use Rattle.spec_world.specs.Inherit.{line, ancestors, first_value, property_value, with_slot}
 use Rattle.spec_world.specs.WellFormed.{once, comes_out, defined_on, names_once, links_read}
@@ -18,5 +20,5 @@ use Rattle.spec_world.specs.Links.{close_link}
 use Rattle.spec_world.specs.CommandLines.{line_parts, command_said}
 
 unfoldable pub opened : Unit {0}
-unfolding same line ancestors first_value property_value with_slot looked_up tokens_from some_arguments steps items_from operators expression branches arms block parsed may spells names_in words without_spaces after_first expanded find_preposition name_object first_on find_verb find_command_verb line_parts command_said created reparented clashes recycled in_within moved property_added property_deleted verb_added verb_deleted verb_changed close_link once comes_out defined_on names_once links_read
+unfolding digits int_wrap same line ancestors first_value property_value with_slot looked_up tokens_from some_arguments steps items_from operators expression branches arms block parsed may spells names_in words without_spaces after_first expanded find_preposition name_object first_on find_verb find_command_verb line_parts command_said created reparented clashes recycled in_within moved property_added property_deleted verb_added verb_deleted verb_changed close_link once comes_out defined_on names_once links_read
 opened = tt

@@ -1,7 +1,7 @@
 //! What calls that only ask the world answer.
 ghost use Rattle.std.specs.Prelude.{IfOk};
 ghost use Rattle.moo_value.specs.Answers.{answer_of};
-ghost use Rattle.inherit.specs.Lines.{AreAgreeing};
+ghost use Rattle.rules.specs.Lines.{AreAgreeing};
 ghost use Rattle.world.specs.Law.{Lasts, Tells};
 ghost use Rattle.builtins_world.specs.Said.{Says};
 ghost use Rattle.builtin_requests.specs.Requests.{asking_of, said_of};

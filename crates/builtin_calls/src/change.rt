@@ -1,7 +1,7 @@
 //! What calls that change the world do.
 ghost use Rattle.std.specs.Prelude.{IfOk, OnOk};
 ghost use Rattle.moo_value.specs.Answers.{answer_of};
-ghost use Rattle.inherit.specs.Lines.{AreAgreeing};
+ghost use Rattle.rules.specs.Lines.{AreAgreeing};
 ghost use Rattle.world.specs.Law.{Goes, Lasts};
 ghost use Rattle.builtins_world.specs.Said.{Does};
 ghost use Rattle.builtin_requests.specs.Requests.{changing_of, said_of};

@@ -1,6 +1,6 @@
 //! What is done to links, other tasks and the server.
 ghost use Rattle.std.specs.Prelude.{◌≡◌, IfOk, OnOk};
-ghost use Rattle.inherit.specs.Lines.{AreAgreeing};
+ghost use Rattle.rules.specs.Lines.{AreAgreeing};
 ghost use Rattle.world.specs.Law.{Goes, Lasts};
 ghost use Rattle.builtin_requests.specs.Requests.{acting_of, said_of};
 ghost use Rattle.builtin_deeds.specs.Acting.{ActsFor};

@@ -1,6 +1,6 @@
 //! Functions that go on with the value of a verb.
 ghost use Rattle.std.specs.Prelude.{IfOk, OnOk};
-ghost use Rattle.inherit.specs.Lines.{AreAgreeing};
+ghost use Rattle.rules.specs.Lines.{AreAgreeing};
 ghost use Rattle.world.specs.Law.{Goes, Lasts};
 ghost use Rattle.builtin_deeds.specs.Acting.{ActsFor};
 ghost use Rattle.builtin_deeds.specs.Stages.{stage_does};

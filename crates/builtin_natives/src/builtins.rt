@@ -2,7 +2,7 @@
 use crate::functions::{call_function, named};
 use builtin_deeds::resuming::go_on;
 use builtin_deeds::stages::stage_of;
-use moo_run::natives::Natives;
+use running::moo_run::natives::Natives;
 use moo_task::deeds::Deeds;
 use moo_task::effect::NativeEffect;
 use moo_task::native::Native;

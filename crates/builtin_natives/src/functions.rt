@@ -5,7 +5,7 @@ ghost use Rattle.spec_moo.specs.Scene.{Scene};
 ghost use Rattle.spec_moo.specs.NativeEffect.{Caller};
 ghost use Rattle.spec_moo.specs.Natives.{native as native_does};
 ghost use Rattle.spec_moo.specs.Natives.Rows.{by_row};
-ghost use Rattle.inherit.specs.Lines.{AreAgreeing};
+ghost use Rattle.rules.specs.Lines.{AreAgreeing};
 ghost use Rattle.world.specs.Law.{Goes, Lasts};
 ghost use Rattle.builtin_table.specs.Functions.{call_of, row_of_function};
 ghost use Rattle.builtin_deeds.specs.Acting.{ActsFor};

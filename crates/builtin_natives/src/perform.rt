@@ -1,6 +1,6 @@
 //! What requests do.
 ghost use Rattle.std.specs.Prelude.{IfOk, OnOk};
-ghost use Rattle.inherit.specs.Lines.{AreAgreeing};
+ghost use Rattle.rules.specs.Lines.{AreAgreeing};
 ghost use Rattle.world.specs.Law.{Goes, Lasts};
 ghost use Rattle.builtin_requests.specs.Requests.{asking_of, changing_of, request_of, said_of};
 ghost use Rattle.builtin_deeds.specs.Acting.{ActsFor};

@@ -11,9 +11,9 @@ use Rattle.spec_moo.specs.NativeEffect.{NativeEffect}
 use Rattle.spec_moo.specs.Natives.Rows.{is_valid}
 use Rattle.spec_moo.specs.Natives.Properties.{are_bits, with_slot_bits, set_property_info_row}
 use Rattle.spec_moo.specs.Natives.Verbs.{verb_place, if_verb, with_info, info_fits, set_verb_info_row, specifier, with_specifier, set_verb_args_row, new_verb, add_verb_row, delete_verb_row}
-use Rattle.inherit.specs.Standing.{IsStanding}
-use Rattle.inherit.proofs.Keeping.{filled_slot}
-use Rattle.inherit.proofs.Standing.{attributes_stand, content_stands}
+use Rattle.rules.specs.Standing.{IsStanding}
+use Rattle.rules.proofs.Keeping.{filled_slot}
+use Rattle.rules.proofs.InheritStanding.{attributes_stand, content_stands}
 use Rattle.builtins_world.proofs.Keeping.{LeavesWell, Keeping, tested, there}
 
 -- ---- properties

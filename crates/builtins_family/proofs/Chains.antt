@@ -16,10 +16,10 @@ use Rattle.spec_moo.specs.NativeEffect.{Caller, NativeEffect, answers, refuses}
 use Rattle.spec_moo.specs.Natives.Rows.{if_there, answers_with, zero_value}
 use Rattle.spec_moo.specs.Natives.Properties.{are_bits, is_empty, defines_it, delete_property_row}
 use Rattle.spec_world.proofs.Trees.{some_same}
-use Rattle.inherit.specs.Lines.{AreAgreeing}
+use Rattle.rules.specs.Lines.{AreAgreeing}
 use Rattle.world.specs.Law.{Goes, Tells}
 use Rattle.builtins_world.specs.Said.{Does, with_programmer}
-use Rattle.family.specs.Below.{IsFamily}
+use Rattle.rules.specs.Below.{IsFamily}
 use Rattle.builtins_family.specs.Slots.{any_defines}
 use Rattle.builtins_family.specs.Defining.{is_new_in, is_definable, property_given, property_owned}
 use Rattle.builtins_family.proofs.Slots.{defined_is}

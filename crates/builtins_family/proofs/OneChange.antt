@@ -13,10 +13,10 @@ use Rattle.spec_world.proofs.Trees.{same_or_not, some_same}
 use Rattle.spec_world.proofs.Households.{at_each, each_numbered, change_numbered}
 use Rattle.spec_world.proofs.ObjectChanges.{at_change}
 use Rattle.world.specs.Law.{Goes}
-use Rattle.family.specs.Below.{IsFamily}
-use Rattle.family.proofs.Walking.{below_itself}
-use Rattle.family.specs.InTurn.{in_turn}
-use Rattle.family.proofs.OneByOne.{at_in_turn, in_turn_numbered, one_alone, objects_alone, same_tables}
+use Rattle.rules.specs.Below.{IsFamily}
+use Rattle.rules.proofs.Walking.{below_itself}
+use Rattle.rules.specs.InTurn.{in_turn}
+use Rattle.rules.proofs.OneByOne.{at_in_turn, in_turn_numbered, one_alone, objects_alone, same_tables}
 
 -- ---- an object defines other properties, and it and each below it are changed
 

@@ -11,8 +11,8 @@ use Rattle.spec_world.specs.Members.{property_added}
 use Rattle.spec_world.proofs.PropertyChanges.{none_passes}
 use Rattle.spec_moo.specs.Natives.Rows.{is_valid}
 use Rattle.spec_moo.specs.Natives.Properties.{are_bits, defines_it, defined_below, is_new_name, slot_with, add_property_row, delete_property_row}
-use Rattle.inherit.specs.Standing.{IsStanding}
-use Rattle.inherit.proofs.ObjectsStand.{property_added_stands, property_deleted_stands}
+use Rattle.rules.specs.Standing.{IsStanding}
+use Rattle.rules.proofs.ObjectsStand.{property_added_stands, property_deleted_stands}
 use Rattle.builtins_world.proofs.Keeping.{Keeping, tested, there}
 
 is_not : (b : Bool) → not b ≡ true → b ≡ false

@@ -19,9 +19,9 @@ use Rattle.spec_world.proofs.SlotChanges.{names_total}
 use Rattle.spec_world.proofs.Trees.{some_same}
 use Rattle.spec_moo.specs.Natives.Properties.{defines_it, defined_below}
 use Rattle.world.specs.Law.{Goes, Tells}
-use Rattle.family.specs.Below.{IsFamily}
-use Rattle.family.proofs.Anyone.{any_of, any_is}
-use Rattle.family.specs.Losing.{losing}
+use Rattle.rules.specs.Below.{IsFamily}
+use Rattle.rules.proofs.Anyone.{any_of, any_is}
+use Rattle.rules.specs.Losing.{losing}
 use Rattle.builtins_family.specs.Slots.{slot_for, getting, among_names, any_defines}
 use Rattle.builtins_family.proofs.OneChange.{family_changed}
 

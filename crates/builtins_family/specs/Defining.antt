@@ -10,7 +10,7 @@ use Rattle.spec_moo.specs.Scene.{Scene, in_world}
 use Rattle.spec_moo.specs.NativeEffect.{Caller, NativeEffect}
 use Rattle.spec_moo.specs.Natives.Rows.{unless, wants, may_do, if_valid, answers_with, zero_value}
 use Rattle.spec_moo.specs.Natives.Properties.{are_bits, is_empty, defined_below}
-use Rattle.family.specs.Below.{IsFamily}
+use Rattle.rules.specs.Below.{IsFamily}
 
 -- neither built in nor empty, nor known above or below
 abbrev pub is_new_in : World → ℤ → Text → Bool

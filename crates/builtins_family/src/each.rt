@@ -2,7 +2,7 @@
 ghost use Rattle.std.specs.Prelude.{◌≡◌, IfOk, OnOk};
 ghost use Rattle.spec_world.specs.Families.{change_object};
 ghost use Rattle.world.specs.Law.{Goes, Lasts};
-ghost use Rattle.family.specs.InTurn.{in_turn};
+ghost use Rattle.rules.specs.InTurn.{in_turn};
 ghost use Rattle.builtins_family.specs.Slots.{getting, slot_for as slot_for_of};
 
 use builtins_world::properties::put_slot;

@@ -8,7 +8,7 @@ ghost use Rattle.world.specs.Law.{Lasts, Tells};
 ghost use Rattle.builtins_family.specs.Slots.{among_names, any_defines};
 ghost use Rattle.spec_view.specs.Questions.{defines_at};
 
-use access::built_in::named;
+use rules::access::built_in::named;
 use builtins_world::properties::has_name;
 use moo_value::text::Text;
 use std::alloc::AllocError;

@@ -25,8 +25,8 @@ use Rattle.spec_moo.specs.Scene.{in_world}
 use Rattle.spec_moo.specs.Natives.Rows.{list_value, answers_with}
 use Rattle.spec_moo.specs.Natives.Tasks.{connected_among, connected_players_row}
 use Rattle.world.specs.Law.{Tells}
-use Rattle.inherit.specs.Lines.{AreAgreeing}
-use Rattle.inherit.specs.Standing.{IsStanding}
+use Rattle.rules.specs.Lines.{AreAgreeing}
+use Rattle.rules.specs.Standing.{IsStanding}
 use Rattle.builtins_world.specs.Said.{Says}
 
 abbrev keys : {X : Type 0} → Numbered X → List ℤ

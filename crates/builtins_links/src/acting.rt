@@ -11,8 +11,8 @@ ghost use Rattle.builtins_links.specs.Refused.{IsRefusal};
 
 use moo_task::effect::NativeEffect;
 use moo_value::error::MooError;
-use permissions::act::Act;
-use permissions::may::may;
+use rules::permissions::act::Act;
+use rules::permissions::may::may;
 use std::alloc::AllocError;
 use world::law::View;
 use world::readers::read_header;

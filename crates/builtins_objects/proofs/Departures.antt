@@ -7,9 +7,9 @@ use Rattle.spec_moo.specs.Linking.{link_closed}
 use Rattle.spec_moo.specs.Natives.Objects.{recycle_now}
 use Rattle.moo_task.specs.Deeds.{scene_of}
 use Rattle.moo_task.specs.declared.deeds.Deeds.{Deeds}
-use Rattle.inherit.specs.Lines.{AreAgreeing}
-use Rattle.inherit.specs.Standing.{IsStanding}
-use Rattle.inherit.proofs.ObjectsStand.{recycled_stands}
+use Rattle.rules.specs.Lines.{AreAgreeing}
+use Rattle.rules.specs.Standing.{IsStanding}
+use Rattle.rules.proofs.ObjectsStand.{recycled_stands}
 use Rattle.world.specs.Law.{Goes, Tells}
 use Rattle.builtins_objects.proofs.Flags.{closed_well, closed_nobodys}
 

@@ -21,9 +21,9 @@ use Rattle.moo_value.specs.declared.error.MooError.{MooError}
 use Rattle.moo_task.specs.Deeds.{scene_of}
 use Rattle.moo_task.specs.declared.deeds.Deeds.{Deeds}
 use Rattle.moo_task.specs.declared.effect.NativeEffect.TheVariants.{Answers}
-use Rattle.inherit.specs.Lines.{AreAgreeing}
-use Rattle.inherit.specs.Standing.{IsStanding}
-use Rattle.inherit.proofs.Standing.{objects_stand_for, closed_stands, closed_is_nobodys}
+use Rattle.rules.specs.Lines.{AreAgreeing}
+use Rattle.rules.specs.Standing.{IsStanding}
+use Rattle.rules.proofs.InheritStanding.{objects_stand_for, closed_stands, closed_is_nobodys}
 use Rattle.world.specs.Law.{Goes, Tells}
 use Rattle.builtins_world.specs.Said.{with_programmer}
 use Rattle.builtins_world.proofs.Keeping.{world_left}

@@ -12,11 +12,11 @@ use Rattle.spec_world.proofs.WorldTrees.{object_there}
 use Rattle.spec_world.proofs.Households.{Household, household, objects_agree}
 use Rattle.spec_world.proofs.Recycling.{child_household, fewer_children}
 use Rattle.spec_view.specs.Questions.{header_at, children_at, contents_at, apply, new_object}
-use Rattle.inherit.specs.Lines.{AreAgreeing}
-use Rattle.inherit.specs.Standing.{IsStanding}
-use Rattle.inherit.proofs.Standing.{objects_stand}
-use Rattle.inherit.proofs.ObjectsStand.{recycled_stands}
-use Rattle.family.specs.Below.{IsFamily}
+use Rattle.rules.specs.Lines.{AreAgreeing}
+use Rattle.rules.specs.Standing.{IsStanding}
+use Rattle.rules.proofs.InheritStanding.{objects_stand}
+use Rattle.rules.proofs.ObjectsStand.{recycled_stands}
+use Rattle.rules.specs.Below.{IsFamily}
 use Rattle.world.specs.Law.{Goes, Tells}
 use Rattle.builtins_objects.specs.Going.{HasChildren, forgotten}
 

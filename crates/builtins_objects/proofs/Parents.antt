@@ -13,8 +13,8 @@ use Rattle.spec_moo.specs.Scene.{Scene, in_world}
 use Rattle.spec_moo.specs.NativeEffect.{Caller, NativeEffect, answers, refuses}
 use Rattle.spec_moo.specs.Natives.Rows.{unless, wants, answers_with, zero_value}
 use Rattle.spec_moo.specs.Natives.Objects.{another_parent, chparent_row}
-use Rattle.inherit.specs.Lines.{AreAgreeing}
-use Rattle.family.specs.Below.{IsFamily}
+use Rattle.rules.specs.Lines.{AreAgreeing}
+use Rattle.rules.specs.Below.{IsFamily}
 use Rattle.world.specs.Law.{Goes, Tells}
 use Rattle.builtins_world.specs.Said.{Does, with_programmer}
 use Rattle.reparenting.specs.Clashes.{any_clashes}

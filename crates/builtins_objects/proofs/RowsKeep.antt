@@ -11,8 +11,8 @@ use Rattle.spec_world.specs.Permissions.{change_object, have_child, may}
 use Rattle.spec_world.proofs.Trees.{either}
 use Rattle.spec_moo.specs.Natives.Rows.{is_valid, is_valid_or_none}
 use Rattle.spec_moo.specs.Natives.Objects.{chparent_row}
-use Rattle.inherit.specs.Standing.{IsStanding}
-use Rattle.inherit.proofs.ObjectsStand.{reparented_stands}
+use Rattle.rules.specs.Standing.{IsStanding}
+use Rattle.rules.proofs.ObjectsStand.{reparented_stands}
 use Rattle.builtins_world.proofs.Keeping.{Keeping, tested}
 
 pub not_so : (b : Bool) → not b ≡ true → b ≡ false

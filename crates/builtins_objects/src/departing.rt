@@ -2,7 +2,7 @@
 ghost use Rattle.std.specs.Prelude.{◌≡◌, ℕ, OnOk};
 ghost use Rattle.spec_moo.specs.Natives.Objects.{recycle_now as recycle_now_of};
 ghost use Rattle.moo_task.specs.Deeds.{scene_of};
-ghost use Rattle.inherit.specs.Lines.{AreAgreeing};
+ghost use Rattle.rules.specs.Lines.{AreAgreeing};
 ghost use Rattle.world.specs.Law.{Goes, Lasts};
 
 use crate::asked::is_there;

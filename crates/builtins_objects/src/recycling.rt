@@ -3,13 +3,13 @@ ghost use Rattle.std.specs.Prelude.{◌≡◌, OnOk};
 ghost use Rattle.spec_world.specs.World.{World, object_at};
 ghost use Rattle.spec_world.specs.Families.{parent_of, recycled, reparented, reparented_each, to_nowhere};
 ghost use Rattle.spec_world.proofs.WorldsKept.{IsNobodys};
-ghost use Rattle.inherit.specs.Lines.{AreAgreeing};
+ghost use Rattle.rules.specs.Lines.{AreAgreeing};
 ghost use Rattle.world.specs.Law.{Goes, Lasts};
 ghost use Rattle.builtins_objects.specs.Going.{forgotten, HasChildren};
 
-use family::below::below;
-use relatives::children::lose_child;
-use relatives::contents::{out_of_place, put_location};
+use rules::family::below::below;
+use rules::relatives::children::lose_child;
+use rules::relatives::contents::{out_of_place, put_location};
 use reparenting::reparent::reparent;
 use std::alloc::{AllocError, Global};
 use world::law::View;

@@ -23,7 +23,7 @@ use Rattle.spec_view.specs.Questions.{header_at}
 use Rattle.spec_moo.specs.Scene.{in_world}
 use Rattle.spec_moo.specs.Natives.Rows.{list_value, answers_with}
 use Rattle.spec_moo.specs.Natives.Objects.{as_objects, players_among, players_row}
-use Rattle.inherit.specs.Lines.{AreAgreeing}
+use Rattle.rules.specs.Lines.{AreAgreeing}
 use Rattle.world.specs.Law.{Tells}
 use Rattle.builtins_world.specs.Said.{Says}
 use Rattle.builtins_players.specs.Counting.{numbers_to, player_in, players_from}

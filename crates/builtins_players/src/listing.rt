@@ -4,7 +4,7 @@ ghost use Rattle.spec_value.specs.Datum.{object as object_of};
 ghost use Rattle.spec_view.specs.Questions.{header_at};
 ghost use Rattle.spec_moo.specs.Natives.Objects.{players_row};
 ghost use Rattle.moo_value.specs.Answers.{answer_of};
-ghost use Rattle.inherit.specs.Lines.{AreAgreeing};
+ghost use Rattle.rules.specs.Lines.{AreAgreeing};
 ghost use Rattle.world.specs.Law.{Lasts, Tells};
 ghost use Rattle.builtins_world.specs.Said.{Says};
 ghost use Rattle.builtins_players.specs.Counting.{numbers_to, player_in, players_from};

@@ -13,9 +13,9 @@ use Rattle.moo_task.specs.declared.deeds.Deeds.{Deeds}
 use Rattle.moo_task.specs.declared.effect.NativeEffect.{NativeEffect}
 use Rattle.moo_task.specs.declared.effect.NativeEffect.TheVariants.{Answers, Complains, Begins, Waits, Dies, Becomes}
 use Rattle.world.specs.Law.{Goes}
-use Rattle.inherit.specs.Lines.{AreAgreeing}
-use Rattle.inherit.specs.Standing.{IsStanding}
-use Rattle.inherit.proofs.Standing.{quiet_task_stands, task_gone_stands}
+use Rattle.rules.specs.Lines.{AreAgreeing}
+use Rattle.rules.specs.Standing.{IsStanding}
+use Rattle.rules.proofs.InheritStanding.{quiet_task_stands, task_gone_stands}
 use Rattle.builtins_world.specs.Said.{with_programmer}
 use Rattle.builtins_world.proofs.Keeping.{world_left, LeavesWell, tested, there}
 use Rattle.builtins_queue.specs.Acting.{Acts}

@@ -19,7 +19,7 @@ use Rattle.spec_moo.specs.NativeEffect.{Caller}
 use Rattle.spec_moo.specs.Natives.Rows.{list_value, answers_with}
 use Rattle.spec_moo.specs.Natives.Tasks.{innermost, task_programmer, task_value, listed_tasks, queued_tasks_row}
 use Rattle.world.specs.Law.{Tells}
-use Rattle.inherit.specs.Lines.{AreAgreeing}
+use Rattle.rules.specs.Lines.{AreAgreeing}
 use Rattle.builtins_world.specs.Said.{with_programmer, Says}
 use Rattle.builtins_queue.specs.Listed.{seen_task, seen_at, seen_of}
 

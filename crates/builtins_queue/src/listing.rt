@@ -7,7 +7,7 @@ ghost use Rattle.spec_moo.specs.Natives.Rows.{list_value};
 ghost use Rattle.moo_value.specs.Answers.{answer_of};
 ghost use Rattle.moo_task.specs.Effects.{waiting_of};
 ghost use Rattle.world.specs.Law.{Lasts, Tells};
-ghost use Rattle.inherit.specs.Lines.{AreAgreeing};
+ghost use Rattle.rules.specs.Lines.{AreAgreeing};
 ghost use Rattle.builtins_world.specs.Said.{Says};
 ghost use Rattle.builtins_queue.specs.Listed.{seen_task, seen_at, seen_of};
 
@@ -16,7 +16,7 @@ use moo_task::effect::Waiting;
 use moo_task::task::Task;
 use moo_value::answer::Answer;
 use moo_value::value::Value;
-use permissions::may::is_wizard;
+use rules::permissions::may::is_wizard;
 use std::alloc::{AllocError, Global};
 use world::law::View;
 use world::readers::{read_task, read_waiting};

@@ -5,7 +5,7 @@ ghost use Rattle.spec_moo.specs.Natives.Tasks.{is_suspended as is_suspended_of, 
 ghost use Rattle.moo_task.specs.Effects.{waiting_of};
 ghost use Rattle.moo_task.specs.declared.effect.NativeEffect.TheVariants.{Answers};
 ghost use Rattle.world.specs.Law.{Goes, Lasts};
-ghost use Rattle.inherit.specs.Lines.{AreAgreeing};
+ghost use Rattle.rules.specs.Lines.{AreAgreeing};
 ghost use Rattle.builtins_queue.specs.Acting.{Acts};
 
 use crate::owners::programmer_of;
@@ -14,8 +14,8 @@ use moo_task::effect::Waiting;
 use moo_value::answer::Answer;
 use moo_value::error::MooError;
 use moo_value::value::Value;
-use permissions::act::Act;
-use permissions::may::may;
+use rules::permissions::act::Act;
+use rules::permissions::may::may;
 use std::alloc::AllocError;
 use world::law::View;
 use world::readers::{read_task, write_task};

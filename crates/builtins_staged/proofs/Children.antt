@@ -18,7 +18,7 @@ use Rattle.spec_world.proofs.SlotTables.{text_or_not, named_with, with_sorted, n
 use Rattle.spec_world.proofs.Reparenting.{slots_above}
 use Rattle.spec_world.proofs.ObjectsKept.{created_keeps}
 use Rattle.spec_view.specs.Questions.{apply, new_greatest, new_object, is_number, put_record}
-use Rattle.inherit.specs.Lines.{AreAgreeing}
+use Rattle.rules.specs.Lines.{AreAgreeing}
 use Rattle.world.specs.Law.{Goes, Tells}
 use Rattle.reparenting.specs.Along.{names_on, with_found, slots_of}
 use Rattle.reparenting.specs.Heirs.{heritage}

@@ -12,7 +12,7 @@ use Rattle.spec_moo.specs.NativeEffect as N
 use Rattle.spec_moo.specs.Natives.Rows.{wants}
 use Rattle.moo_task.specs.Effects.{effect_of}
 use Rattle.moo_task.specs.declared.effect.NativeEffect.{NativeEffect}
-use Rattle.inherit.specs.Lines.{AreAgreeing}
+use Rattle.rules.specs.Lines.{AreAgreeing}
 use Rattle.world.specs.Law.{Goes, Tells}
 use Rattle.builtins_objects.specs.Verdict.{verdict}
 use Rattle.builtins_objects.proofs.RowsKeep.{place_of}

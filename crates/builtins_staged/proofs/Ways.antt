@@ -12,7 +12,7 @@ use Rattle.spec_world.specs.Whereabouts.{in_within, is_inside, put_into, moved}
 use Rattle.spec_world.proofs.Trees.{some_same, first_of}
 use Rattle.spec_world.proofs.ObjectsKept.{moved_keeps}
 use Rattle.spec_view.specs.Questions.{header_at}
-use Rattle.inherit.specs.Lines.{AreAgreeing}
+use Rattle.rules.specs.Lines.{AreAgreeing}
 use Rattle.world.specs.Law.{Goes, Tells}
 use Rattle.builtins_objects.proofs.RowsKeep.{present}
 use Rattle.builtins_staged.specs.Moves.{MayMove}

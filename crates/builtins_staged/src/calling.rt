@@ -2,13 +2,13 @@
 ghost use Rattle.std.specs.Prelude.{◌≡◌, IfOk};
 ghost use Rattle.spec_value.specs.Datum.{of_list};
 ghost use Rattle.moo_task.specs.Frames.{native_of};
-ghost use Rattle.inherit.specs.Lines.{AreAgreeing};
+ghost use Rattle.rules.specs.Lines.{AreAgreeing};
 ghost use Rattle.world.specs.Law.{Lasts, Tells};
 ghost use Rattle.builtins_staged.specs.Led.{MayBegin};
 
-use inherit::verb::{FoundVerb, find_verb};
+use rules::inherit::verb::{FoundVerb, find_verb};
 use moo_machine::call::Call;
-use moo_objects::calling::callee;
+use running::moo_objects::calling::callee;
 use moo_program::program::Program;
 use moo_task::effect::NativeEffect;
 use moo_task::native::Native;

@@ -3,12 +3,12 @@ ghost use Rattle.std.specs.Prelude.{◌≡◌, [], Some, IfOk, OnOk};
 ghost use Rattle.spec_world.specs.World.{World, object_at};
 ghost use Rattle.spec_world.specs.Families.{created, heir_slots as heir_slots_of, slots_at};
 ghost use Rattle.spec_world.specs.ObjectLaws.{IsPlace};
-ghost use Rattle.inherit.specs.Lines.{AreAgreeing};
+ghost use Rattle.rules.specs.Lines.{AreAgreeing};
 ghost use Rattle.world.specs.Law.{Goes, Lasts, Tells};
 ghost use Rattle.builtins_staged.specs.Children.{child_header, child_with, put_heirs, IsNext};
 
 use moo_value::text::Text;
-use relatives::children::add_child;
+use rules::relatives::children::add_child;
 use reparenting::along::inherited_slots;
 use reparenting::heirs::heir_slot;
 use std::alloc::{AllocError, Global};

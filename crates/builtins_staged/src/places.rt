@@ -3,11 +3,11 @@ ghost use Rattle.std.specs.Prelude.{◌≡◌, IfOk, OnOk};
 ghost use Rattle.spec_world.specs.World.{World, object_at};
 ghost use Rattle.spec_world.specs.Naming.{location_of};
 ghost use Rattle.spec_world.specs.Whereabouts.{is_inside as is_inside_of, moved};
-ghost use Rattle.inherit.specs.Lines.{AreAgreeing};
+ghost use Rattle.rules.specs.Lines.{AreAgreeing};
 ghost use Rattle.world.specs.Law.{Goes, Lasts, Tells};
 ghost use Rattle.builtins_staged.specs.Moves.{MayMove};
 
-use relatives::contents::{out_of_place, put_into, put_location};
+use rules::relatives::contents::{out_of_place, put_into, put_location};
 use std::alloc::{AllocError, Global};
 use world::law::View;
 use world::readers::read_header;

@@ -15,9 +15,9 @@ use Rattle.spec_moo.specs.Natives.Properties.{defines_it, clear_property_row}
 use Rattle.moo_value.specs.Answers.{answer_of}
 use Rattle.moo_value.specs.declared.error.MooError.{MooError}
 use Rattle.world.specs.Law.{Goes}
-use Rattle.inherit.specs.Lines.{AreAgreeing}
-use Rattle.inherit.specs.Standing.{IsStanding}
-use Rattle.inherit.proofs.Standing.{content_stands}
+use Rattle.rules.specs.Lines.{AreAgreeing}
+use Rattle.rules.specs.Standing.{IsStanding}
+use Rattle.rules.proofs.InheritStanding.{content_stands}
 use Rattle.builtins_world.specs.Said.{Does, with_programmer}
 
 -- ---- effects

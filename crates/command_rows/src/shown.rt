@@ -1,5 +1,5 @@
 //! The parts of a line in one text.
-use command_lines::parts::{Parts, line_parts};
+use rules::command_lines::parts::{Parts, line_parts};
 use moo_value::text::Text;
 use std::alloc::{AllocError, Global};
 

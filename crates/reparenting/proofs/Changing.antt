@@ -3,8 +3,8 @@ use Rattle.std.proofs.Common.{◌≡◌, ℤ, List, Result, Ok, Err, OnOk, sym, 
 use Rattle.spec_value.specs.Datum.{Text}
 use Rattle.spec_world.specs.World.{World, Slot, object_at}
 use Rattle.spec_world.specs.Families.{parent_of, put_below, with_heirs, reparented}
-use Rattle.inherit.specs.Lines.{AreAgreeing}
-use Rattle.family.specs.Below.{IsFamily}
+use Rattle.rules.specs.Lines.{AreAgreeing}
+use Rattle.rules.specs.Below.{IsFamily}
 use Rattle.world.specs.Law.{Goes, Tells}
 use Rattle.reparenting.specs.Heirs.{names_beside, slots_beside, lose_each, inherit_each}
 use Rattle.reparenting.proofs.Descent.{heirs_so}

@@ -13,8 +13,8 @@ use Rattle.spec_world.proofs.Trees.{Path, path_from}
 use Rattle.spec_world.proofs.WorldTrees.{parents, ancestors_of}
 use Rattle.spec_world.proofs.Households.{Household, household}
 use Rattle.spec_world.proofs.Reparenting.{slots_above}
-use Rattle.family.specs.Below.{IsFamily}
-use Rattle.family.proofs.Anyone.{any_of, any_is}
+use Rattle.rules.specs.Below.{IsFamily}
+use Rattle.rules.proofs.Anyone.{any_of, any_is}
 use Rattle.reparenting.specs.Clashes.{has_slot, any_slot, any_clashes}
 
 module _ (w : World) (sound : ObjectsAgree w) (p : ℤ) where

@@ -22,11 +22,11 @@ use Rattle.spec_world.proofs.SlotTables.{text_turned, named_with, named_without,
 use Rattle.spec_world.proofs.ObjectChanges.{at_change}
 use Rattle.spec_world.proofs.PropertyChanges.{below_is}
 use Rattle.spec_world.proofs.Reparenting.{slots_above}
-use Rattle.family.specs.Below.{IsFamily}
-use Rattle.family.specs.InTurn.{in_turn}
-use Rattle.family.specs.Losing.{losing}
-use Rattle.family.proofs.OneByOne.{at_in_turn, in_turn_numbered, objects_alone, one_alone, same_tables}
-use Rattle.family.proofs.OneByOne.{losing_again}
+use Rattle.rules.specs.Below.{IsFamily}
+use Rattle.rules.specs.InTurn.{in_turn}
+use Rattle.rules.specs.Losing.{losing}
+use Rattle.rules.proofs.OneByOne.{at_in_turn, in_turn_numbered, objects_alone, one_alone, same_tables}
+use Rattle.rules.proofs.OneByOne.{losing_again}
 use Rattle.reparenting.specs.Along.{folded}
 use Rattle.reparenting.specs.Heirs.{names_beside, slots_beside, lose_each, inherited, inherit_down, inherit_each}
 use Rattle.reparenting.proofs.Inherited.{named_of}

@@ -5,8 +5,8 @@ use Rattle.spec_world.specs.World.{World, Slot}
 use Rattle.spec_world.specs.Inherit.{slot_at, ancestors}
 use Rattle.spec_world.specs.Families.{change_object, heir_slot}
 use Rattle.spec_world.specs.Members.{with_own_slot}
-use Rattle.family.specs.InTurn.{in_turn}
-use Rattle.family.specs.Losing.{losing}
+use Rattle.rules.specs.InTurn.{in_turn}
+use Rattle.rules.specs.Losing.{losing}
 use Rattle.reparenting.specs.Along.{names_on, but_for, slots_of}
 
 -- the names of what is inherited from one object, and not from another

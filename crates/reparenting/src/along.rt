@@ -3,14 +3,14 @@ ghost use Rattle.std.specs.Prelude.{◌≡◌, ◌++◌, [], filter, not, IfOk, 
 ghost use Rattle.spec_world.specs.Inherit.{slot_at};
 ghost use Rattle.spec_world.specs.WellFormed.{lists};
 ghost use Rattle.spec_view.specs.Questions.{defines_at};
-ghost use Rattle.inherit.specs.Lines.{AreAgreeing};
+ghost use Rattle.rules.specs.Lines.{AreAgreeing};
 ghost use Rattle.world.specs.Law.{Lasts, Tells};
 ghost use Rattle.reparenting.specs.Along.{given, names_on, slots_of, with_found};
 ghost use Rattle.reparenting.specs.Heirs.{heritage, names_beside as names_beside_of, slots_beside as slots_beside_of};
 
-use inherit::line::ancestors;
+use rules::inherit::line::ancestors;
 use moo_value::text::Text;
-use relatives::lists::is_among;
+use rules::relatives::lists::is_among;
 use std::alloc::{AllocError, Global};
 use world::law::View;
 use world::readers::{read_defines, read_slot};

@@ -6,7 +6,7 @@ ghost use Rattle.world.specs.Law.{Goes, Lasts};
 ghost use Rattle.reparenting.specs.Heirs.{inherit_down, inherit_each as inherit_each_of, inherited, lose_each as lose_each_of};
 
 use builtins_world::properties::put_slot;
-use family::losing::lose_slots;
+use rules::family::losing::lose_slots;
 use moo_value::text::Text;
 use std::alloc::AllocError;
 use world::law::View;

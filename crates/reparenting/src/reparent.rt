@@ -2,13 +2,13 @@
 ghost use Rattle.std.specs.Prelude.{◌≡◌, OnOk};
 ghost use Rattle.spec_world.specs.World.{object_at};
 ghost use Rattle.spec_world.specs.Families.{parent_of, with_heirs, reparented};
-ghost use Rattle.inherit.specs.Lines.{AreAgreeing};
-ghost use Rattle.family.specs.Below.{IsFamily};
+ghost use Rattle.rules.specs.Lines.{AreAgreeing};
+ghost use Rattle.rules.specs.Below.{IsFamily};
 ghost use Rattle.world.specs.Law.{Goes, Lasts};
 
 use crate::along::{names_beside, slots_beside};
 use crate::heirs::{inherit_each, lose_each};
-use relatives::children::put_below;
+use rules::relatives::children::put_below;
 use std::alloc::{AllocError, Global};
 use world::law::View;
 

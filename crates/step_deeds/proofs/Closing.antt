@@ -16,9 +16,9 @@ use Rattle.spec_moo.specs.Linking.{connection_closed, link_closed}
 use Rattle.moo_task.specs.Deeds.{scene_of}
 use Rattle.moo_task.specs.declared.deeds.Deeds.{Deeds}
 use Rattle.world.specs.Law.{Goes, Tells}
-use Rattle.inherit.specs.Lines.{AreAgreeing}
-use Rattle.inherit.specs.Standing.{IsStanding}
-use Rattle.inherit.proofs.Standing.{closed_stands}
+use Rattle.rules.specs.Lines.{AreAgreeing}
+use Rattle.rules.specs.Standing.{IsStanding}
+use Rattle.rules.proofs.InheritStanding.{closed_stands}
 use Rattle.step_deeds.specs.Closing.{without_readers}
 
 pub first_is_got : (ns : List ℤ) → slice_get ns 0 ≡ first ns

@@ -6,8 +6,8 @@ ghost use Rattle.spec_view.specs.Laws.{first as first_of};
 ghost use Rattle.spec_moo.specs.Linking.{link_closed};
 ghost use Rattle.moo_task.specs.Deeds.{scene_of};
 ghost use Rattle.world.specs.Law.{Goes, Lasts, Tells};
-ghost use Rattle.inherit.specs.Lines.{AreAgreeing};
-ghost use Rattle.inherit.specs.Standing.{IsStanding};
+ghost use Rattle.rules.specs.Lines.{AreAgreeing};
+ghost use Rattle.rules.specs.Standing.{IsStanding};
 ghost use Rattle.step_deeds.specs.Closing.{without_readers};
 
 use moo_task::deeds::Deeds;

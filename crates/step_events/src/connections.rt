@@ -17,8 +17,8 @@ ghost use Rattle.step_tasks.specs.Tasks.{MayRun};
 ghost use Rattle.step_tasks.specs.Opens.{IsOpening};
 
 use crate::login::login;
-use inherit::verb::FoundVerb;
-use moo_run::natives::Natives;
+use rules::inherit::verb::FoundVerb;
+use running::moo_run::natives::Natives;
 use moo_task::deeds::Deeds;
 use moo_task::running::Running;
 use moo_value::text::Text;

@@ -10,8 +10,8 @@ ghost use Rattle.world.specs.Law.{Goes, Lasts};
 ghost use Rattle.step_tasks.specs.Performed.{StepsTo};
 ghost use Rattle.step_tasks.specs.Ready.{AreReady};
 
-use inherit::verb::FoundVerb;
-use moo_run::natives::Natives;
+use rules::inherit::verb::FoundVerb;
+use running::moo_run::natives::Natives;
 use moo_task::deeds::Deeds;
 use moo_value::text::Text;
 use moo_value::value::Value;

@@ -13,7 +13,7 @@ ghost use Rattle.step_events.specs.Wholes.{AreWhole};
 use crate::connections::{close, open};
 use crate::lines::line;
 use crate::waiting::ready;
-use moo_run::natives::Natives;
+use running::moo_run::natives::Natives;
 use moo_task::deeds::Deeds;
 use std::alloc::{AllocError, Global};
 use step_tasks::opening::opening;

@@ -11,7 +11,7 @@ ghost use Rattle.step_tasks.specs.Performed.{StepsTo};
 ghost use Rattle.step_tasks.specs.Ready.{AreReady};
 ghost use Rattle.step_tasks.specs.Opens.{IsOpening};
 
-use moo_run::natives::Natives;
+use running::moo_run::natives::Natives;
 use moo_task::deeds::Deeds;
 use moo_task::task::Task;
 use moo_value::value::Value;

@@ -17,7 +17,7 @@ ghost use Rattle.step_links.specs.Codes.{HasVerb, HasVerbAt};
 
 use crate::faults::fault_text;
 use builtins_change::put::put_program;
-use command_parser::programming::programmable;
+use rules::command_parser::programming::programmable;
 use moo_compiler::program::Program;
 use moo_parse::parse::parse;
 use moo_task::deeds::Deeds;
@@ -205,7 +205,7 @@ fn replace_program<V: View>(
     put_program(alloc, view, object, verbs.as_slice(), place, verb, program)
 }
 
-#[tactic(auto, using(permissions::proofs::Places::stands_there, permissions::proofs::Places::stands_none))]
+#[tactic(auto, using(rules::proofs::Places::stands_there, rules::proofs::Places::stands_none))]
 fn verb_at(verbs: &[Verb], place: usize) -> Option<&Verb>
     ensures { MatchOption result (in_place verbs.now place ≡ None) (λ v. in_place verbs.now place ≡ Some v.now) }
 {

@@ -19,7 +19,7 @@ ghost use Rattle.step_tasks.specs.Ready.{AreReady};
 ghost use Rattle.step_links.specs.Accepting.{Accepts, has_player};
 
 use builtins_task::ids::{MOST_IDS, task_id};
-use inherit::verb::FoundVerb;
+use rules::inherit::verb::FoundVerb;
 use moo_task::deeds::Deeds;
 use moo_task::running::Running;
 use moo_task::task::Task;

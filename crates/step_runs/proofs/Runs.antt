@@ -23,10 +23,10 @@ use Rattle.moo_task.specs.Frames.{kept_of}
 use Rattle.moo_task.specs.Outcomes.{ticks_of}
 use Rattle.moo_task.specs.declared.deeds.Deeds.{Deeds}
 use Rattle.moo_task.specs.declared.running.Running.{Running}
-use Rattle.moo_run.specs.Stopping.{IsUnderWay, begins, resumes, StopsAsSegment, stop_in, stopped_at}
-use Rattle.moo_run.specs.declared.stopped.Stopped.{Stopped}
-use Rattle.moo_run.specs.declared.stopped.Stop.{Stop}
-use Rattle.moo_run.specs.declared.stopped.Stop.TheVariants.{Ends, OutOfTicks, Waits}
+use Rattle.running.specs.Stopping.{IsUnderWay, begins, resumes, StopsAsSegment, stop_in, stopped_at}
+use Rattle.running.specs.declared.moo_run.stopped.Stopped.{Stopped}
+use Rattle.running.specs.declared.moo_run.stopped.Stop.{Stop}
+use Rattle.running.specs.declared.moo_run.stopped.Stop.TheVariants.{Ends, OutOfTicks, Waits}
 use Rattle.moo_task.specs.UnderWay as task
 use Rattle.moo_task.specs.UnderWay.{verb_of}
 use Rattle.moo_task.proofs.Stopped.{stops_are_kept}

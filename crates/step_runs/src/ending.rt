@@ -15,7 +15,7 @@ ghost use Rattle.world.specs.Law.{Goes, Lasts};
 ghost use Rattle.step_runs.specs.Stops.{CanBeKept, Settles, SettlesAs};
 
 use moo_machine::leaving::{Failure, Traced};
-use moo_run::stopped::Stop;
+use running::moo_run::stopped::Stop;
 use moo_task::deeds::Deeds;
 use moo_task::effect::Waiting;
 use moo_task::frame::Frame;

@@ -12,7 +12,7 @@ ghost use Rattle.step_tasks.specs.Tasks.{MayRun};
 ghost use Rattle.step_runs.specs.Stops.{came_to_of};
 
 use crate::run::{Ran, run_task};
-use moo_run::natives::Natives;
+use running::moo_run::natives::Natives;
 use moo_task::deeds::Deeds;
 use moo_task::running::Running;
 use std::alloc::{AllocError, Global};

@@ -7,8 +7,8 @@ use Rattle.spec_ready.specs.Ready.{IsReady}
 use Rattle.moo_task.specs.Deeds.{scene_of}
 use Rattle.moo_task.specs.declared.deeds.Deeds.{Deeds}
 use Rattle.world.specs.Law.{Goes, Tells}
-use Rattle.inherit.specs.Lines.{AreAgreeing}
-use Rattle.inherit.proofs.Standing.{agreeing_stands}
+use Rattle.rules.specs.Lines.{AreAgreeing}
+use Rattle.rules.proofs.InheritStanding.{agreeing_stands}
 use Rattle.step_tasks.specs.Performed.{StepsTo}
 use Rattle.step_tasks.specs.Ready.{AreReady}
 

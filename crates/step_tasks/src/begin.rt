@@ -5,7 +5,7 @@ ghost use Rattle.spec_moo.specs.Steps.Running.{begun};
 ghost use Rattle.moo_task.specs.Outcomes.{ticks_of};
 ghost use Rattle.step_tasks.specs.Tasks.{MayRun, called_as as called_as_of};
 
-use inherit::verb::FoundVerb;
+use rules::inherit::verb::FoundVerb;
 use moo_machine::call::{Call, Start};
 use moo_program::program::Program;
 use moo_task::running::Running;

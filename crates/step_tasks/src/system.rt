@@ -3,13 +3,13 @@ ghost use Rattle.std.specs.Prelude.{◌≡◌, IfOk, IsTrue};
 ghost use Rattle.spec_value.specs.Datum.{Data, list, is_text};
 ghost use Rattle.spec_world.specs.VerbsSought.{find_verb as find_verb_of};
 ghost use Rattle.spec_moo.specs.Steps.Running.{system, system_call, system_task as system_task_of, unnamed as unnamed_of};
-ghost use Rattle.inherit.specs.Lines.{AreAgreeing};
+ghost use Rattle.rules.specs.Lines.{AreAgreeing};
 ghost use Rattle.moo_task.specs.Outcomes.{ticks_of};
 ghost use Rattle.world.specs.Law.{Lasts, Tells};
 ghost use Rattle.step_tasks.specs.Tasks.{MayRun};
 
 use crate::begin::{begin, program_of};
-use inherit::verb::{FoundVerb, find_verb};
+use rules::inherit::verb::{FoundVerb, find_verb};
 use moo_machine::call::{Call, Start};
 use moo_task::running::Running;
 use moo_value::text::Text;

@@ -6,7 +6,7 @@ use Rattle.moo_value.specs.Answers.{answer_of}
 use Rattle.builtins_world.specs.Said.{with_programmer}
 use Rattle.builtins_change.proofs.Chains.{then_does}
 use Rattle.builtins_family.specs.Defining.{property_given, property_owned}
-use Rattle.inherit.proofs.Tellings.{known_on}
+use Rattle.rules.proofs.Tellings.{known_on}
 use Rattle.builtins_family.proofs.Chains.{is_given, absent_given, refused_given}
 use Rattle.builtins_family.proofs.adding.add.Goals as goal
 

@@ -5,8 +5,8 @@ use Rattle.spec_world.specs.World.{object_at}
 use Rattle.spec_world.specs.Inherit.{slot_at}
 use Rattle.spec_moo.specs.Properties.{built_in}
 use Rattle.spec_moo.specs.Natives.Properties.{are_bits, is_empty}
-use Rattle.inherit.proofs.Tellings.{told_on}
-use Rattle.family.specs.Below.{IsFamily}
+use Rattle.rules.proofs.Tellings.{told_on}
+use Rattle.rules.specs.Below.{IsFamily}
 use Rattle.builtins_family.specs.Slots.{any_defines}
 use Rattle.builtins_family.specs.Defining.{is_new_in, is_definable}
 use Rattle.builtins_family.proofs.Chains.{new_is, new_then, definable_is}

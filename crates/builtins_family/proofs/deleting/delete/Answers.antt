@@ -4,7 +4,7 @@ use Rattle.spec_value.specs.Datum.{fold_case}
 use Rattle.spec_world.specs.WellFormed.{has_name}
 use Rattle.spec_world.specs.Permissions.{may, change_members}
 use Rattle.spec_view.specs.Questions.{defines_at}
-use Rattle.inherit.proofs.Tellings.{known_on}
+use Rattle.rules.proofs.Tellings.{known_on}
 use Rattle.builtins_family.proofs.Chains.{deleted_does, refused_does}
 use Rattle.builtins_family.proofs.deleting.delete.Goals as goal
 

@@ -1,9 +1,9 @@
 use Rattle.std.proofs.Common.{not, filter, refl, w32}
 use Rattle.std.proofs.lemmas.Int.{to_z-of_z}
 use Rattle.spec_value.specs.Datum.{fold_case, same_text}
-use Rattle.family.specs.Losing.{losing}
+use Rattle.rules.specs.Losing.{losing}
 use Rattle.builtins_family.proofs.OneChange.{family_told}
-use Rattle.family.proofs.OneByOne.{losing_again}
+use Rattle.rules.proofs.OneByOne.{losing_again}
 use Rattle.builtins_family.proofs.Slots.{deleted_told}
 use Rattle.builtins_family.proofs.deleting.take_out.Goals as goal
 

@@ -1,6 +1,6 @@
 use Rattle.std.proofs.Common.{◌≡◌, drop}
 use Rattle.world.specs.Law.{Goes}
-use Rattle.family.specs.InTurn.{in_turn}
+use Rattle.rules.specs.InTurn.{in_turn}
 use Rattle.builtins_family.specs.Slots.{getting}
 use Rattle.builtins_family.proofs.each.give_slots.Given as goal
 

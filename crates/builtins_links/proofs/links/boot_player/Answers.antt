@@ -1,7 +1,7 @@
 use Rattle.std.proofs.Common.{◌≡◌, Some, None, rules, w32}
 use Rattle.std.proofs.lemmas.Int.{to_z-of_z}
-use Rattle.inherit.specs.Standing.{IsStanding}
-use Rattle.inherit.proofs.Tellings.{stays_known}
+use Rattle.rules.specs.Standing.{IsStanding}
+use Rattle.rules.proofs.Tellings.{stays_known}
 use Rattle.builtins_links.specs.Refused.{IsRefusal}
 use Rattle.builtins_links.proofs.Rows.{boots_not, boots}
 use Rattle.builtins_links.proofs.links.boot_player.Goals as goal

@@ -2,7 +2,7 @@ use Rattle.std.proofs.Common.{◌≡◌, ap, rules, w32, to_z, of_z}
 use Rattle.std.proofs.lemmas.Int.{to_z-of_z}
 use Rattle.spec_world.specs.World.{object_at}
 use Rattle.spec_world.specs.Families.{parent_of}
-use Rattle.inherit.proofs.Tellings.{known_on}
+use Rattle.rules.proofs.Tellings.{known_on}
 use Rattle.builtins_objects.proofs.Parents.{stays_told, unlike}
 use Rattle.builtins_objects.proofs.chparent.adopt.Goals as goal
 

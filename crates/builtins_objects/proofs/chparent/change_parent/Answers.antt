@@ -1,8 +1,8 @@
 use Rattle.std.proofs.Common.{◌≡◌, false, None, w32}
 use Rattle.std.proofs.lemmas.Int.{to_z-of_z}
 use Rattle.moo_value.specs.Errors.{code_of}
-use Rattle.inherit.proofs.Tellings.{known_on}
-use Rattle.family.specs.Below.{IsFamily}
+use Rattle.rules.proofs.Tellings.{known_on}
+use Rattle.rules.specs.Below.{IsFamily}
 use Rattle.reparenting.specs.Clashes.{any_clashes}
 use Rattle.builtins_objects.specs.Verdict.{verdict}
 use Rattle.builtins_objects.specs.Parents.{parent_checks}

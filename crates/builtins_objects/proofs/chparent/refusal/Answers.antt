@@ -7,7 +7,7 @@ use Rattle.spec_world.specs.World.{object_at}
 use Rattle.spec_world.specs.Permissions.{may, change_object, have_child}
 use Rattle.spec_world.specs.Families.{is_below}
 use Rattle.spec_moo.specs.Natives.Rows.{wants}
-use Rattle.inherit.proofs.Tellings.{known_on}
+use Rattle.rules.proofs.Tellings.{known_on}
 use Rattle.builtins_objects.proofs.Chains.{turned_told, check_fails, check_passes, last_passes}
 use Rattle.builtins_objects.proofs.chparent.refusal.Goals as goal
 

@@ -1,7 +1,7 @@
 use Rattle.std.proofs.Common.{◌≡◌, true, is_some, w32}
 use Rattle.std.proofs.lemmas.Int.{to_z-of_z}
 use Rattle.spec_world.specs.World.{object_at}
-use Rattle.inherit.proofs.Tellings.{known_on}
+use Rattle.rules.proofs.Tellings.{known_on}
 use Rattle.builtins_objects.proofs.Departures.{departs_not, departs}
 use Rattle.builtins_objects.proofs.departing.depart.Goals as goal
 

@@ -1,7 +1,7 @@
 use Rattle.std.proofs.Common.{◌≡◌, None, rules, w32}
 use Rattle.std.proofs.lemmas.Int.{to_z-of_z}
-use Rattle.inherit.specs.Standing.{IsStanding}
-use Rattle.inherit.proofs.Tellings.{stays_known}
+use Rattle.rules.specs.Standing.{IsStanding}
+use Rattle.rules.proofs.Tellings.{stays_known}
 use Rattle.builtins_objects.specs.Flags.{flag_checks}
 use Rattle.builtins_objects.specs.Verdict.{verdict}
 use Rattle.builtins_objects.proofs.Flags.{flags_not, flags}

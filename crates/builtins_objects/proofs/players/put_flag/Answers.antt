@@ -1,7 +1,7 @@
 use Rattle.std.proofs.Common.{w32}
 use Rattle.std.proofs.lemmas.Int.{to_z-of_z}
 use Rattle.spec_world.specs.World.{Header, Object}
-use Rattle.relatives.proofs.Changes.{part_told}
+use Rattle.rules.proofs.Changes.{part_told}
 use Rattle.builtins_objects.proofs.players.put_flag.Goals as goal
 
 pub returns-clause-left : goal.returns-clause-left

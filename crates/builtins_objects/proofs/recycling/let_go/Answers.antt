@@ -2,7 +2,7 @@ use Rattle.std.proofs.Common.{◌≡◌, ap, ◌∙◌, Some, None, rules, w32, 
 use Rattle.std.proofs.lemmas.Int.{to_z-of_z}
 use Rattle.spec_world.specs.World.{Header}
 use Rattle.spec_view.specs.Questions.{header_at, children_at, contents_at}
-use Rattle.inherit.proofs.Tellings.{known_on}
+use Rattle.rules.proofs.Tellings.{known_on}
 use Rattle.builtins_objects.proofs.Gone.{absent_told, known_children, gone_told}
 use Rattle.builtins_objects.proofs.recycling.let_go.Goals as goal
 

@@ -1,7 +1,7 @@
 use Rattle.std.proofs.Common.{w32}
 use Rattle.std.proofs.lemmas.Int.{to_z-of_z}
-use Rattle.inherit.proofs.Tellings.{known_on}
-use Rattle.family.specs.Below.{IsFamily}
+use Rattle.rules.proofs.Tellings.{known_on}
+use Rattle.rules.specs.Below.{IsFamily}
 use Rattle.builtins_objects.proofs.Gone.{raise_told}
 use Rattle.builtins_objects.proofs.recycling.raise_child.Goals as goal
 

@@ -2,7 +2,7 @@ use Rattle.std.proofs.Common.{◌≡◌, drop}
 use Rattle.world.specs.Law.{Goes}
 use Rattle.spec_world.specs.World.{World}
 use Rattle.spec_world.specs.Families.{reparented_each}
-use Rattle.inherit.specs.Lines.{AreAgreeing}
+use Rattle.rules.specs.Lines.{AreAgreeing}
 use Rattle.builtins_objects.specs.Going.{HasChildren}
 use Rattle.builtins_objects.proofs.recycling.raise_children.Given as goal
 

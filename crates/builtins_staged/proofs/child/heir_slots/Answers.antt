@@ -2,7 +2,7 @@ use Rattle.std.proofs.Common.{◌≡◌, [], ap, ◌∙◌, w32}
 use Rattle.std.proofs.lemmas.Int.{to_z-of_z}
 use Rattle.spec_world.specs.World.{object_at}
 use Rattle.spec_world.specs.Families.{heir_slots, slots_at}
-use Rattle.inherit.proofs.Tellings.{told_as}
+use Rattle.rules.proofs.Tellings.{told_as}
 use Rattle.reparenting.specs.Heirs.{heritage}
 use Rattle.builtins_staged.specs.Children.{put_heirs}
 use Rattle.builtins_staged.proofs.Children.{heirs_are}

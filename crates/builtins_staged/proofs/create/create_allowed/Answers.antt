@@ -2,7 +2,7 @@ use Rattle.std.proofs.Common.{◌≡◌, ◌&&◌, true, false, Some, None, ap, 
 use Rattle.std.proofs.lemmas.Int.{to_z-of_z}
 use Rattle.spec_world.specs.World.{World, Call}
 use Rattle.spec_world.specs.ObjectLaws.{IsPlace}
-use Rattle.inherit.proofs.Tellings.{stays_known}
+use Rattle.rules.proofs.Tellings.{stays_known}
 use Rattle.builtins_staged.specs.Children.{IsNext}
 use Rattle.builtins_staged.proofs.Leading.{told_well, told_then}
 use Rattle.builtins_staged.proofs.Creating.{IsAllowed, denied_led, full_led, allowed_led}

@@ -3,7 +3,7 @@ use Rattle.std.proofs.lemmas.Int.{to_z-of_z}
 use Rattle.spec_world.specs.World.{Header}
 use Rattle.spec_view.specs.Questions.{header_at}
 use Rattle.spec_world.specs.Whereabouts.{is_inside}
-use Rattle.inherit.proofs.Tellings.{known_on, told_as, told_before, told_on}
+use Rattle.rules.proofs.Tellings.{known_on, told_as, told_before, told_on}
 use Rattle.builtins_staged.proofs.Ways.{OnTheWay, begins_way, met, left_out, further}
 use Rattle.builtins_staged.proofs.places.is_inside.Goals as goal
 

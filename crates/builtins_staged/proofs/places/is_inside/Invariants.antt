@@ -1,6 +1,6 @@
 use Rattle.std.proofs.Common.{◌≡◌}
 use Rattle.world.specs.Law.{Tells}
-use Rattle.inherit.specs.Lines.{AreAgreeing}
+use Rattle.rules.specs.Lines.{AreAgreeing}
 use Rattle.builtins_staged.proofs.Ways.{OnTheWay}
 use Rattle.builtins_staged.proofs.places.is_inside.Given as goal
 

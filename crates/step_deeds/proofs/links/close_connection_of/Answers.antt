@@ -1,8 +1,8 @@
 use Rattle.std.proofs.Common.{◌≡◌, Some, None, rules, w32, to_z, of_z}
 use Rattle.std.proofs.lemmas.Int.{to_z-of_z}
 use Rattle.spec_world.specs.Links.{connection_of}
-use Rattle.inherit.specs.Standing.{IsStanding}
-use Rattle.inherit.proofs.Tellings.{stays_known}
+use Rattle.rules.specs.Standing.{IsStanding}
+use Rattle.rules.proofs.Tellings.{stays_known}
 use Rattle.step_deeds.proofs.Closing.{none_closed, one_closed}
 use Rattle.step_deeds.proofs.links.close_connection_of.Goals as goal
 

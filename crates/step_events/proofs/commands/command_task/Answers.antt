@@ -2,7 +2,7 @@ use Rattle.std.proofs.Common.{w32}
 use Rattle.std.proofs.lemmas.Int.{to_z-of_z}
 use Rattle.spec_value.specs.Datum.{of_list}
 use Rattle.spec_moo.specs.Natives.Properties.{as_texts}
-use Rattle.command_lines.specs.Meant.{parts_of}
+use Rattle.rules.specs.CommandLinesMeant.{parts_of}
 use Rattle.step_events.proofs.commands.command_task.Goals as goal
 
 pub returns-clause-runs : goal.returns-clause-runs

@@ -3,7 +3,7 @@ use Rattle.std.proofs.lemmas.Int.{to_z-of_z}
 use Rattle.spec_value.specs.Table.{at}
 use Rattle.spec_world.specs.CommandLines.{command_said}
 use Rattle.spec_moo.specs.Steps.Events.{player_line, command_run, foreground_ticks}
-use Rattle.command_parser.specs.Meanings.{command_of}
+use Rattle.rules.specs.Meanings.{command_of}
 use Rattle.moo_task.specs.Deeds.{scene_of}
 use Rattle.step_tasks.proofs.Playing.{plays_then, ready_told, still}
 use Rattle.step_events.proofs.commands.player_line.Goals as goal

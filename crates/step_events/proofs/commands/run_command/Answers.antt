@@ -3,8 +3,8 @@ use Rattle.std.proofs.lemmas.Int.{to_z-of_z}
 use Rattle.spec_world.specs.World.{World}
 use Rattle.spec_step.specs.Outcome.{Outcome}
 use Rattle.spec_moo.specs.Steps.Events.{command_run, foreground_ticks}
-use Rattle.command_parser.specs.Meanings.{command_of}
-use Rattle.command_parser.specs.declared.command.Command.{Command}
+use Rattle.rules.specs.Meanings.{command_of}
+use Rattle.rules.specs.declared.command_parser.command.Command.{Command}
 use Rattle.moo_task.specs.Deeds.{scene_of}
 use Rattle.step_tasks.proofs.Playing.{plays_as, plays_here_as}
 use Rattle.step_events.proofs.commands.run_command.Goals as goal

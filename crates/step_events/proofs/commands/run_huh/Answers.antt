@@ -7,8 +7,8 @@ use Rattle.spec_world.specs.CommandLines.{calls_huh}
 use Rattle.spec_moo.specs.Natives.Properties.{as_texts}
 use Rattle.spec_moo.specs.Steps.Running.{begun, run, came_to}
 use Rattle.spec_moo.specs.Steps.Events.{command_run, command_call, command_start, foreground_ticks}
-use Rattle.command_lines.specs.Meant.{parts_of}
-use Rattle.command_parser.specs.Meanings.{named_of}
+use Rattle.rules.specs.CommandLinesMeant.{parts_of}
+use Rattle.rules.specs.Meanings.{named_of}
 use Rattle.moo_task.specs.Deeds.{scene_of}
 use Rattle.step_tasks.proofs.Playing.{plays_then, ready_told}
 use Rattle.step_events.proofs.commands.run_huh.Goals as goal

@@ -4,8 +4,8 @@ use Rattle.spec_value.specs.Datum.{of_list}
 use Rattle.spec_moo.specs.Natives.Properties.{as_texts}
 use Rattle.spec_moo.specs.Steps.Running.{begun}
 use Rattle.spec_moo.specs.Steps.Events.{command_call, command_start}
-use Rattle.command_lines.specs.Meant.{parts_of}
-use Rattle.command_parser.specs.Meanings.{named_of}
+use Rattle.rules.specs.CommandLinesMeant.{parts_of}
+use Rattle.rules.specs.Meanings.{named_of}
 use Rattle.step_events.proofs.commands.run_verb.Goals as goal
 
 pub play_task-requires-clause-runs : goal.play_task-requires-clause-runs

@@ -2,8 +2,8 @@ use Rattle.std.proofs.Common.{◌≡◌, to_z, of_z, w32, rules}
 use Rattle.std.proofs.lemmas.Int.{to_z-of_z}
 use Rattle.spec_world.specs.World.{World}
 use Rattle.spec_moo.specs.Steps.Events.{foreground_ticks}
-use Rattle.command_parser.specs.Openings.{opened}
-use Rattle.command_parser.specs.declared.programming.Opening.{Opening}
+use Rattle.rules.specs.Openings.{opened}
+use Rattle.rules.specs.declared.command_parser.programming.Opening.{Opening}
 use Rattle.moo_task.specs.Deeds.{scene_of}
 use Rattle.step_tasks.proofs.Playing.{plays_as, plays_here_as}
 use Rattle.step_links.proofs.programming.answer.Goals as goal

@@ -4,7 +4,7 @@ use Rattle.std.specs.Fmt.{signed_decimal}
 use Rattle.spec_value.specs.Datum.{object, is_text}
 use Rattle.spec_value.specs.Literal.{to_text}
 use Rattle.moo_value.proofs.Written.{text_shown}
-use Rattle.inherit.proofs.Tellings.{if_ok_as}
+use Rattle.rules.proofs.Tellings.{if_ok_as}
 use Rattle.step_links.proofs.Relinks.{programming_told}
 use Rattle.step_links.proofs.programming.now_programming.Goals as goal
 

@@ -4,8 +4,8 @@ use Rattle.spec_value.specs.Table.{at}
 use Rattle.spec_moo.specs.Scene.{Scene}
 use Rattle.spec_moo.specs.Steps.Events.{foreground_ticks}
 use Rattle.spec_moo.specs.Steps.Programming.{requested}
-use Rattle.command_parser.specs.Meanings.{request_of}
-use Rattle.command_parser.specs.Openings.{opened}
+use Rattle.rules.specs.Meanings.{request_of}
+use Rattle.rules.specs.Openings.{opened}
 use Rattle.moo_task.specs.Deeds.{scene_of}
 use Rattle.step_tasks.proofs.Playing.{plays_then, ready_told, still}
 use Rattle.step_links.proofs.programming.request.Goals as goal

@@ -1,5 +1,5 @@
 use Rattle.std.proofs.Common.{◌∙◌}
-use Rattle.moo_run.specs.Scenes.{scene_at, caller_of}
+use Rattle.running.specs.Scenes.{scene_at, caller_of}
 use Rattle.builtin_natives.proofs.builtins.BuiltinsNatives.call.Goals as goal
 
 pub returns-clause-does : goal.returns-clause-does

@@ -1,26 +1,20 @@
 -- An object goes with its link, call by call.
 use Rattle.std.proofs.Common.{◌≡◌, ℕ, ℤ, Bool, true, false, Result, Ok, Err, OnOk, sym, ap, ◌∙◌, subst, is_some, if◌then◌else◌}
-use Rattle.spec_value.specs.Table.{at}
 use Rattle.spec_world.specs.World.{World, object_at}
-use Rattle.spec_world.specs.WellFormed.{IsWellFormed}
 use Rattle.spec_world.specs.Families.{recycled}
-use Rattle.spec_world.proofs.ObjectsKept.{recycled_keeps}
-use Rattle.spec_world.proofs.WorldsKept.{IsNobodys, recycled_rest, recycled_players, objects_changed, well_formed_agrees, agrees_is_well_formed, agrees_of}
 use Rattle.spec_moo.specs.Scene.{Scene, in_world}
 use Rattle.spec_moo.specs.Linking.{link_closed}
 use Rattle.spec_moo.specs.Natives.Objects.{recycle_now}
 use Rattle.moo_task.specs.Deeds.{scene_of}
 use Rattle.moo_task.specs.declared.deeds.Deeds.{Deeds}
-use Rattle.rules.specs.Lines.{AreAgreeing, AreWellFormed}
+use Rattle.rules.specs.Lines.{AreAgreeing}
+use Rattle.rules.specs.Standing.{IsStanding}
+use Rattle.rules.proofs.ObjectsStand.{recycled_stands}
 use Rattle.world.specs.Law.{Goes, Tells}
 use Rattle.builtins_objects.proofs.Flags.{closed_well, closed_nobodys}
 
 abbrev gone : Scene → ℤ → Scene
 gone s o = in_world s (recycled s.world o)
-
--- where all agrees, objects do
-pub objects_known : {V : Type 0} (holds : V → World → Type 0) (now : V → World → World) (a : V) → AreWellFormed holds now a → AreAgreeing holds now a
-objects_known holds now a known w left = (agrees_of (now a w) (known w left)).objects
 
 module _ {V : Type 0} (holds : V → World → Type 0) (now : V → World → World) (o : ℤ) where
   -- it is not there
@@ -47,29 +41,21 @@ module _ {V : Type 0} (holds : V → World → Type 0) (now : V → World → Wo
             ∙ ap (λ z. if z then gone (link_closed (scene_of d (now a w) n) o) o else scene_of d (now a w) n) (sym t.1.1),
       )
 
--- ---- a world stays well formed
+-- ---- a world that stands stays so
 
-recycled_well : (w : World) (o : ℤ) → IsWellFormed w → IsNobodys w o → IsWellFormed (recycled w o)
-recycled_well w o h alone =
-    let parts = well_formed_agrees w h in
-    let rest = recycled_rest w o in
-    agrees_is_well_formed (recycled w o)
-    (objects_changed w (recycled w o) parts.0 (recycled_keeps w o parts.0.objects) rest (λ c l e p. recycled_players w o l.person (alone c l e) p))
-    (λ i t e. parts.1 i t (ap (λ ts. at ts i) (sym rest.tasks) ∙ e))
-
-gone_well : (s : Scene) (o : ℤ) → IsWellFormed s.world → IsWellFormed (recycle_now s o).world
+gone_well : (s : Scene) (o : ℤ) → IsStanding s.world → IsStanding (recycle_now s o).world
 gone_well s o h = go (is_some (object_at s.world o))
   where
-    go : (b : Bool) → IsWellFormed (if b then gone (link_closed s o) o else s).world
-    go true = recycled_well (link_closed s o).world o (closed_well s o h) (closed_nobodys s o h)
+    go : (b : Bool) → IsStanding (if b then gone (link_closed s o) o else s).world
+    go true = recycled_stands (link_closed s o).world o (closed_well s o h) (closed_nobodys s o h)
     go false = h
 
 pub departs_well : {V A E : Type 0} (holds : V → World → Type 0) (now : V → World → World) (a b : V) (d e : Deeds) (o : ℤ) (r : Result A E)
     → OnOk r (Goes holds now a b (λ before after. (t : ℕ) → scene_of e after t ≡ recycle_now (scene_of d before t) o))
-    → AreWellFormed holds now a → OnOk r (AreWellFormed holds now b)
+    → AreAgreeing holds now a → OnOk r (AreAgreeing holds now b)
 departs_well holds now a b d e o (Err x) told known = tt
 departs_well holds now a b d e o (Ok x) told known = λ w left.
     let t = told w left in
     let s : Scene = scene_of d (now a w) 0 in
     let same : (recycle_now s o).world ≡ now b w = ap (λ (z : Scene). z.world) (sym (t.1 0)) in
-    subst IsWellFormed same (gone_well s o (known w t.0))
+    subst IsStanding same (gone_well s o (known w t.0))

@@ -2,7 +2,7 @@
 ghost use Rattle.std.specs.Prelude.{◌≡◌, ℕ, OnOk};
 ghost use Rattle.spec_moo.specs.Natives.Objects.{recycle_now as recycle_now_of};
 ghost use Rattle.moo_task.specs.Deeds.{scene_of};
-ghost use Rattle.rules.specs.Lines.{AreWellFormed};
+ghost use Rattle.rules.specs.Lines.{AreAgreeing};
 ghost use Rattle.world.specs.Law.{Goes, Lasts};
 
 use crate::asked::is_there;
@@ -21,11 +21,11 @@ pub fn recycle_now<V: View>(
     object: i32,
 ) -> Result<(), AllocError>
     requires home { V.holds view.old (V.home view.old) }
-    requires well_formed { AreWellFormed V.holds V.now view.old }
+    requires well_formed { AreAgreeing V.holds V.now view.old }
     ensures lasts { Lasts V.holds V.home V.anchor view.old view.new result }
     ensures left { OnOk result (Goes V.holds V.now view.old view.new
         (λ before after. (t : ℕ) → scene_of deeds.new after t ≡ recycle_now_of (scene_of deeds.old before t) object)) }
-    ensures well_formed { OnOk result (AreWellFormed V.holds V.now view.new) }
+    ensures well_formed { OnOk result (AreAgreeing V.holds V.now view.new) }
 {
     depart(alloc, view, deeds, object)
 }
@@ -37,7 +37,7 @@ fn depart<V: View>(
     object: i32,
 ) -> Result<(), AllocError>
     requires home { V.holds view.old (V.home view.old) }
-    requires well_formed { AreWellFormed V.holds V.now view.old }
+    requires well_formed { AreAgreeing V.holds V.now view.old }
     ensures lasts { Lasts V.holds V.home V.anchor view.old view.new result }
     ensures left { OnOk result (Goes V.holds V.now view.old view.new
         (λ before after. (t : ℕ) → scene_of deeds.new after t ≡ recycle_now_of (scene_of deeds.old before t) object)) }

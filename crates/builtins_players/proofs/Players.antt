@@ -212,7 +212,7 @@ module _ {V : Type 0} (holds : V → World → Type 0) (now : V → World → Wo
   players_told a b c g k all vs x known greatest count so items value w left =
       let t = so w left in
       let u = greatest w t.0 in
-      let h = known w u.0 in
+      let h = (known w u.0).objects in
       let listed : players_from (now a w) 0 k ≡ all = subst (λ (v : World). players_from v 0 k ≡ all) u.1.0 t.1.1 in
       let are : players_among (now a w).objects ≡ all =
       sym (are_players (now a w) h.objects_in_order h.numbers) ∙ ap (players_from (now a w) 0) (ap numbers_to u.1.1 ∙ sym count) ∙ listed in

@@ -3,18 +3,14 @@ use Rattle.std.proofs.Common.{◌≡◌, ◌∙◌, ap, sym, subst, ℕ, Result,
 use Rattle.std.specs.Prelude.{OnOk}
 use Rattle.spec_world.specs.World.{World}
 use Rattle.spec_step.specs.Outcome.{Outcome}
-use Rattle.spec_moo.specs.Scene.{Scene}
 use Rattle.spec_ready.specs.Ready.{IsReady}
 use Rattle.moo_task.specs.Deeds.{scene_of}
 use Rattle.moo_task.specs.declared.deeds.Deeds.{Deeds}
 use Rattle.world.specs.Law.{Goes, Tells}
-use Rattle.step_deeds.specs.Closing.{IsReadOnce}
+use Rattle.rules.specs.Lines.{AreAgreeing}
+use Rattle.rules.proofs.InheritStanding.{agreeing_stands}
 use Rattle.step_tasks.specs.Performed.{StepsTo}
 use Rattle.step_tasks.specs.Ready.{AreReady}
-
--- one task at most reads on each link
-pub read_once : (s : Scene) → IsReady s → IsReadOnce s.world
-read_once s h = let queue = h.agrees.world.queue in record { tasks_in_order = queue.tasks_in_order; readers = queue.readers }
 
 pub on_ok : {T E : Type 0} (r : Result T E) (P Q : Type 0) → (P → Q) → OnOk r P → OnOk r Q
 on_ok (Ok x) P Q f h = f h
@@ -62,6 +58,11 @@ module _ {V : Type 0} (holds : V → World → Type 0) (now : V → World → Wo
   pub plays_here_as : {K : Type 0} (a : V) (f : K → World → World × Outcome) (k j : K) (o : Outcome) → k ≡ j → ((w : World) → f j w ≡ (w, o))
       → Goes holds now a a (λ before after. StepsTo (f k before) after o)
   plays_here_as {K} a f k j o is all w h = (h, ap (λ (x : K). f x (now a w)) is ∙ all (now a w))
+
+  -- ---- where a step may run a task, its world stands
+
+  pub ready_agrees : (a : V) (d : Deeds) → AreReady holds now a d → AreAgreeing holds now a
+  ready_agrees a d ready w h = agreeing_stands (now a w) (ready w h 0).agrees.world
 
   -- ---- a step may run a task afterwards too
 

@@ -1,9 +1,8 @@
 use Rattle.std.proofs.Common.{◌≡◌, true, is_some, w32}
 use Rattle.std.proofs.lemmas.Int.{to_z-of_z}
 use Rattle.spec_world.specs.World.{object_at}
-use Rattle.spec_world.specs.WellFormed.{IsWellFormed}
-use Rattle.rules.proofs.Tellings.{stays_known}
-use Rattle.builtins_objects.proofs.Departures.{objects_known, departs_not, departs}
+use Rattle.rules.proofs.Tellings.{known_on}
+use Rattle.builtins_objects.proofs.Departures.{departs_not, departs}
 use Rattle.builtins_objects.proofs.departing.depart.Goals as goal
 
 pub returns-then-not-there-clause-left : goal.returns-then-not-there-clause-left
@@ -14,12 +13,12 @@ returns-then-not-there-clause-left g c =
 pub close_connection_of-requires-clause-well_formed : goal.close_connection_of-requires-clause-well_formed
 close_connection_of-requires-clause-well_formed g c =
     let object = to_z-of_z w32 c.args.object c.ranges.object in
-    stays_known g.V.View.holds g.V.View.now IsWellFormed c.args.view.now c.is_there.new.view (λ w. is_some (object_at w c.args.object) ≡ true) c.requires.well_formed
+    known_on g.V.View.holds g.V.View.now c.args.view.now c.is_there.new.view (λ w. is_some (object_at w c.args.object) ≡ true) c.requires.well_formed
     (rw (object, c.if-not-there.false) at c.in_ok-there.ensures.left)
 
 pub recycle_object-requires-clause-well_formed : goal.recycle_object-requires-clause-well_formed
 recycle_object-requires-clause-well_formed g c =
-    objects_known g.V.View.holds g.V.View.now c.close_connection_of.new.view c.in_ok-close_connection_of.ensures.well_formed
+    c.in_ok-close_connection_of.ensures.well_formed
 
 pub returns-clause-left : goal.returns-clause-left
 returns-clause-left g c =

@@ -8,7 +8,9 @@ ghost use Rattle.builtin_requests.specs.Requests.{asking_of, said_of};
 
 use builtin_requests::asking::Asking;
 use builtin_requests::missing::missing;
+use builtins_links::players::connected_players;
 use builtins_players::listing::players;
+use builtins_queue::listing::queued_tasks;
 use builtins_world::objects::{children, is_player, max_object, parent, valid};
 use builtins_world::properties::{is_clear_property, properties, property_info};
 use builtins_world::verbs::{verb_args, verb_info, verbs};
@@ -50,7 +52,7 @@ pub fn ask<V: View>(
             Ok(verb_args(alloc, view, programmer, object, &which)?)
         }
         Asking::VerbCode(_, _) => missing(),
-        Asking::QueuedTasks => missing(),
-        Asking::ConnectedPlayers => missing(),
+        Asking::QueuedTasks => Ok(queued_tasks(alloc, view, programmer)?),
+        Asking::ConnectedPlayers => Ok(connected_players(alloc, view)?),
     }
 }

@@ -1,7 +1,6 @@
 -- Calls of built-in functions, for the verb that runs.
 use Rattle.std.proofs.Common.{◌≡◌, ◌∙◌, ℕ, ℤ, sym, subst}
-use Rattle.spec_world.specs.World.{World, Call}
-use Rattle.spec_world.specs.Agreeing.{ObjectsAgree}
+use Rattle.spec_world.specs.World.{World}
 use Rattle.spec_value.specs.Datum.{Datum}
 use Rattle.std.specs.Prelude.{Result}
 use Rattle.spec_moo.specs.Scene.{Scene, in_world}
@@ -15,14 +14,11 @@ use Rattle.moo_task.specs.declared.deeds.Deeds.{Deeds}
 use Rattle.moo_task.specs.declared.effect.NativeEffect.{NativeEffect}
 use Rattle.moo_task.specs.declared.effect.NativeEffect.TheVariants.{Answers}
 use Rattle.moo_task.specs.declared.running.Running.{Running}
-use Rattle.rules.specs.Lines.{AreAgreeing}
 use Rattle.world.specs.Law.{Goes, Tells}
 use Rattle.builtins_world.specs.Said.{Does, Says, with_programmer}
 use Rattle.builtins_links.specs.Acting.{with_player}
-use Rattle.builtin_requests.specs.Requests.{acting_of, own_of, request_of, said_of}
-use Rattle.builtin_requests.specs.declared.acting.Acting.{Acting}
+use Rattle.builtin_requests.specs.Requests.{own_of, said_of}
 use Rattle.builtin_requests.specs.declared.own.Own.{Own}
-use Rattle.builtin_requests.specs.declared.request.Request.{Request}
 use Rattle.builtin_deeds.specs.Acting.{scene_for, caller_for, ActsFor}
 
 abbrev Act : Type 0
@@ -75,20 +71,10 @@ module _ {V : Type 0} (holds : V → World → Type 0) (now : V → World → Wo
       let g = tells_acts (λ s c. row s (with_player c player)) d e who x is tells w left in
       (g.0, subst (λ p. row (scene_for d (now old w) r) (with_player (caller_for r) p) ≡ effect_of x (scene_for e (now new w) r)) own g.1)
 
-  -- where nothing is changed, objects still agree
-  pub told_agrees : (P : World → Type 0) → Tells holds now old new P → AreAgreeing holds now old → AreAgreeing holds now new
-  told_agrees P tells known w left = let g = tells w left in subst ObjectsAgree (sym g.1.0) (known w g.0)
-
-  -- a request that is known
-  pub acted_so : (d e : Deeds) (x : NativeEffect) (q p : Acting) → q ≡ p → Goes holds now old new (λ before after. ActsFor (said_of (acting_of p)) r d before x e after)
-      → Goes holds now old new (λ before after. ActsFor (said_of (acting_of q)) r d before x e after)
-  acted_so d e x q p is goes w left =
-      let g = goes w left in (g.0, subst (λ z. ActsFor (said_of (acting_of z)) r d (now old w) x e (now new w)) (sym is) g.1)
-
-  pub performed_so : (d e : Deeds) (x : NativeEffect) (q p : Request) → q ≡ p → Goes holds now old new (λ before after. ActsFor (said_of (request_of p)) r d before x e after)
-      → Goes holds now old new (λ before after. ActsFor (said_of (request_of q)) r d before x e after)
-  performed_so d e x q p is goes w left =
-      let g = goes w left in (g.0, subst (λ z. ActsFor (said_of (request_of z)) r d (now old w) x e (now new w)) (sym is) g.1)
+  -- a call that is known
+  pub known_so : {Q : Type 0} (row : Q → Act) (d e : Deeds) (x : NativeEffect) (q p : Q) → q ≡ p → Goes holds now old new (λ before after. ActsFor (row p) r d before x e after)
+      → Goes holds now old new (λ before after. ActsFor (row q) r d before x e after)
+  known_so row d e x q p is goes w left = let g = goes w left in (g.0, subst (λ z. ActsFor (row z) r d (now old w) x e (now new w)) (sym is) g.1)
 
   -- rows that say the same
   pub same_acts : (row rule : Act) (d e : Deeds) (x : NativeEffect) → ((s : Scene) (c : N.Caller) → row s c ≡ rule s c)

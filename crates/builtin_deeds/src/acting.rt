@@ -6,10 +6,10 @@ ghost use Rattle.builtin_requests.specs.Requests.{acting_of, said_of};
 ghost use Rattle.builtin_deeds.specs.Acting.{ActsFor};
 
 use builtin_requests::acting::Acting;
-use builtin_requests::missing::missing;
 use builtins_links::acting::set_task_perms;
-use builtins_links::links::read;
+use builtins_links::links::{boot_player, read};
 use builtins_links::notify::notify;
+use builtins_objects::players::set_player_flag;
 use builtins_queue::kill::kill_task;
 use builtins_queue::resume::{resume, resume_with};
 use builtins_task::server::dump_database;
@@ -35,7 +35,9 @@ pub fn act<V: View>(
 {
     let who = programmer(task);
     match acting {
-        Acting::SetPlayerFlag(_, _) => missing(),
+        Acting::SetPlayerFlag(object, flag) => Ok(NativeEffect::Answers(set_player_flag(
+            view, deeds, who, object, &flag,
+        )?)),
         Acting::Notify(object, line) => {
             Ok(NativeEffect::Answers(notify(view, deeds, who, object, line)?))
         }
@@ -46,7 +48,9 @@ pub fn act<V: View>(
         }
         Acting::KillTask(id) => Ok(kill_task(view, deeds, who, id)?),
         Acting::SetTaskPerms(object) => Ok(set_task_perms(view, who, object)?),
-        Acting::BootPlayer(_) => missing(),
+        Acting::BootPlayer(object) => {
+            Ok(NativeEffect::Answers(boot_player(view, deeds, who, object)?))
+        }
         Acting::DumpDatabase => Ok(NativeEffect::Answers(dump_database(view, deeds, who)?)),
     }
 }

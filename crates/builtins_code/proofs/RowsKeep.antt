@@ -1,15 +1,15 @@
--- Where a world's objects agree, a verb that is programmed leaves them so.
+-- Where a world stands, a verb that is programmed leaves it so.
 use Rattle.std.proofs.Common.{ℕ, ℤ, List, [], ◌∷◌}
 use Rattle.spec_value.specs.Datum.{Datum, object, list}
 use Rattle.spec_program.specs.ReadPrograms.{Parsed, program, faulty, parsed_lines}
-use Rattle.spec_world.specs.Agreeing.{ObjectsAgree}
 use Rattle.spec_world.specs.Permissions.{may, program_verb}
 use Rattle.spec_moo.specs.Scene.{Scene}
 use Rattle.spec_moo.specs.Natives.Verbs.{texts_of, programmed, set_verb_code_row}
+use Rattle.rules.specs.Standing.{IsStanding}
 use Rattle.builtins_world.proofs.Keeping.{LeavesWell, Keeping, tested}
 use Rattle.builtins_change.proofs.RowsKeep.{changed_verb, verb_there}
 
-programmed_keeps : (s : Scene) (o : ℤ) (n : ℕ) (p : Parsed) → ObjectsAgree s.world → LeavesWell (programmed s o n p)
+programmed_keeps : (s : Scene) (o : ℤ) (n : ℕ) (p : Parsed) → IsStanding s.world → LeavesWell (programmed s o n p)
 programmed_keeps s o n (program p) h = changed_verb s.world o n (λ v. record v { program = p }) h
 programmed_keeps s o n (faulty f) h = h
 

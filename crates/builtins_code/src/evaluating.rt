@@ -7,6 +7,7 @@ ghost use Rattle.spec_moo.specs.NativeEffect.{Caller, answers};
 ghost use Rattle.spec_moo.specs.Calling as calling;
 ghost use Rattle.spec_moo.specs.Natives.Verbs.{eval_row, evaluated as evaluated_of, eval_stage as stage_of};
 ghost use Rattle.moo_value.specs.Answers.{answer_of};
+ghost use Rattle.moo_parse.specs.Answer.{IsAnswer};
 ghost use Rattle.moo_task.specs.Effects.{effect_of};
 ghost use Rattle.world.specs.Law.{Lasts, Tells};
 ghost use Rattle.builtins_code.specs.Faults.{refusal_told};
@@ -50,11 +51,23 @@ pub fn eval<V: View>(
 }
 
 // What a programmer's text begins, or its fault.
-#[tactic(auto, using(crate::proofs::Told::fault_evaluates))]
 fn evaluated(alloc: Global, call: &Call, text: &Text) -> Result<NativeEffect, AllocError>
     ensures { IfOk result (λ e. (s : Scene) (c : Caller) → evaluated_of s (with_call c call.now) text.now (by.parsed text.now) ≡ effect_of e s) }
 {
     let answer = answered(alloc, text.as_str().as_bytes())?;
+    let effect = begun_or_refused(alloc, call, text, answer)?;
+    Ok(effect)
+}
+
+// What a text begins of which this came, or its fault.
+fn begun_or_refused(
+    alloc: Global,
+    call: &Call,
+    text: &Text,
+    answer: Result<Tree, SyntaxFault>,
+) -> Result<NativeEffect, AllocError>
+    ensures { IfOk result (λ e. (p : by.Parsed) → IsAnswer answer p → (s : Scene) (c : Caller) → evaluated_of s (with_call c call.now) text.now p ≡ effect_of e s) }
+{
     match answer {
         Ok(tree) => {
             let effect = begun(alloc, call, text, tree)?;

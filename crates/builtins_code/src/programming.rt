@@ -5,6 +5,7 @@ ghost use Rattle.spec_program.specs.ReadPrograms as by;
 ghost use Rattle.spec_world.specs.Permissions.{in_place};
 ghost use Rattle.spec_view.specs.Questions.{verbs_at};
 ghost use Rattle.spec_moo.specs.Natives.Verbs.{set_verb_code_row, texts_of};
+ghost use Rattle.moo_parse.specs.Answer.{IsAnswer};
 ghost use Rattle.moo_value.specs.Answers.{answer_of};
 ghost use Rattle.world.specs.Law.{Goes, Lasts};
 ghost use Rattle.rules.specs.Lines.{AreAgreeing};
@@ -23,6 +24,7 @@ use moo_value::value::{Shown, Value};
 use rules::permissions::act::Act;
 use rules::permissions::may::may;
 use std::alloc::{AllocError, Global};
+use syntax_fault::fault::SyntaxFault;
 use world::law::View;
 use world::readers::read_verbs;
 use world::verb::Verb;
@@ -60,7 +62,6 @@ pub fn set_verb_code<V: View>(
 }
 
 // A verb that may be programmed gets what comes of these lines.
-#[tactic(auto, using(crate::proofs::Told::fault_programs))]
 fn put_lines<V: View>(
     alloc: Global,
     view: &mut V,
@@ -78,6 +79,26 @@ fn put_lines<V: View>(
 {
     let text = joined(alloc, lines)?;
     let parsed = answered(alloc, text.as_bytes())?;
+    let answer = put_parsed(alloc, view, object, verbs, place, verb, parsed)?;
+    Ok(answer)
+}
+
+// A verb that may be programmed has the program of a text of which this came, or the text's fault is told.
+fn put_parsed<V: View>(
+    alloc: Global,
+    view: &mut V,
+    object: i32,
+    verbs: &[Verb],
+    place: usize,
+    verb: &Verb,
+    parsed: Result<Tree, SyntaxFault>,
+) -> Result<Answer, AllocError>
+    requires home { V.holds view.old (V.home view.old) }
+    requires there { in_place verbs.now place ≡ Some verb.now }
+    ensures lasts { Lasts V.holds V.home V.anchor view.old view.new result }
+    ensures left { IfOk result (λ a. Goes V.holds V.now view.old view.new (λ before after. verbs_at before object ≡ Some verbs.now →
+        (p : by.Parsed) → IsAnswer parsed p → Programs object place p before after (answer_of a))) }
+{
     match parsed {
         Ok(tree) => {
             let answer = put_tree(alloc, view, object, verbs, place, verb, tree)?;

@@ -16,9 +16,10 @@ use Rattle.spec_world.proofs.WorldTrees.{parents, ancestors_of}
 use Rattle.spec_world.proofs.Households.{Household, household}
 use Rattle.spec_world.proofs.SlotTables.{text_or_not, named_with, with_sorted, named_heirs, heirs_sorted, or_first}
 use Rattle.spec_world.proofs.Reparenting.{slots_above}
-use Rattle.spec_world.proofs.ObjectsKept.{created_keeps}
 use Rattle.spec_view.specs.Questions.{apply, new_greatest, new_object, is_number, put_record}
 use Rattle.rules.specs.Lines.{AreAgreeing}
+use Rattle.rules.specs.Standing.{IsStanding}
+use Rattle.rules.proofs.ObjectsStand.{created_stands}
 use Rattle.world.specs.Law.{Goes, Tells}
 use Rattle.reparenting.specs.Along.{names_on, with_found, slots_of}
 use Rattle.reparenting.specs.Heirs.{heritage}
@@ -135,7 +136,7 @@ made_told holds now a b c d e (Ok y) parent owner n ss x known next slots child 
     let greater : now c w ≡ record (now a w) { greatest = n } = v.1 ∙ ap (λ (z : World). record z { greatest = n }) s.1.0 in
     let put : now d w ≡ with_object (record (now a w) { greatest = n }) n x =
     u.1 ∙ ap (λ (z : World). apply (new_object n (Some x)) z) greater
-    ∙ ap (λ b. record (record (now a w) { greatest = n }) { objects = if b then with (now a w).objects n x else (now a w).objects }) (numbered (now a w) (known w s.0) n k.0 k.1)
+    ∙ ap (λ b. record (record (now a w) { greatest = n }) { objects = if b then with (now a w).objects n x else (now a w).objects }) (numbered (now a w) (known w s.0).objects n k.0 k.1)
     in (
       s.0,
       t.1 ∙ ap (λ z. add_child z parent n) put ∙ (λ i. add_child (with_object (record (now a w) { greatest = n }) n (made i)) parent n)
@@ -152,4 +153,4 @@ made_well holds now a e (Ok y) parent owner n known place next told = λ w left.
     let h = known w t.0 in
     let k = next w t.0 in
     let room : IsTrue (int_le (next_object (now a w)) (pos 999999)) = ap (λ z. int_le z (pos 999999)) k.0 ∙ k.1 in
-    subst ObjectsAgree (sym t.1) (created_keeps (now a w) parent owner h room (place w t.0))
+    subst IsStanding (sym t.1) (created_stands (now a w) parent owner h room (place w t.0))

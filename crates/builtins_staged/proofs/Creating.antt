@@ -16,9 +16,10 @@ use Rattle.moo_task.specs.Effects.{effect_of}
 use Rattle.moo_task.specs.declared.effect.NativeEffect.{NativeEffect}
 use Rattle.moo_task.specs.declared.effect.NativeEffect.TheVariants.{Answers}
 use Rattle.world.specs.Law.{Goes, Tells}
+use Rattle.reparenting.proofs.Steps.{both_told}
 use Rattle.builtins_staged.specs.Led.{with_call, Leads, MayBegin}
 use Rattle.builtins_staged.specs.Children.{initialized, IsNext}
-use Rattle.builtins_staged.proofs.Leading.{then_leads, ends_led, both_told}
+use Rattle.builtins_staged.proofs.Leading.{then_leads, ends_led}
 
 -- made, and then its verb is called
 pub begun_told : {V : Type 0} (holds : V → World → Type 0) (now : V → World → World) (k : Call) (parent owner : ℤ) (args : List Datum) (a b c : V) (n : ℤ) (e : NativeEffect)
@@ -74,14 +75,14 @@ module _ {V : Type 0} (holds : V → World → Type 0) (now : V → World → Wo
       → Goes holds now a c (λ before after. Leads (λ s x. create_for s x parent owner args) before after k (Answers (Err LimitExceeded)))
   full_led a b c told none =
       ends_led holds now k a c (λ w. IsAllowed true w × IsNext w None) (λ s x. create_for s x parent owner args) (Answers (Err LimitExceeded))
-      (both_told holds now k a b c (IsAllowed true) (λ w. IsNext w None) told none) (λ s x h. has_none k parent owner args s x h)
+      (both_told holds now a b c (IsAllowed true) (λ w. IsNext w None) (λ w. IsAllowed true w × IsNext w None) told none (λ w p q. (p, q))) (λ s x h. has_none k parent owner args s x h)
 
   pub allowed_led : (a b c d : V) (n : ℤ) (e : NativeEffect) → Tells holds now a b (IsAllowed true) → Tells holds now b c (λ w. IsNext w (Some n))
       → Goes holds now c d (λ before after. Leads (λ s x. create_with s x parent owner args) before after k e)
       → Goes holds now a d (λ before after. Leads (λ s x. create_for s x parent owner args) before after k e)
   allowed_led a b c d n e told next made =
       then_leads holds now k a c d (λ w. IsAllowed true w × IsNext w (Some n)) (λ s x. create_with s x parent owner args) (λ s x. create_for s x parent owner args) e
-      (both_told holds now k a b c (IsAllowed true) (λ w. IsNext w (Some n)) told next) made (λ s x h. is_made k parent owner args s x n h)
+      (both_told holds now a b c (IsAllowed true) (λ w. IsNext w (Some n)) (λ w. IsAllowed true w × IsNext w (Some n)) told next (λ w p q. (p, q))) made (λ s x h. is_made k parent owner args s x n h)
 
   -- where the parent is not there
   pub absent_led : (a b : V) → Tells holds now a b (λ w. (int_eq parent nowhere || is_some (object_at w parent)) ≡ false)

@@ -3,7 +3,6 @@ use Rattle.std.proofs.Common.{◌≡◌, ℤ, Bool, true, false, not, ◌&&◌, 
 use Rattle.std.specs.Ordering.{int_eq}
 use Rattle.spec_value.specs.Datum.{permission_denied, invalid_argument, recursive_move}
 use Rattle.spec_world.specs.World.{World, Call, object_at}
-use Rattle.spec_world.specs.Agreeing.{ObjectsAgree}
 use Rattle.spec_world.specs.Families.{nowhere}
 use Rattle.spec_world.specs.Permissions.{may, change_object}
 use Rattle.spec_world.specs.Whereabouts.{is_inside}
@@ -12,7 +11,6 @@ use Rattle.spec_moo.specs.NativeEffect as N
 use Rattle.spec_moo.specs.Natives.Rows.{wants}
 use Rattle.moo_task.specs.Effects.{effect_of}
 use Rattle.moo_task.specs.declared.effect.NativeEffect.{NativeEffect}
-use Rattle.rules.specs.Lines.{AreAgreeing}
 use Rattle.world.specs.Law.{Goes, Tells}
 use Rattle.builtins_objects.specs.Verdict.{verdict}
 use Rattle.builtins_objects.proofs.RowsKeep.{place_of}
@@ -36,20 +34,14 @@ module _ {V : Type 0} (holds : V → World → Type 0) (now : V → World → Wo
       let t = told w left in
       (t.0, λ s x. so (in_world s (now a w)) x t.1.1 ∙ ap (λ v. effect_of e (in_world s v)) (sym t.1.0))
 
-  -- two calls tell so
-  pub both_told : (a b c : V) (P Q : World → Type 0) → Tells holds now a b P → Tells holds now b c Q → Tells holds now a c (λ w. P w × Q w)
-  both_told a b c P Q first second w left =
-      let t = second w left in
-      let u = first w t.0 in
-      (u.0, (t.1.0 ∙ u.1.0, (u.1.1, subst Q u.1.0 t.1.1)))
-
--- the worlds are well formed after a call that tells
-pub told_well : {V : Type 0} (holds : V → World → Type 0) (now : V → World → World) (a b : V) (P : World → Type 0) → AreAgreeing holds now a → Tells holds now a b P → AreAgreeing holds now b
-told_well holds now a b P known told w left = let t = told w left in subst ObjectsAgree (sym t.1.0) (known w t.0)
-
 -- what a call tells, of the worlds that are left
 pub told_then : {V : Type 0} (holds : V → World → Type 0) (now : V → World → World) (a b : V) (P : World → Type 0) → Tells holds now a b P → (w : World) → holds b w → P (now b w)
 told_then holds now a b P told w left = let t = told w left in subst P (sym t.1.0) t.1.1
+
+-- and what is known of them besides
+pub told_beside : {V : Type 0} (holds : V → World → Type 0) (now : V → World → World) (a b : V) (P Q : World → Type 0) → ((w : World) → holds a w → P (now a w)) → Tells holds now a b Q
+    → Tells holds now a b (λ w. P w × Q w)
+told_beside holds now a b P Q each told w left = let t = told w left in (t.0, (t.1.0, (each w t.0, t.1.1)))
 
 -- ---- where no check fails
 

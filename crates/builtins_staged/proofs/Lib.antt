@@ -5,3 +5,4 @@ pub mod Beginning
 pub mod Ways
 pub mod Telling
 pub mod Refusing
+pub mod Letting

@@ -1,18 +1,20 @@
--- `move`, call by call.
-use Rattle.std.proofs.Common.{◌≡◌, ℕ, zero, suc, ◌-◌, ◌+◌, ℤ, Bool, true, false, ◌||◌, List, Option, Some, None, Result, Ok, Err, OnOk, refl, sym, ap, ◌∙◌, subst, IsTrue, is_some, is_none, arith}
+-- From an object to the place that it is in, and so on; and an object that goes from one place to another.
+use Rattle.std.proofs.Common.{◌≡◌, ℕ, zero, suc, ◌<◌, ◌≤◌, ℤ, Bool, true, false, ◌||◌, List, [], ◌∷◌, length, Option, Some, None, Result, Ok, Err, OnOk, refl, sym, ap, ◌∙◌, subst, arith}
 use Rattle.std.specs.Prelude.{option_map}
 use Rattle.std.specs.Ordering.{int_eq}
 use Rattle.spec_world.specs.World.{World, Header, Object, object_at}
 use Rattle.spec_world.specs.Inherit.{line_bound}
-use Rattle.spec_world.specs.WellFormed.{comes_out, ends_above}
 use Rattle.spec_world.specs.Agreeing.{ObjectsAgree}
 use Rattle.spec_world.specs.Naming.{location_of}
 use Rattle.spec_world.specs.Families.{change_object, out_of_place}
 use Rattle.spec_world.specs.Whereabouts.{in_within, is_inside, put_into, moved}
-use Rattle.spec_world.proofs.Trees.{some_same, first_of}
-use Rattle.spec_world.proofs.ObjectsKept.{moved_keeps}
+use Rattle.spec_world.proofs.Trees.{Node, Path, path_from, some_same, first_of}
+use Rattle.spec_world.proofs.WorldTrees.{places, object_there, object_none, short}
+use Rattle.spec_world.proofs.Households.{household}
 use Rattle.spec_view.specs.Questions.{header_at}
 use Rattle.rules.specs.Lines.{AreAgreeing}
+use Rattle.rules.specs.Standing.{IsStanding}
+use Rattle.rules.proofs.ObjectsStand.{moved_stands}
 use Rattle.world.specs.Law.{Goes, Tells}
 use Rattle.builtins_objects.proofs.RowsKeep.{present}
 use Rattle.builtins_staged.specs.Moves.{MayMove}
@@ -22,67 +24,122 @@ use Rattle.builtins_staged.specs.Moves.{MayMove}
 abbrev where_is : Object → ℤ
 where_is x = x.header.location
 
--- so many places are still ahead at most, and the answer is still the same
-pub record OnTheWay (w : World) (what place : ℤ) (n : ℕ) (at : ℤ) : Type 0 where
-  pub same : in_within (line_bound w - n) w what at ≡ is_inside w what place
-  pub ends : IsTrue (comes_out where_is (line_bound w - n) w at)
+abbrev inside_of : Object → List ℤ
+inside_of x = x.contents
 
-pub begins_way : (w : World) → ObjectsAgree w → (what place : ℤ) → OnTheWay w what place 0 place
-unfolding comes_out
-begins_way w sound what place = record { same = ap (λ n. in_within n w what place) all; ends = subst (λ n. IsTrue (comes_out where_is n w place)) (sym all) (go (object_at w place) refl) }
-  where
-    all : line_bound w - 0 ≡ line_bound w
-    all = omega arith
+abbrev one_more : (ℤ → ℕ) → Option Object → ℕ
+one_more beyond None = 0
+one_more beyond (Some x) = suc (beyond x.header.location)
 
-    out : (n : ℕ) → object_at w place ≡ None → IsTrue (comes_out where_is n w place)
-    out zero e = ap is_none e
-    out (suc n) e = ap (ends_above (comes_out where_is n w) where_is) e
+unfoldable pub places_within : ℕ → World → ℤ → ℕ
+places_within zero w o = 0
+places_within (suc n) w o = one_more (places_within n w) (object_at w o)
 
-    go : (m : Option Object) → object_at w place ≡ m → IsTrue (comes_out where_is (line_bound w) w place)
-    go None e = out (line_bound w) e
-    go (Some x) e = sound.locations_end place x e
+-- how many objects are on the way out of all places: an object, the place that it is in, and so on
+unfoldable pub places_ahead : World → ℤ → ℕ
+places_ahead w o = places_within (line_bound w) w o
+
+counted : (w : World) (n : ℕ) (q : ℤ) (ps : List ℤ) → Path (places w) q ps → length ps ≤ n → places_within n w q ≡ length ps
+unfolding places_within
+counted w zero q [] h le = refl
+counted w zero q (p ∷ ps) h le = absurd (omega (arith, le))
+counted w (suc n) q [] h le = ap (one_more (places_within n w)) (object_none where_is inside_of w q h)
+counted w (suc n) q (p ∷ ps) h le =
+    let x = object_there where_is inside_of w q h.1.0 h.1.1 in
+    ap (one_more (places_within n w)) x.1 ∙ ap suc (counted w n x.0.header.location ps (subst (λ (y : Node). Path (places w) y.0 ps) x.2 h.1.2) (omega (arith, le)))
+
+ahead_is : (w : World) → ObjectsAgree w → (q : ℤ) (ps : List ℤ) → Path (places w) q ps → places_ahead w q ≡ length ps
+unfolding places_ahead
+ahead_is w sound q ps h = counted w (line_bound w) q ps h (short where_is inside_of w sound.numbers q ps h)
+
+either_false : (b : Bool) → (b || false) ≡ b
+either_false true = refl
+either_false false = refl
+
+at_end : (w : World) (what q : ℤ) (n : ℕ) → object_at w q ≡ None → in_within n w what q ≡ int_eq what q
+unfolding in_within
+at_end w what q zero e = refl
+at_end w what q (suc n) e = rw e (either_false (int_eq what q))
+
+-- no more places are looked at than there are
+steady : (w : World) (what q : ℤ) (n m : ℕ) (ps : List ℤ) → Path (places w) q ps → length ps ≤ n → length ps ≤ m → in_within n w what q ≡ in_within m w what q
+unfolding in_within
+steady w what q n m [] h a b = let e = object_none where_is inside_of w q h in at_end w what q n e ∙ sym (at_end w what q m e)
+steady w what q zero m (p ∷ ps) h a b = absurd (omega (arith, a))
+steady w what q (suc n) zero (p ∷ ps) h a b = absurd (omega (arith, b))
+steady w what q (suc n) (suc m) (p ∷ ps) h a b =
+    let x = object_there where_is inside_of w q h.1.0 h.1.1 in
+    let onward : Path (places w) x.0.header.location ps = subst (λ (y : Node). Path (places w) y.0 ps) x.2 h.1.2 in
+    rw x.1 (ap (λ z. int_eq what q || z) (steady w what x.0.header.location n m ps onward (omega (arith, a)) (omega (arith, b))))
 
 -- the place is the object
-pub met : (w : World) (what place : ℤ) (n : ℕ) (at : ℤ) → int_eq what at ≡ true → OnTheWay w what place n at → is_inside w what place ≡ true
+pub met : (w : World) (what at : ℤ) → int_eq what at ≡ true → is_inside w what at ≡ true
 unfolding in_within
-met w what place n at here way = sym way.same ∙ go (line_bound w - n)
+met w what at here = go (line_bound w)
   where
     go : (k : ℕ) → in_within k w what at ≡ true
     go zero = here
     go (suc k) = first_of (int_eq what at) _ here
 
+gone : (m : Option Object) → option_map (λ x. x.header) m ≡ None → m ≡ None
+gone None e = refl
+gone (Some x) e = cc
+
 -- it is no place
-pub left_out : (w : World) (what place : ℤ) (n : ℕ) (at : ℤ) → int_eq what at ≡ false → header_at w at ≡ None → OnTheWay w what place n at → is_inside w what place ≡ false
+pub left_out : (w : World) (what at : ℤ) → int_eq what at ≡ false → header_at w at ≡ None → is_inside w what at ≡ false
+left_out w what at far none = at_end w what at (line_bound w) (gone (object_at w at) none) ∙ far
+
+-- it is another one, and is in a place itself
+pub further : (w : World) → ObjectsAgree w → (what at : ℤ) (h : Header) → int_eq what at ≡ false → header_at w at ≡ Some h
+    → (is_inside w what at ≡ is_inside w what h.location) × (places_ahead w h.location < places_ahead w at)
 unfolding in_within
-left_out w what place n at far none way = sym way.same ∙ go (line_bound w - n)
+further w sound what at h far there = go (object_at w at) refl there
   where
-    gone : (m : Option Object) → option_map (λ x. x.header) m ≡ None → m ≡ None
-    gone None e = refl
-    gone (Some x) e = cc
+    way : (ps : List ℤ) × Path (places w) at ps
+    way = path_from (places w) (household w sound).whereabouts at
 
-    go : (k : ℕ) → in_within k w what at ≡ false
-    go zero = far
-    go (suc k) = let e : object_at w at ≡ None = gone (object_at w at) none in rw (far, e) refl
+    within : (x : Object) (ps : List ℤ) → object_at w at ≡ Some x → Path (places w) x.header.location ps → (n : ℕ) → suc (length ps) ≤ n
+        → in_within n w what at ≡ in_within n w what x.header.location
+    within x ps is onward zero le = absurd (omega (arith, le))
+    within x ps is onward (suc n) le =
+        let once : in_within (suc n) w what at ≡ in_within n w what x.header.location = rw (far, is) refl in
+        once ∙ steady w what x.header.location n (suc n) ps onward (omega (arith, le)) (omega (arith, le))
 
--- it is another one
-pub further : (w : World) (what place : ℤ) (n : ℕ) (at : ℤ) (h : Header) → int_eq what at ≡ false → header_at w at ≡ Some h → OnTheWay w what place n at → OnTheWay w what place (n + 1) h.location
-unfolding in_within comes_out
-further w what place n at h far there way = go (object_at w at) refl there
-  where
-    one : (k m : ℕ) → m ≡ line_bound w - n → k ≡ line_bound w - (n + 1) → (x : Object) → object_at w at ≡ Some x → (in_within m w what at ≡ in_within k w what x.header.location) × IsTrue (comes_out where_is k w x.header.location)
-    one k zero e f x is = let none : is_none (object_at w at) ≡ true = subst (λ j. IsTrue (comes_out where_is j w at)) (sym e) way.ends in absurd (cc (sym (ap is_none is) ∙ none))
-    one k (suc j) e f x is =
-        let same : j ≡ k = omega (arith, e, f) in
-        let ends : IsTrue (comes_out where_is (suc j) w at) = subst (λ i. IsTrue (comes_out where_is i w at)) (sym e) way.ends in
-        let later : IsTrue (comes_out where_is j w x.header.location) = rw is at ends in
-        let on : in_within (suc j) w what at ≡ in_within j w what x.header.location = rw (far, is) refl in
-        (on ∙ ap (λ i. in_within i w what x.header.location) same, subst (λ i. IsTrue (comes_out where_is i w x.header.location)) same later)
+    on : (x : Object) → object_at w at ≡ Some x → (ps : List ℤ) → Path (places w) at ps
+        → (is_inside w what at ≡ is_inside w what x.header.location) × (places_ahead w x.header.location < places_ahead w at)
+    on x is [] p = let none : object_at w at ≡ None = object_none where_is inside_of w at p in absurd (cc (sym none ∙ is))
+    on x is (r ∷ ps) p =
+        let y = object_there where_is inside_of w at p.1.0 p.1.1 in
+        let same : y.0 ≡ x = some_same (sym y.1 ∙ is) in
+        let onward : Path (places w) x.header.location ps = subst (λ (z : Object). Path (places w) z.header.location ps) same (subst (λ (n : Node). Path (places w) n.0 ps) y.2 p.1.2) in
+        let le : length (r ∷ ps) ≤ line_bound w = short where_is inside_of w sound.numbers at (r ∷ ps) p in
+        let near : places_ahead w x.header.location ≡ length ps = ahead_is w sound x.header.location ps onward in
+        let here : places_ahead w at ≡ length (r ∷ ps) = ahead_is w sound at (r ∷ ps) p in
+        (within x ps is onward (line_bound w) le, omega (arith, near, here))
 
-    go : (m : Option Object) → object_at w at ≡ m → option_map (λ x. x.header) m ≡ Some h → OnTheWay w what place (n + 1) h.location
+    go : (m : Option Object) → object_at w at ≡ m → option_map (λ x. x.header) m ≡ Some h
+        → (is_inside w what at ≡ is_inside w what h.location) × (places_ahead w h.location < places_ahead w at)
     go None is e = cc
     go (Some x) is e =
-        let r = one (line_bound w - (n + 1)) (line_bound w - n) refl refl x is in
-        subst (λ (i : Header). OnTheWay w what place (n + 1) i.location) (some_same e) (record { same = sym r.0 ∙ way.same; ends = r.1 })
+        subst (λ (i : Header). (is_inside w what at ≡ is_inside w what i.location) × (places_ahead w i.location < places_ahead w at)) (some_same e) (on x is way.0 way.1)
+
+-- the way out grows shorter by a call that changes nothing
+pub nearer_told : {V : Type 0} (holds : V → World → Type 0) (now : V → World → World) (home : V → World) (a b : V) (P : World → Type 0) (p q : ℤ) → AreAgreeing holds now a → Tells holds now a b P
+    → holds b (home b) → home b ≡ home a → ((w : World) → ObjectsAgree w → P w → places_ahead w p < places_ahead w q) → places_ahead (now b (home b)) p < places_ahead (now a (home a)) q
+nearer_told holds now home a b P p q known told left same so =
+    let t = told (home b) left in
+    subst (λ (h : World). places_ahead (now b (home b)) p < places_ahead (now a h) q) same
+    (subst (λ (u : World). places_ahead u p < places_ahead (now a (home b)) q) (sym t.1.0) (so (now a (home b)) (known (home b) t.0).objects t.1.1))
+
+-- ---- where an object is
+
+pub location_told : {V : Type 0} (holds : V → World → Type 0) (now : V → World → World) (a b : V) (o : ℤ) (h : Header) → Tells holds now a b (λ w. header_at w o ≡ Some h)
+    → Tells holds now a b (λ w. location_of (object_at w o) ≡ h.location)
+location_told holds now a b o h told w left = let t = told w left in (t.0, (t.1.0, go (object_at (now a w) o) t.1.1))
+  where
+    go : (m : Option Object) → option_map (λ x. x.header) m ≡ Some h → location_of m ≡ h.location
+    go None e = cc
+    go (Some x) e = ap (λ (k : Header). k.location) (some_same e)
 
 -- ---- the move
 
@@ -109,5 +166,4 @@ module _ {V A E : Type 0} (holds : V → World → Type 0) (now : V → World �
       let h = known w t.0 in
       let m = may w t.0 in
       let o = present (object_at (now a w) what) m.there in
-      subst ObjectsAgree (sym t.1)
-      (moved_keeps (now a w) what place o.0 h o.1 m.at_place m.outside)
+      subst IsStanding (sym t.1) (moved_stands (now a w) what place o.0 h o.1 m.at_place m.outside)

@@ -1,3 +1,4 @@
 pub mod Led
 pub mod Children
 pub mod Moves
+pub mod Recycles

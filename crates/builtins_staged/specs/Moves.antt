@@ -1,8 +1,8 @@
 -- What `move` wants.
-use Rattle.std.specs.Prelude.{◌≡◌, ℤ, pos, neg_ℤ, not, false, ◌&&◌, ◌||◌, is_some, IsTrue, List, [], ◌∷◌}
+use Rattle.std.specs.Prelude.{◌≡◌, ℤ, pos, neg_ℤ, Bool, not, false, ◌&&◌, ◌||◌, is_some, IsTrue, List, [], ◌∷◌, Option, Some, None}
 use Rattle.std.specs.Ordering.{int_eq}
 use Rattle.spec_value.specs.Datum.{permission_denied, invalid_argument, recursive_move}
-use Rattle.spec_world.specs.World.{World, object_at}
+use Rattle.spec_world.specs.World.{World, Header, object_at}
 use Rattle.spec_world.specs.Permissions.{may, change_object}
 use Rattle.spec_world.specs.ObjectLaws.{IsPlace}
 use Rattle.spec_world.specs.Whereabouts.{is_inside}
@@ -27,3 +27,8 @@ pub record MayMove (w : World) (what place : ℤ) : Type 0 where
   pub there : IsTrue (is_some (object_at w what))
   pub at_place : IsPlace w place
   pub outside : is_inside w what place ≡ false
+
+-- whether what has this header is in a place
+abbrev pub is_in : Option Header → ℤ → Bool
+is_in None place = false
+is_in (Some h) place = int_eq h.location place

@@ -6,14 +6,14 @@ ghost use Rattle.rules.specs.Lines.{AreAgreeing};
 ghost use Rattle.world.specs.Law.{Lasts, Tells};
 ghost use Rattle.builtins_staged.specs.Led.{MayBegin};
 
-use rules::inherit::verb::{FoundVerb, find_verb};
 use moo_machine::call::Call;
-use running::moo_objects::calling::callee;
 use moo_program::program::Program;
 use moo_task::effect::NativeEffect;
 use moo_task::native::Native;
 use moo_value::text::Text;
 use moo_value::value::Value;
+use rules::inherit::verb::{FoundVerb, find_verb};
+use running::moo_objects::calling::callee;
 use std::alloc::AllocError;
 use world::law::View;
 

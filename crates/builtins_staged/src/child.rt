@@ -8,9 +8,9 @@ ghost use Rattle.world.specs.Law.{Goes, Lasts, Tells};
 ghost use Rattle.builtins_staged.specs.Children.{child_header, child_with, put_heirs, IsNext};
 
 use moo_value::text::Text;
-use rules::relatives::children::add_child;
 use reparenting::along::inherited_slots;
 use reparenting::heirs::heir_slot;
+use rules::relatives::children::add_child;
 use std::alloc::{AllocError, Global};
 use world::header::Header;
 use world::law::View;

@@ -12,6 +12,7 @@ ghost use Rattle.builtins_staged.specs.Children.{initialized, IsAfter, IsNext};
 
 use crate::calling::begins;
 use crate::child::make_child;
+use crate::objects::{one, two};
 use builtins_objects::asked::{is_place, is_there, may_both};
 use moo_machine::call::Call;
 use moo_task::effect::NativeEffect;
@@ -46,8 +47,7 @@ pub fn create<V: View>(
     if !there {
         return Ok(NativeEffect::Answers(Err(MooError::InvalidArgument)));
     }
-    let mut arguments = Vec::with_capacity(alloc, 2)?;
-    arguments.push(Value::object(parent))?;
+    let arguments = one(alloc, parent)?;
     let effect = create_allowed(alloc, view, call, parent, call.programmer, arguments)?;
     Ok(effect)
 }
@@ -71,9 +71,7 @@ pub fn create_for<V: View>(
     if !there {
         return Ok(NativeEffect::Answers(Err(MooError::InvalidArgument)));
     }
-    let mut arguments = Vec::with_capacity(alloc, 3)?;
-    arguments.push(Value::object(parent))?;
-    arguments.push(Value::object(owner))?;
+    let arguments = two(alloc, parent, owner)?;
     let effect = create_allowed(alloc, view, call, parent, owner, arguments)?;
     Ok(effect)
 }

@@ -14,7 +14,8 @@ ghost use Rattle.builtins_staged.specs.Led.{Leads, MayBegin};
 ghost use Rattle.builtins_staged.specs.Moves.{first_checks, later_checks, MayMove};
 
 use crate::calling::begins;
-use crate::places::{go_over, is_inside, location};
+use crate::objects::{one, three, two};
+use crate::places::{go_over, is_in, is_inside, location};
 use builtins_objects::asked::{are_there, is_there};
 use moo_machine::call::Call;
 use moo_task::effect::NativeEffect;
@@ -70,15 +71,15 @@ fn ask_place<V: View>(
 {
     let there = is_there(view, place)?;
     if !there {
-        let effect = move_now(alloc, view, call, what, place)?;
-        return Ok(effect);
+        let moved = move_now(alloc, view, call, what, place)?;
+        return Ok(moved);
     }
     let begun = accept(alloc, view, call, what, place)?;
     if let Some(effect) = begun {
         return Ok(effect);
     }
-    let effect = accepted(alloc, view, call, what, place, false)?;
-    Ok(effect)
+    let answered = accepted(alloc, view, call, what, place, false)?;
+    Ok(answered)
 }
 
 // The call by which a place is asked, if it has a verb for that.
@@ -196,8 +197,8 @@ fn tell_left<V: View>(
     if let Some(effect) = begun {
         return Ok(effect);
     }
-    let effect = told_to_enter(alloc, view, call, what, place, before)?;
-    Ok(effect)
+    let told = told_to_enter(alloc, view, call, what, place, before)?;
+    Ok(told)
 }
 
 /// `move` goes on after the place that was left was told: the verb `enterfunc` of the new one is called, if there is one and the
@@ -215,6 +216,7 @@ pub fn told_to_enter<V: View>(
     ensures lasts { Lasts V.holds V.home V.anchor view.old view.new result }
     ensures left { IfOk result (λ e. Tells V.holds V.now view.old view.new
         (λ w. Leads (λ s c. told_to_enter_of s c what place before) w w call.now e)) }
+    ensures well_formed { OnOk result (AreAgreeing V.holds V.now view.new) }
 {
     let entered = has_entered(view, what, place)?;
     if !entered {
@@ -242,10 +244,8 @@ fn has_entered<V: View>(view: &mut V, what: i32, place: i32) -> Result<bool, All
     ensures left { IfOk result (λ b. Tells V.holds V.now view.old view.new
         (λ w. (is_some (object_at w what) && int_eq (location_of (object_at w what)) place && is_some (object_at w place)) ≡ b)) }
 {
-    let Some(header) = read_header(view, what)? else {
-        return Ok(false);
-    };
-    if header.location != place {
+    let header = read_header(view, what)?;
+    if !is_in(&header, place) {
         return Ok(false);
     }
     is_there(view, place)
@@ -300,31 +300,4 @@ fn later_refusal<V: View>(
         return Ok(Some(MooError::RecursiveMove));
     }
     Ok(None)
-}
-
-fn one(alloc: Global, first: i32) -> Result<Vec<Value>, AllocError>
-    ensures { IfOk result (λ vs. vs.items ≡ object_of first ∷ []) }
-{
-    let mut values = Vec::with_capacity(alloc, 1)?;
-    values.push(Value::object(first))?;
-    Ok(values)
-}
-
-fn two(alloc: Global, first: i32, second: i32) -> Result<Vec<Value>, AllocError>
-    ensures { IfOk result (λ vs. vs.items ≡ object_of first ∷ object_of second ∷ []) }
-{
-    let mut values = Vec::with_capacity(alloc, 2)?;
-    values.push(Value::object(first))?;
-    values.push(Value::object(second))?;
-    Ok(values)
-}
-
-fn three(alloc: Global, first: i32, second: i32, third: i32) -> Result<Vec<Value>, AllocError>
-    ensures { IfOk result (λ vs. vs.items ≡ object_of first ∷ object_of second ∷ object_of third ∷ []) }
-{
-    let mut values = Vec::with_capacity(alloc, 3)?;
-    values.push(Value::object(first))?;
-    values.push(Value::object(second))?;
-    values.push(Value::object(third))?;
-    Ok(values)
 }

@@ -5,15 +5,13 @@ ghost use Rattle.spec_world.specs.Naming.{location_of};
 ghost use Rattle.spec_world.specs.Whereabouts.{is_inside as is_inside_of, moved};
 ghost use Rattle.rules.specs.Lines.{AreAgreeing};
 ghost use Rattle.world.specs.Law.{Goes, Lasts, Tells};
-ghost use Rattle.builtins_staged.specs.Moves.{MayMove};
+ghost use Rattle.builtins_staged.specs.Moves.{is_in as is_in_of, MayMove};
 
 use rules::relatives::contents::{out_of_place, put_into, put_location};
 use std::alloc::{AllocError, Global};
+use world::header::Header;
 use world::law::View;
 use world::readers::read_header;
-
-// One more than there can be objects, which have numbers from 0 to 999,999.
-const MOST_PLACES: usize = 1_000_001;
 
 /// Where an object is: -1 where it is in no place, or is not there.
 pub fn location<V: View>(view: &mut V, object: i32) -> Result<i32, AllocError>
@@ -26,7 +24,17 @@ pub fn location<V: View>(view: &mut V, object: i32) -> Result<i32, AllocError>
     }
 }
 
-/// Whether a place is an object, or inside of it. `Err(AllocError)` after more than a million places, which no world has.
+/// Whether what has this header is in a place.
+pub fn is_in(header: &Option<Header>, place: i32) -> bool
+    ensures { result ≡ is_in_of header.now place }
+{
+    match header {
+        Some(header) => header.location == place,
+        None => false,
+    }
+}
+
+/// Whether a place is an object, or inside of it.
 pub fn is_inside<V: View>(view: &mut V, what: i32, place: i32) -> Result<bool, AllocError>
     requires home { V.holds view.old (V.home view.old) }
     requires well_formed { AreAgreeing V.holds V.now view.old }
@@ -34,17 +42,14 @@ pub fn is_inside<V: View>(view: &mut V, what: i32, place: i32) -> Result<bool, A
     ensures left { IfOk result (λ b. Tells V.holds V.now view.old view.new (λ w. is_inside_of w what place ≡ b)) }
 {
     let mut next = place;
-    for round in 0..MOST_PLACES {
-        if what == next {
-            return Ok(true);
-        }
+    while next != what {
         let header = read_header(view, next)?;
         let Some(header) = header else {
             return Ok(false);
         };
         next = header.location;
     }
-    Err(AllocError)
+    Ok(true)
 }
 
 /// An object goes from the place where it is to another one, which is not inside of it.

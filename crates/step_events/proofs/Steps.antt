@@ -16,7 +16,7 @@ use Rattle.spec_ready.proofs.Readiness.{opens_ready}
 use Rattle.moo_task.specs.Deeds.{scene_of}
 use Rattle.moo_task.specs.declared.deeds.Deeds.{Deeds}
 use Rattle.step_tasks.specs.Opens.{IsOpening}
-use Rattle.step_events.specs.Wholes.{IsWhole}
+use Rattle.world.specs.Sound.{IsSound}
 
 raised_next : (w : World) (m n : ℕ) → m ≤ 33554431 → n ≡ m + 1 → apply (new_next n) w ≡ numbered m w
 raised_next w m n small is =
@@ -45,7 +45,7 @@ pub step_ready : (w v : World) (s : Step) (d : Deeds) (t : ℕ) → v ≡ number
 step_ready w v s d t there well range opening =
     subst (λ (x : World). IsReady (scene_of d x t)) (sym there) (subst IsReady (opening (numbered s.number w) t) (opens_ready w s t well range))
 
-pub whole_after : (w v : World) (s : Step) (o : Outcome) → IsWhole w → IsTrue (in_range s) → play1 w s ≡ (v, o) → IsWhole v
-whole_after w v s o h range played =
+pub sound_after : (w v : World) (s : Step) (o : Outcome) → IsSound w → IsTrue (in_range s) → play1 w s ≡ (v, o) → IsSound v
+sound_after w v s o h range played =
     let k = stays_whole_once w s h.well_formed h.spelled range in
-    subst IsWhole (ap (λ (p : World × Outcome). p.0) played) (record { well_formed = k.0; spelled = k.1 })
+    subst IsSound (ap (λ (p : World × Outcome). p.0) played) (record { well_formed = k.0; spelled = k.1 })

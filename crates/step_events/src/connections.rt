@@ -17,12 +17,12 @@ ghost use Rattle.step_tasks.specs.Tasks.{MayRun};
 ghost use Rattle.step_tasks.specs.Opens.{IsOpening};
 
 use crate::login::login;
-use rules::inherit::verb::FoundVerb;
-use running::moo_run::natives::Natives;
 use moo_task::deeds::Deeds;
 use moo_task::running::Running;
 use moo_value::text::Text;
 use moo_value::value::Value;
+use rules::inherit::verb::FoundVerb;
+use running::moo_run::natives::Natives;
 use std::alloc::{AllocError, Global};
 use step_deeds::links::close_link;
 use step_links::logins::{connection_object, is_nobodys, one_object};

@@ -1,5 +1,5 @@
 //! Lines of connections.
-ghost use Rattle.std.specs.Prelude.{◌≡◌, Some, IfOk, IsTrue};
+ghost use Rattle.std.specs.Prelude.{◌≡◌, ◌∷◌, Some, IfOk, IsTrue};
 ghost use Rattle.spec_value.specs.Table.{at};
 ghost use Rattle.spec_world.specs.World.{World};
 ghost use Rattle.spec_world.specs.WellFormed.{is_connection};
@@ -18,11 +18,11 @@ use crate::commands::player_line;
 use crate::login::login;
 use crate::waiting::read_by;
 use builtins_world::values::texts_value;
-use rules::command_lines::parts::{Parts, line_parts};
-use running::moo_run::natives::Natives;
 use moo_task::deeds::Deeds;
 use moo_value::text::Text;
 use moo_value::value::Value;
+use rules::command_lines::parts::{Parts, line_parts};
+use running::moo_run::natives::Natives;
 use std::alloc::{AllocError, Global};
 use step_deeds::links::reader;
 use step_links::collecting::collect;
@@ -164,19 +164,30 @@ fn words_typed(alloc: Global, text: &Text) -> Result<Vec<Text>, AllocError>
     ensures { IfOk result (λ v. v.items ≡ words (expanded text.now)) }
 {
     text.know();
-    let mut words = Vec::new(alloc);
-    if let Some(parts) = line_parts(alloc, text.as_str())? {
-        let Parts {
-            verb,
-            args,
-            argstr: _,
-            preposition: _,
-            dobjstr: _,
-            prepstr: _,
-            iobjstr: _,
-        } = parts;
-        words = args;
-        words.insert(0, verb)?;
+    let parts = line_parts(alloc, text.as_str())?;
+    match parts {
+        Some(parts) => {
+            let words = words_of(parts)?;
+            Ok(words)
+        }
+        None => Ok(Vec::new(alloc)),
     }
+}
+
+// The words of a line: the first one, and those behind it.
+fn words_of(parts: Parts) -> Result<Vec<Text>, AllocError>
+    ensures { IfOk result (λ v. v.items ≡ parts.verb ∷ parts.args.items) }
+{
+    let Parts {
+        verb,
+        args,
+        argstr: _,
+        preposition: _,
+        dobjstr: _,
+        prepstr: _,
+        iobjstr: _,
+    } = parts;
+    let mut words = args;
+    words.insert(0, verb)?;
     Ok(words)
 }

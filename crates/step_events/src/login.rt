@@ -10,11 +10,11 @@ ghost use Rattle.world.specs.Law.{Goes, Lasts};
 ghost use Rattle.step_tasks.specs.Performed.{StepsTo};
 ghost use Rattle.step_tasks.specs.Ready.{AreReady};
 
-use rules::inherit::verb::FoundVerb;
-use running::moo_run::natives::Natives;
 use moo_task::deeds::Deeds;
 use moo_value::text::Text;
 use moo_value::value::Value;
+use rules::inherit::verb::FoundVerb;
+use running::moo_run::natives::Natives;
 use std::alloc::{AllocError, Global};
 use step_links::logins::{accept, connection_object};
 use step_runs::run::{Ran, run_task};

@@ -4,17 +4,16 @@ ghost use Rattle.spec_step.specs.Step.{Step as StepOf, in_range, event_in_range}
 ghost use Rattle.spec_moo.specs.Steps.{play1};
 ghost use Rattle.spec_moo.specs.Steps.Events.{event_of as event_of_step};
 ghost use Rattle.task_step.specs.StepView.{event_of};
-ghost use Rattle.world.specs.Law.{Goes, Lasts};
+ghost use Rattle.world.specs.Law.{AreSound, Goes, Lasts};
 ghost use Rattle.step_tasks.specs.Performed.{StepsTo};
 ghost use Rattle.step_tasks.specs.Ready.{AreReady};
 ghost use Rattle.step_tasks.specs.Opens.{IsOpening};
-ghost use Rattle.step_events.specs.Wholes.{AreWhole};
 
 use crate::connections::{close, open};
 use crate::lines::line;
 use crate::waiting::ready;
-use running::moo_run::natives::Natives;
 use moo_task::deeds::Deeds;
+use running::moo_run::natives::Natives;
 use std::alloc::{AllocError, Global};
 use step_tasks::opening::opening;
 use step_tasks::outcome::idle;
@@ -32,10 +31,10 @@ pub fn play_step<V: View, N: Natives>(
 ) -> Result<Outcome, AllocError>
     requires range { IsTrue (in_range step.now) }
     requires home { V.holds view.old (V.home view.old) }
-    requires whole { AreWhole V.holds V.now view.old }
+    requires sound { AreSound V.holds V.now view.old }
     ensures lasts { Lasts V.holds V.home V.anchor view.old view.new result }
     ensures played { IfOk result (λ o. Goes V.holds V.now view.old view.new (λ before after. StepsTo (play1 before step.now) after o)) }
-    ensures whole { OnOk result (AreWhole V.holds V.now view.new) }
+    ensures sound { OnOk result (AreSound V.holds V.now view.new) }
 {
     raise_next(view, u64::from(step.number) + 1)?;
     let ending = read_ending(view)?;

@@ -11,10 +11,10 @@ ghost use Rattle.step_tasks.specs.Performed.{StepsTo};
 ghost use Rattle.step_tasks.specs.Ready.{AreReady};
 ghost use Rattle.step_tasks.specs.Opens.{IsOpening};
 
-use running::moo_run::natives::Natives;
 use moo_task::deeds::Deeds;
 use moo_task::task::Task;
 use moo_value::value::Value;
+use running::moo_run::natives::Natives;
 use std::alloc::{AllocError, Global};
 use step_runs::play::play_task;
 use step_tasks::opening::{FOREGROUND_TICKS, QUEUED_TICKS, nothing};

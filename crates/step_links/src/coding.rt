@@ -17,12 +17,12 @@ ghost use Rattle.step_links.specs.Codes.{HasVerb, HasVerbAt};
 
 use crate::faults::fault_text;
 use builtins_change::put::put_program;
-use rules::command_parser::programming::programmable;
 use moo_compiler::program::Program;
 use moo_parse::parse::parse;
 use moo_task::deeds::Deeds;
 use moo_tree::statement::Tree;
 use moo_value::text::Text;
+use rules::command_parser::programming::programmable;
 use std::alloc::{AllocError, Global};
 use step_tasks::opening::says;
 use syntax_fault::fault::SyntaxFault;

@@ -19,12 +19,12 @@ ghost use Rattle.step_tasks.specs.Ready.{AreReady};
 ghost use Rattle.step_links.specs.Accepting.{Accepts, has_player};
 
 use builtins_task::ids::{MOST_IDS, task_id};
-use rules::inherit::verb::FoundVerb;
 use moo_task::deeds::Deeds;
 use moo_task::running::Running;
 use moo_task::task::Task;
 use moo_value::text::Text;
 use moo_value::value::{Shown, Value};
+use rules::inherit::verb::FoundVerb;
 use std::alloc::{AllocError, Global};
 use step_deeds::links::close_connection_of;
 use step_deeds::queue::enqueue;

@@ -12,12 +12,12 @@ ghost use Rattle.world.specs.Law.{Goes, Lasts};
 ghost use Rattle.step_tasks.specs.Performed.{StepsTo};
 ghost use Rattle.step_tasks.specs.Ready.{AreReady};
 
-use rules::command_parser::programming::{Opening, open};
-use rules::command_parser::request::Request;
 use moo_task::deeds::Deeds;
 use moo_value::text::Text;
 use moo_value::value::Value;
 use moo_value::write::to_str;
+use rules::command_parser::programming::{Opening, open};
+use rules::command_parser::request::Request;
 use std::alloc::{AllocError, Global};
 use step_tasks::opening::says;
 use task_step::outcome::Outcome;

@@ -1,6 +1,6 @@
 use Rattle.std.proofs.Common.{◌≡◌, rules, w32, to_z, of_z}
 use Rattle.moo_value.specs.Answers.{answer_of}
-use Rattle.builtin_requests.specs.declared.asking.Asking.TheVariants.{Valid, IsPlayer, Parent, Children, MaxObject, Players}
+use Rattle.builtin_requests.specs.declared.asking.Asking.TheVariants.{Valid, IsPlayer, Parent, Children, MaxObject, Players, ConnectedPlayers}
 use Rattle.builtin_calls.proofs.Requested.{told_anyone}
 use Rattle.builtin_calls.proofs.ask.ask.Goals as goal
 
@@ -31,3 +31,7 @@ returns-in-MaxObject-clause-left g c =
 pub returns-in-Players-clause-left : goal.returns-in-Players-clause-left
 returns-in-Players-clause-left g c =
     told_anyone g.V.View.holds g.V.View.now c.args.view.now c.players.new.view c.args.programmer (answer_of c.in_ok-players-in-Players.field-0) c.args.asking Players c.in-Players.is c.in_ok-players-in-Players.ensures.left
+
+pub returns-clause-left : goal.returns-clause-left
+returns-clause-left g c =
+    told_anyone g.V.View.holds g.V.View.now c.args.view.now c.connected_players.new.view c.args.programmer (answer_of c.in_ok-connected_players-in-ConnectedPlayers.field-0) c.args.asking ConnectedPlayers c.in-ConnectedPlayers.is c.in_ok-connected_players-in-ConnectedPlayers.ensures.left

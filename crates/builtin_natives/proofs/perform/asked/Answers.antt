@@ -2,7 +2,8 @@ use Rattle.std.proofs.Common.{◌≡◌, ◌∙◌, rules, w32, to_z, of_z}
 use Rattle.moo_value.specs.Answers.{answer_of}
 use Rattle.builtins_world.specs.Said.{Says}
 use Rattle.builtin_requests.specs.Requests.{asking_of, said_of}
-use Rattle.builtin_deeds.proofs.Acts.{says_acts, told_agrees}
+use Rattle.builtin_deeds.proofs.Acts.{says_acts}
+use Rattle.rules.proofs.Tellings.{known_on}
 use Rattle.builtin_natives.proofs.perform.asked.Goals as goal
 
 pub returns-clause-does : goal.returns-clause-does
@@ -12,5 +13,5 @@ returns-clause-does g c =
 
 pub returns-clause-well_formed : goal.returns-clause-well_formed
 returns-clause-well_formed g c =
-    told_agrees g.V.View.holds g.V.View.now c.args.view.now c.ask.new.view c.args.task.now
-    (λ w. Says (said_of (asking_of c.args.asking)) w (to_z w32 (of_z w32 c.programmer-who.result)) (answer_of c.in_ok-answer.answer)) c.in_ok-answer.ensures.left c.requires.well_formed
+    known_on g.V.View.holds g.V.View.now c.args.view.now c.ask.new.view
+    (λ w. Says (said_of (asking_of c.args.asking)) w (to_z w32 (of_z w32 c.programmer-who.result)) (answer_of c.in_ok-answer.answer)) c.requires.well_formed c.in_ok-answer.ensures.left

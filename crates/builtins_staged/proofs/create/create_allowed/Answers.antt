@@ -2,9 +2,9 @@ use Rattle.std.proofs.Common.{◌≡◌, ◌&&◌, true, false, Some, None, ap, 
 use Rattle.std.proofs.lemmas.Int.{to_z-of_z}
 use Rattle.spec_world.specs.World.{World, Call}
 use Rattle.spec_world.specs.ObjectLaws.{IsPlace}
-use Rattle.rules.proofs.Tellings.{stays_known}
+use Rattle.rules.proofs.Tellings.{known_on, stays_known}
 use Rattle.builtins_staged.specs.Children.{IsNext}
-use Rattle.builtins_staged.proofs.Leading.{told_well, told_then}
+use Rattle.builtins_staged.proofs.Leading.{told_then}
 use Rattle.builtins_staged.proofs.Creating.{IsAllowed, denied_led, full_led, allowed_led}
 use Rattle.builtins_staged.proofs.create.create_allowed.Goals as goal
 
@@ -23,7 +23,7 @@ returns-then-not-allowed-clause-well_formed g c =
     let owner = to_z-of_z w32 c.args.owner c.ranges.owner in
     let within : to_z w32 (of_z w32 c.call.inside.programmer) ≡ c.call.inside.programmer = search rules in
     let programmer : to_z w32 (of_z w32 c.call.inside.programmer) ≡ (c.args.call.now).programmer = within ∙ ap (λ (k : Call). k.programmer) c.call.view_is in
-    told_well g.V.View.holds g.V.View.now c.args.view.now c.may_both.new.view (IsAllowed g.V.View.holds g.V.View.now c.args.call.now c.args.parent c.args.owner c.args.arguments.items false) c.requires.well_formed (rw (parent, owner, programmer, c.if-not-allowed.true) at c.in_ok-allowed.ensures.left)
+    known_on g.V.View.holds g.V.View.now c.args.view.now c.may_both.new.view (IsAllowed g.V.View.holds g.V.View.now c.args.call.now c.args.parent c.args.owner c.args.arguments.items false) c.requires.well_formed (rw (parent, owner, programmer, c.if-not-allowed.true) at c.in_ok-allowed.ensures.left)
 
 pub returns-in_default-clause-left : goal.returns-in_default-clause-left
 returns-in_default-clause-left g c =
@@ -40,8 +40,8 @@ returns-in_default-clause-well_formed g c =
     let owner = to_z-of_z w32 c.args.owner c.ranges.owner in
     let within : to_z w32 (of_z w32 c.call.inside.programmer) ≡ c.call.inside.programmer = search rules in
     let programmer : to_z w32 (of_z w32 c.call.inside.programmer) ≡ (c.args.call.now).programmer = within ∙ ap (λ (k : Call). k.programmer) c.call.view_is in
-    told_well g.V.View.holds g.V.View.now c.may_both.new.view c.next_number.new.view (λ w. IsNext w None)
-    (told_well g.V.View.holds g.V.View.now c.args.view.now c.may_both.new.view (IsAllowed g.V.View.holds g.V.View.now c.args.call.now c.args.parent c.args.owner c.args.arguments.items true) c.requires.well_formed (rw (parent, owner, programmer, c.if-not-allowed.false) at c.in_ok-allowed.ensures.left))
+    known_on g.V.View.holds g.V.View.now c.may_both.new.view c.next_number.new.view (λ w. IsNext w None)
+    (known_on g.V.View.holds g.V.View.now c.args.view.now c.may_both.new.view (IsAllowed g.V.View.holds g.V.View.now c.args.call.now c.args.parent c.args.owner c.args.arguments.items true) c.requires.well_formed (rw (parent, owner, programmer, c.if-not-allowed.false) at c.in_ok-allowed.ensures.left))
     (rw c.in_default.is at c.in_ok-number.ensures.left)
 
 pub create_under-requires-clause-well_formed : goal.create_under-requires-clause-well_formed
@@ -50,8 +50,8 @@ create_under-requires-clause-well_formed g c =
     let owner = to_z-of_z w32 c.args.owner c.ranges.owner in
     let within : to_z w32 (of_z w32 c.call.inside.programmer) ≡ c.call.inside.programmer = search rules in
     let programmer : to_z w32 (of_z w32 c.call.inside.programmer) ≡ (c.args.call.now).programmer = within ∙ ap (λ (k : Call). k.programmer) c.call.view_is in
-    told_well g.V.View.holds g.V.View.now c.may_both.new.view c.next_number.new.view (λ w. IsNext w (Some c.in-Some.number))
-    (told_well g.V.View.holds g.V.View.now c.args.view.now c.may_both.new.view (IsAllowed g.V.View.holds g.V.View.now c.args.call.now c.args.parent c.args.owner c.args.arguments.items true) c.requires.well_formed (rw (parent, owner, programmer, c.if-not-allowed.false) at c.in_ok-allowed.ensures.left))
+    known_on g.V.View.holds g.V.View.now c.may_both.new.view c.next_number.new.view (λ w. IsNext w (Some c.in-Some.number))
+    (known_on g.V.View.holds g.V.View.now c.args.view.now c.may_both.new.view (IsAllowed g.V.View.holds g.V.View.now c.args.call.now c.args.parent c.args.owner c.args.arguments.items true) c.requires.well_formed (rw (parent, owner, programmer, c.if-not-allowed.false) at c.in_ok-allowed.ensures.left))
     (rw c.in-Some.is at c.in_ok-number.ensures.left)
 
 pub create_under-requires-clause-place : goal.create_under-requires-clause-place

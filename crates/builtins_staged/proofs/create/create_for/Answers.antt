@@ -5,8 +5,9 @@ use Rattle.spec_value.specs.Datum.{object as object_of}
 use Rattle.spec_world.specs.World.{object_at}
 use Rattle.spec_world.specs.Families.{nowhere}
 use Rattle.spec_value.proofs.Entries.{first_holds}
+use Rattle.rules.proofs.Tellings.{known_on}
 use Rattle.builtins_objects.proofs.RowsKeep.{place_of}
-use Rattle.builtins_staged.proofs.Leading.{told_well, told_then}
+use Rattle.builtins_staged.proofs.Leading.{told_then}
 use Rattle.builtins_staged.proofs.Creating.{none_led, both_led}
 use Rattle.builtins_staged.proofs.create.create_for.Goals as goal
 
@@ -20,13 +21,13 @@ pub returns-then-not-there-clause-well_formed : goal.returns-then-not-there-clau
 returns-then-not-there-clause-well_formed g c =
     let parent = to_z-of_z w32 c.args.parent c.ranges.parent in
     let owner = to_z-of_z w32 c.args.owner c.ranges.owner in
-    told_well g.V.View.holds g.V.View.now c.args.view.now c.is_place_and_there.new.view (λ w. ((int_eq c.args.parent nowhere || is_some (object_at w c.args.parent)) && is_some (object_at w c.args.owner)) ≡ false) c.requires.well_formed (rw (parent, owner, c.if-not-there.true) at c.in_ok-there.ensures.left)
+    known_on g.V.View.holds g.V.View.now c.args.view.now c.is_place_and_there.new.view (λ w. ((int_eq c.args.parent nowhere || is_some (object_at w c.args.parent)) && is_some (object_at w c.args.owner)) ≡ false) c.requires.well_formed (rw (parent, owner, c.if-not-there.true) at c.in_ok-there.ensures.left)
 
 pub create_allowed-requires-clause-well_formed : goal.create_allowed-requires-clause-well_formed
 create_allowed-requires-clause-well_formed g c =
     let parent = to_z-of_z w32 c.args.parent c.ranges.parent in
     let owner = to_z-of_z w32 c.args.owner c.ranges.owner in
-    told_well g.V.View.holds g.V.View.now c.args.view.now c.is_place_and_there.new.view (λ w. ((int_eq c.args.parent nowhere || is_some (object_at w c.args.parent)) && is_some (object_at w c.args.owner)) ≡ true) c.requires.well_formed (rw (parent, owner, c.if-not-there.false) at c.in_ok-there.ensures.left)
+    known_on g.V.View.holds g.V.View.now c.args.view.now c.is_place_and_there.new.view (λ w. ((int_eq c.args.parent nowhere || is_some (object_at w c.args.parent)) && is_some (object_at w c.args.owner)) ≡ true) c.requires.well_formed (rw (parent, owner, c.if-not-there.false) at c.in_ok-there.ensures.left)
 
 pub create_allowed-requires-clause-place : goal.create_allowed-requires-clause-place
 create_allowed-requires-clause-place g c =
@@ -39,6 +40,6 @@ pub returns-clause-left : goal.returns-clause-left
 returns-clause-left g c =
     let parent = to_z-of_z w32 c.args.parent c.ranges.parent in
     let owner = to_z-of_z w32 c.args.owner c.ranges.owner in
-    both_led g.V.View.holds g.V.View.now c.args.call.now c.args.parent c.args.owner c.push-2.new.self.items c.args.view.now c.is_place_and_there.new.view c.create_allowed.new.view c.in_ok-effect.effect
-    ?
+    both_led g.V.View.holds g.V.View.now c.args.call.now c.args.parent c.args.owner c.in_ok-arguments.arguments.items c.args.view.now c.is_place_and_there.new.view c.create_allowed.new.view c.in_ok-effect.effect
+    (rw (parent, owner) at c.in_ok-arguments.ensures)
     (rw (parent, owner, c.if-not-there.false) at c.in_ok-there.ensures.left) (rw (parent, owner) at c.in_ok-effect.ensures.left)

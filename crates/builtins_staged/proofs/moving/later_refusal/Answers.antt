@@ -1,6 +1,6 @@
 use Rattle.std.proofs.Common.{◌≡◌, true, false, w32}
 use Rattle.std.proofs.lemmas.Int.{to_z-of_z}
-use Rattle.builtins_staged.proofs.Leading.{told_well}
+use Rattle.rules.proofs.Tellings.{known_on}
 use Rattle.builtins_staged.proofs.Refusing.{are_there, later_absent, later_inside, later_right}
 use Rattle.builtins_staged.proofs.moving.later_refusal.Goals as goal
 
@@ -14,7 +14,7 @@ pub is_inside-requires-clause-well_formed : goal.is_inside-requires-clause-well_
 is_inside-requires-clause-well_formed g c =
     let what = to_z-of_z w32 c.args.what c.ranges.what in
     let place = to_z-of_z w32 c.args.place c.ranges.place in
-    told_well g.V.View.holds g.V.View.now c.args.view.now c.are_there.new.view (λ w. are_there g.V.View.holds g.V.View.now c.args.what c.args.what c.args.place w ≡ true) c.requires.well_formed
+    known_on g.V.View.holds g.V.View.now c.args.view.now c.are_there.new.view (λ w. are_there g.V.View.holds g.V.View.now c.args.what c.args.what c.args.place w ≡ true) c.requires.well_formed
     (rw (what, place, c.if-not-there.false) at c.in_ok-there.ensures.left)
 
 pub returns-then-inside-clause-left : goal.returns-then-inside-clause-left

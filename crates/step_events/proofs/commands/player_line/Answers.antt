@@ -4,12 +4,13 @@ use Rattle.spec_value.specs.Table.{at}
 use Rattle.spec_world.specs.CommandLines.{command_said}
 use Rattle.spec_moo.specs.Steps.Events.{player_line, command_run, foreground_ticks}
 use Rattle.rules.specs.Meanings.{command_of}
+use Rattle.rules.proofs.InheritStanding.{agreeing_stands}
 use Rattle.moo_task.specs.Deeds.{scene_of}
 use Rattle.step_tasks.proofs.Playing.{plays_then, ready_told, still}
 use Rattle.step_events.proofs.commands.player_line.Goals as goal
 
 pub parse-requires-clause-well_formed : goal.parse-requires-clause-well_formed
-parse-requires-clause-well_formed g c w h = (c.requires.ready w h 0).agrees.world.objects
+parse-requires-clause-well_formed g c w h = agreeing_stands (g.V.View.now c.args.view.now w) (c.requires.ready w h 0).agrees.world
 
 pub run_command-requires-clause-ready : goal.run_command-requires-clause-ready
 run_command-requires-clause-ready g c = ready_told g.V.View.holds g.V.View.now c.args.view.now c.parse.new.view _ c.args.deeds c.requires.ready c.in_ok-command.ensures.left

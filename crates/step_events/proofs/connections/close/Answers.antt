@@ -6,8 +6,9 @@ use Rattle.spec_step.specs.Outcome.{Outcome}
 use Rattle.spec_moo.specs.Scene.{Scene}
 use Rattle.spec_moo.specs.Steps.Events.{closed_link, gone, foreground_ticks}
 use Rattle.spec_ready.proofs.Readiness.{links_close}
+use Rattle.rules.proofs.InheritStanding.{agreeing_stands}
 use Rattle.moo_task.specs.Deeds.{scene_of}
-use Rattle.step_tasks.proofs.Playing.{plays_told, plays_then, plays_changed, ready_told, ready_changed, read_once}
+use Rattle.step_tasks.proofs.Playing.{plays_told, plays_then, plays_changed, ready_told, ready_changed}
 use Rattle.step_events.proofs.connections.close.Goals as goal
 
 pub gone-requires-clause-ready : goal.gone-requires-clause-ready
@@ -39,9 +40,9 @@ returns-in-None-clause-played g c s opening =
     (rw (to_z-of_z w32 c.args.connection c.ranges.connection, c.in-None.is) at c.in_ok-link.ensures.left)
     (λ w is. ap (closed_link s w c.args.connection) is ∙ ap (λ (o : Outcome). (w, o)) (sym c.idle.ensures))
 
-pub close_link-requires-clause-readers : goal.close_link-requires-clause-readers
-close_link-requires-clause-readers g c w h =
+pub close_link-requires-clause-well_formed : goal.close_link-requires-clause-well_formed
+close_link-requires-clause-well_formed g c w h =
     let view = g.V.View in
     let connection = to_z-of_z w32 c.args.connection c.ranges.connection in
-    read_once (scene_of c.args.deeds (view.now c.read_link.new.view w) 0)
-    (ready_told view.holds view.now c.args.view.now c.read_link.new.view (λ w. at w.links c.args.connection ≡ c.in_ok-link.link) c.args.deeds c.requires.ready (rw connection at c.in_ok-link.ensures.left) w h 0)
+    let ready = ready_told view.holds view.now c.args.view.now c.read_link.new.view (λ w. at w.links c.args.connection ≡ c.in_ok-link.link) c.args.deeds c.requires.ready (rw connection at c.in_ok-link.ensures.left) in
+    agreeing_stands (view.now c.read_link.new.view w) (ready w h 0).agrees.world

@@ -5,6 +5,7 @@ use Rattle.spec_world.specs.World.{World}
 use Rattle.spec_world.specs.VerbsSought.{find_verb}
 use Rattle.spec_moo.specs.Steps.Running.{run, came_to, system, system_task}
 use Rattle.spec_moo.specs.Steps.Events.{told_gone, foreground_ticks}
+use Rattle.rules.proofs.InheritStanding.{agreeing_stands}
 use Rattle.moo_task.specs.Deeds.{scene_of}
 use Rattle.moo_task.specs.Outcomes.{ticks_of}
 use Rattle.world.specs.Law.{Goes}
@@ -13,7 +14,7 @@ use Rattle.step_tasks.proofs.Playing.{plays_told, plays_then, ready_told}
 use Rattle.step_events.proofs.connections.player_gone.Goals as goal
 
 pub on_system-requires-clause-well_formed : goal.on_system-requires-clause-well_formed
-on_system-requires-clause-well_formed g c w h = (c.requires.ready w h 0).agrees.world.objects
+on_system-requires-clause-well_formed g c w h = agreeing_stands (g.V.View.now c.args.view.now w) (c.requires.ready w h 0).agrees.world
 
 pub play_task-requires-clause-ready : goal.play_task-requires-clause-ready
 play_task-requires-clause-ready g c =

@@ -4,12 +4,13 @@ use Rattle.spec_world.specs.Links.{connection_object}
 use Rattle.spec_world.specs.VerbsSought.{find_verb}
 use Rattle.spec_moo.specs.Steps.Running.{run, system, system_task}
 use Rattle.spec_moo.specs.Steps.Events.{login, login_with, after_login, foreground_ticks}
+use Rattle.rules.proofs.InheritStanding.{agreeing_stands}
 use Rattle.moo_task.specs.Deeds.{scene_of}
 use Rattle.step_tasks.proofs.Playing.{plays_told, plays_then, ready_told}
 use Rattle.step_events.proofs.login.login.Goals as goal
 
 pub on_system-requires-clause-well_formed : goal.on_system-requires-clause-well_formed
-on_system-requires-clause-well_formed g c w h = (c.requires.ready w h 0).agrees.world.objects
+on_system-requires-clause-well_formed g c w h = agreeing_stands (g.V.View.now c.args.view.now w) (c.requires.ready w h 0).agrees.world
 
 pub log_in-requires-clause-ready : goal.log_in-requires-clause-ready
 log_in-requires-clause-ready g c =

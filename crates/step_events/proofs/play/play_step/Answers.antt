@@ -2,7 +2,7 @@ use Rattle.std.proofs.Common.{◌≡◌, ◌+◌, ◌∙◌, ap, true, false}
 use Rattle.spec_step.specs.Step.{Step}
 use Rattle.spec_ready.proofs.Readiness.{number_small}
 use Rattle.task_step.specs.StepView.{event_of}
-use Rattle.step_events.proofs.Steps.{now_numbered, step_ended, step_played, step_ready, whole_after}
+use Rattle.step_events.proofs.Steps.{now_numbered, step_ended, step_played, step_ready, sound_after}
 use Rattle.step_events.proofs.play.play_step.Goals as goal
 
 pub perform-requires-clause-ready : goal.perform-requires-clause-ready
@@ -13,7 +13,7 @@ perform-requires-clause-ready g c w h t =
     let told = c.in_ok-ending.ensures.left w h in
     let raised = c.in_ok-raise_next.ensures.left w told.0 in
     let there = now_numbered (view.now c.args.view.now w) (view.now c.raise_next.new.view w) (view.now c.read_ending.new.view w) s (c.from.result + 1) (number_small s c.requires.range) number raised.1 told.1.0 in
-    step_ready (view.now c.args.view.now w) (view.now c.read_ending.new.view w) s c.opening-deeds.result t there (c.requires.whole w raised.0).well_formed c.requires.range c.opening-deeds.ensures
+    step_ready (view.now c.args.view.now w) (view.now c.read_ending.new.view w) s c.opening-deeds.result t there (c.requires.sound w raised.0).well_formed c.requires.range c.opening-deeds.ensures
 
 pub returns-then-ending-clause-played : goal.returns-then-ending-clause-played
 returns-then-ending-clause-played g c w h =
@@ -41,14 +41,14 @@ returns-clause-played g c w h =
           (told.1.1 ∙ c.if-ending.false) rest.1,
     )
 
-pub returns-clause-whole : goal.returns-clause-whole
-returns-clause-whole g c w h =
+pub returns-clause-sound : goal.returns-clause-sound
+returns-clause-sound g c w h =
     let view = g.V.View in
     let r = returns-clause-played g c w h in
-    whole_after (view.now c.args.view.now w) (view.now c.perform.new.view w) c.args.step.now c.in_ok-outcome.outcome (c.requires.whole w r.0) c.requires.range r.1
+    sound_after (view.now c.args.view.now w) (view.now c.perform.new.view w) c.args.step.now c.in_ok-outcome.outcome (c.requires.sound w r.0) c.requires.range r.1
 
-pub returns-then-ending-clause-whole : goal.returns-then-ending-clause-whole
-returns-then-ending-clause-whole g c w h =
+pub returns-then-ending-clause-sound : goal.returns-then-ending-clause-sound
+returns-then-ending-clause-sound g c w h =
     let view = g.V.View in
     let r = returns-then-ending-clause-played g c w h in
-    whole_after (view.now c.args.view.now w) (view.now c.read_ending.new.view w) c.args.step.now c.idle.result (c.requires.whole w r.0) c.requires.range r.1
+    sound_after (view.now c.args.view.now w) (view.now c.read_ending.new.view w) c.args.step.now c.idle.result (c.requires.sound w r.0) c.requires.range r.1

@@ -5,14 +5,14 @@ use Rattle.spec_world.specs.Links.{open_link}
 use Rattle.spec_moo.specs.Steps.Events.{foreground_ticks}
 use Rattle.spec_moo.specs.Steps.Programming.{ends, ends_at, programmable}
 use Rattle.moo_task.specs.Deeds.{scene_of}
-use Rattle.step_tasks.proofs.Playing.{plays_then, plays_changed, still, told_still}
+use Rattle.step_tasks.proofs.Playing.{ready_agrees, plays_then, plays_changed, still, told_still}
 use Rattle.step_links.specs.Codes.{HasVerbAt}
 use Rattle.step_links.proofs.Relinks.{link_ranged, written_goes}
 use Rattle.step_links.proofs.Codings.{may_be_programmed, still_has}
 use Rattle.step_links.proofs.coding.end.Goals as goal
 
 pub programmable-requires-clause-well_formed : goal.programmable-requires-clause-well_formed
-programmable-requires-clause-well_formed g c w h = (c.requires.ready w h 0).agrees.world.objects
+programmable-requires-clause-well_formed g c = ready_agrees g.V.View.holds g.V.View.now c.args.view.now c.args.deeds c.requires.ready
 
 pub end_at-requires-clause-there : goal.end_at-requires-clause-there
 end_at-requires-clause-there g c w h =

@@ -1,10 +1,11 @@
 use Rattle.std.proofs.Common.{Some, w32}
 use Rattle.std.proofs.lemmas.Int.{to_z-of_z}
+use Rattle.step_tasks.proofs.Playing.{ready_agrees}
 use Rattle.step_links.proofs.Accepted.{greeted_then, not_there_greeted}
 use Rattle.step_links.proofs.logins.greet.Goals as goal
 
 pub on_system-requires-clause-well_formed : goal.on_system-requires-clause-well_formed
-on_system-requires-clause-well_formed g c w h = (c.requires.ready w h 0).agrees.world.objects
+on_system-requires-clause-well_formed g c = ready_agrees g.V.View.holds g.V.View.now c.args.view.now c.args.deeds.now c.requires.ready
 
 pub returns-in-Some-clause-left : goal.returns-in-Some-clause-left
 returns-in-Some-clause-left g c =

@@ -3,8 +3,8 @@ use Rattle.std.proofs.lemmas.Int.{to_z-of_z}
 use Rattle.spec_world.specs.World.{Link}
 use Rattle.spec_moo.specs.Steps.Events.{foreground_ticks}
 use Rattle.spec_ready.proofs.Readiness.{login_ranged}
-use Rattle.step_tasks.proofs.Playing.{read_once}
 use Rattle.moo_task.specs.Deeds.{scene_of}
+use Rattle.step_tasks.proofs.Playing.{ready_agrees}
 use Rattle.step_links.proofs.Accepted.{relinked_goes, relinked_ready}
 use Rattle.step_links.proofs.logins.relink.Goals as goal
 
@@ -25,5 +25,5 @@ returns-clause-ready g c =
     let view = g.V.View in
     relinked_ready view.holds view.now c.args.view.now c.write_link.new.view c.args.deeds.now c.tell_line.new.deeds c.args.connection c.args.player c.tell_line.result c.requires.ready c.requires.may (returns-clause-left g c)
 
-pub close_connection_of-requires-clause-readers : goal.close_connection_of-requires-clause-readers
-close_connection_of-requires-clause-readers g c w h = read_once (scene_of c.args.deeds.now (g.V.View.now c.args.view.now w) 0) (c.requires.ready w h 0)
+pub close_connection_of-requires-clause-well_formed : goal.close_connection_of-requires-clause-well_formed
+close_connection_of-requires-clause-well_formed g c = ready_agrees g.V.View.holds g.V.View.now c.args.view.now c.args.deeds.now c.requires.ready

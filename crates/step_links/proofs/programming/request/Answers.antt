@@ -7,11 +7,11 @@ use Rattle.spec_moo.specs.Steps.Programming.{requested}
 use Rattle.rules.specs.Meanings.{request_of}
 use Rattle.rules.specs.Openings.{opened}
 use Rattle.moo_task.specs.Deeds.{scene_of}
-use Rattle.step_tasks.proofs.Playing.{plays_then, ready_told, still}
+use Rattle.step_tasks.proofs.Playing.{ready_agrees, plays_then, ready_told, still}
 use Rattle.step_links.proofs.programming.request.Goals as goal
 
 pub open-requires-clause-well_formed : goal.open-requires-clause-well_formed
-open-requires-clause-well_formed g c w h = (c.requires.ready w h 0).agrees.world.objects
+open-requires-clause-well_formed g c = ready_agrees g.V.View.holds g.V.View.now c.args.view.now c.args.deeds c.requires.ready
 
 pub answer-requires-clause-ready : goal.answer-requires-clause-ready
 answer-requires-clause-ready g c =

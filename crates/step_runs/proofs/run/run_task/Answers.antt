@@ -1,11 +1,12 @@
 use Rattle.std.proofs.Common.{◌≡◌, refl, sym, ap, ◌∙◌, w32, to_z, of_z, rules}
 use Rattle.std.proofs.lemmas.Int.{to_z-of_z}
+use Rattle.rules.proofs.InheritStanding.{agreeing_stands}
 use Rattle.moo_task.specs.Outcomes.{running_kept, ticks_of}
 use Rattle.step_runs.proofs.Runs.{loops, can_be_kept, has_run, value_ready}
 use Rattle.step_runs.proofs.run.run_task.Goals as goal
 
 pub run-requires-clause-well_formed : goal.run-requires-clause-well_formed
-run-requires-clause-well_formed g c w h = (c.requires.ready w h 0).agrees.world.objects
+run-requires-clause-well_formed g c w h = agreeing_stands (g.V.View.now c.args.view.now w) (c.requires.ready w h 0).agrees.world
 
 pub run-requires-clause-under_way : goal.run-requires-clause-under_way
 run-requires-clause-under_way g c = loops (running_kept c.args.task) c.args.task.outer c.requires.runs.1.under_way

@@ -1,0 +1,12 @@
+use Rattle.std.proofs.Common.{◌≡◌, ◌∙◌, ap, sym}
+use Rattle.std.specs.Prelude.{option_map}
+use Rattle.rules.specs.CommandLinesMeant.{parts_of}
+use Rattle.step_events.proofs.Typed.{no_words, words_there}
+use Rattle.step_events.proofs.lines.words_typed.Goals as goal
+
+pub returns-in_ok-words-in-Some : goal.returns-in_ok-words-in-Some
+returns-in_ok-words-in-Some c =
+    c.in_ok-words.ensures ∙ words_there c.args.text.now (parts_of c.in-Some.parts) (sym (rw c.as_str.ensures at c.in_ok-parts.ensures) ∙ ap (option_map parts_of) c.in-Some.is)
+
+pub returns-in-None : goal.returns-in-None
+returns-in-None c = no_words c.args.text.now (sym (rw c.as_str.ensures at c.in_ok-parts.ensures) ∙ ap (option_map parts_of) c.in-None.is)

@@ -9,3 +9,5 @@ mod meetings;
 mod refusals;
 #[cfg(test)]
 mod row;
+#[cfg(test)]
+mod sessions;

@@ -20,9 +20,9 @@ const COMMANDS: [Script; 9] = [
         3,
     ),
     (
-        b"line 2 PUT \\\"ball  upon  in BO\nline 2 put ball into ball\n",
+        b"line 2 PUT \\\"ball  near  in BO\nline 2 put ball into ball\n",
         "1",
-        "step 1 value {\"\\\"ball upon\", \"in\", #6} ticks 2\nstep 2 none ticks 0\n> 2 I couldn't understand that.\n",
+        "step 1 value {\"\\\"ball near\", \"in\", #6} ticks 2\nstep 2 none ticks 0\n> 2 I couldn't understand that.\n",
         3,
     ),
     // Beginnings of a verb's name.

@@ -15,13 +15,13 @@ ghost use Rattle.world.specs.Law.{Goes, Lasts};
 ghost use Rattle.step_runs.specs.Stops.{CanBeKept, Settles, SettlesAs};
 
 use moo_machine::leaving::{Failure, Traced};
-use running::moo_run::stopped::Stop;
 use moo_task::deeds::Deeds;
 use moo_task::effect::Waiting;
 use moo_task::frame::Frame;
 use moo_task::outcome::End;
 use moo_task::outers::Outers;
 use moo_task::task::Task;
+use running::moo_run::stopped::Stop;
 use std::alloc::{AllocError, Global};
 use step_deeds::queue::enqueue;
 use step_deeds::telling::tell;

@@ -12,9 +12,9 @@ ghost use Rattle.step_tasks.specs.Tasks.{MayRun};
 ghost use Rattle.step_runs.specs.Stops.{came_to_of};
 
 use crate::run::{Ran, run_task};
-use running::moo_run::natives::Natives;
 use moo_task::deeds::Deeds;
 use moo_task::running::Running;
+use running::moo_run::natives::Natives;
 use std::alloc::{AllocError, Global};
 use step_tasks::outcome::outcome;
 use task_step::outcome::Outcome;

@@ -11,11 +11,11 @@ ghost use Rattle.step_runs.specs.Stops.{HasRun, left_at};
 ghost use Rattle.step_tasks.specs.Tasks.{MayRun};
 
 use crate::ending::after_stop;
+use moo_task::deeds::Deeds;
+use moo_task::running::Running;
 use running::moo_run::natives::Natives;
 use running::moo_run::run::run;
 use running::moo_run::stopped::{Stop, Stopped};
-use moo_task::deeds::Deeds;
-use moo_task::running::Running;
 use std::alloc::{AllocError, Global};
 use task_step::outcome::Ending;
 use world::law::View;

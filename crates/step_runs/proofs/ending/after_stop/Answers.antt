@@ -1,4 +1,4 @@
-use Rattle.std.proofs.Common.{subst, w32}
+use Rattle.std.proofs.Common.{◌≡◌, subst, w32, rules}
 use Rattle.std.proofs.lemmas.Int.{to_z-of_z}
 use Rattle.step_runs.specs.Stops.{CanBeKept}
 use Rattle.step_runs.proofs.Endings.{ends_settles, ticks_settle, waits_settle}
@@ -20,7 +20,8 @@ pub returns-in_ok-ending-in-OutOfTicks-clause-settles : goal.returns-in_ok-endin
 returns-in_ok-ending-in-OutOfTicks-clause-settles g c w h =
     let view = g.V.View in
     let player = to_z-of_z w32 c.args.player c.ranges.player in
-    let r = (rw player at c.in_ok-ending-in-OutOfTicks.ensures.settles) w h in (
+    let verbs : c.deref.result.now ≡ c.in-OutOfTicks.verbs.items = search rules in
+    let r = (rw (player, verbs) at c.in_ok-ending-in-OutOfTicks.ensures.settles) w h in (
       r.0,
       ticks_settle c.args.player c.in_ok-ending-in-OutOfTicks.ending c.args.deeds.now c.ran_out.new.deeds (view.now c.args.view.now w) (view.now c.ran_out.new.view w) c.args.stop c.in-OutOfTicks.verbs
           c.in-OutOfTicks.is r.1,

@@ -1,7 +1,9 @@
-use Rattle.std.proofs.Common.{◌≡◌, refl, sym, ap, ◌∙◌, w32, to_z, of_z, rules}
+use Rattle.std.proofs.Common.{◌≡◌, ◌-◌, refl, sym, ap, ◌∙◌, w32, to_z, of_z, rules}
 use Rattle.std.proofs.lemmas.Int.{to_z-of_z}
 use Rattle.rules.proofs.InheritStanding.{agreeing_stands}
 use Rattle.moo_task.specs.Outcomes.{running_kept, ticks_of}
+use Rattle.step_runs.specs.Stops.{left_at}
+use Rattle.step_runs.specs.declared.run.Ran.{Ran}
 use Rattle.step_runs.proofs.Runs.{loops, can_be_kept, has_run, value_ready}
 use Rattle.step_runs.proofs.run.run_task.Goals as goal
 
@@ -36,5 +38,12 @@ returns-clause-ready g c value w h t =
     let player : to_z w32 (of_z w32 c.args.task.player) ≡ c.args.task.player = search rules in
     let k = (rw player at c.in_ok-ending.ensures.settles) w h in
     let l = c.in_ok-stopped.ensures.stopped w k.0 in
-    value_ready c.args.deeds (view.now c.args.view.now w) (view.now c.run.new.view w) (view.now c.after_stop.new.view w) c.args.task c.requires.runs.0 c.in_ok-stopped.stopped c.args.task.player _
-    c.requires.runs.1 (c.requires.ready w l.0 (ticks_of c.args.task)) l.1 refl k.1 refl (search rules) value t
+    let stopped = c.in_ok-stopped.stopped in
+    let r : Ran = record {
+      ending = c.in_ok-ending.ending;
+      deeds = c.after_stop.new.deeds;
+      ticks_left = stopped.ticks_left;
+      ticks_used = ticks_of c.args.task - left_at stopped.stop stopped.ticks_left;
+    } in
+    value_ready c.args.deeds (view.now c.args.view.now w) (view.now c.run.new.view w) (view.now c.after_stop.new.view w) c.args.task c.requires.runs.0 c.in_ok-stopped.stopped c.args.task.player r
+    c.requires.runs.1 (c.requires.ready w l.0 (ticks_of c.args.task)) l.1 refl k.1 refl refl value t

@@ -1,5 +1,5 @@
 -- What comes of a text, by its tree or its fault.
-use Rattle.std.proofs.Common.{◌≡◌, ◌∙◌, ℕ, ℤ, ◌++◌, List, [], ◌∷◌, Some, Result, Ok, Err, refl, sym, ap, subst}
+use Rattle.std.proofs.Common.{◌≡◌, ◌∙◌, ℕ, ℤ, ◌++◌, List, [], ◌∷◌, Some, Result, Ok, refl, sym, ap, subst}
 use Rattle.std.specs.Prelude.{pos, codes}
 use Rattle.std.specs.Fmt.{decimal}
 use Rattle.spec_value.specs.Datum.{Datum, Text, text, integer}
@@ -37,10 +37,10 @@ module _ {X : Type 0} (does : Parsed → X) (tells : Datum → X) (so : (f : Fau
   told_by fault.LoopName line p h = ap does h ∙ so _
   told_by fault.Memory line p h = absurd h
 
-fault_programs : (e : SyntaxFault) (p : Parsed) → IsFault e p → (s : Scene) (o : ℤ) (n : ℕ) → programmed s o n p ≡ answers s (gives (fault_told e))
+pub fault_programs : (e : SyntaxFault) (p : Parsed) → IsFault e p → (s : Scene) (o : ℤ) (n : ℕ) → programmed s o n p ≡ answers s (gives (fault_told e))
 fault_programs e p h s o n = told_by (programmed s o n) (λ d. answers s (gives d)) (λ f. refl) e.kind e.line p h
 
-fault_evaluates : (e : SyntaxFault) (p : Parsed) → IsFault e p → (s : Scene) (c : Caller) (t : Text) → evaluated s c t p ≡ answers s (gives (refusal_told e))
+pub fault_evaluates : (e : SyntaxFault) (p : Parsed) → IsFault e p → (s : Scene) (c : Caller) (t : Text) → evaluated s c t p ≡ answers s (gives (refusal_told e))
 fault_evaluates e p h s c t = told_by (evaluated s c t) (λ d. answers s (gives (list_value (integer (pos 0) ∷ d ∷ [])))) (λ f. refl) e.kind e.line p h
 
 -- ---- of what was read
@@ -48,19 +48,12 @@ fault_evaluates e p h s c t = told_by (evaluated s c t) (λ d. answers s (gives 
 tree_came : (r : Result Program SyntaxFault) (t : Program) (p : Parsed) → r ≡ Ok t → IsAnswer r p → p ≡ program t
 tree_came r t p is h = subst (λ z. IsAnswer z p) is h
 
-fault_came : (r : Result Program SyntaxFault) (e : SyntaxFault) (p : Parsed) → r ≡ Err e → IsAnswer r p → IsFault e p
-fault_came r e p is h = subst (λ z. IsAnswer z p) is h
-
 -- ---- that is evaluated
 
 pub tree_begins : (r : Result Program SyntaxFault) (t : Program) (d : Call) (x : Text) (e : effect.NativeEffect) → r ≡ Ok t
     → ((s : Scene) (c : Caller) → evaluated s (with_call c d) x (program t) ≡ effect_of e s)
     → (p : Parsed) → IsAnswer r p → (s : Scene) (c : Caller) → evaluated s (with_call c d) x p ≡ effect_of e s
 tree_begins r t d x e is so p h s c = ap (λ q. evaluated s (with_call c d) x q) (tree_came r t p is h) ∙ so s c
-
-pub fault_refuses : (r : Result Program SyntaxFault) (e : SyntaxFault) (d : Call) (x : Text) (v : Datum) → r ≡ Err e → v ≡ refusal_told e
-    → (p : Parsed) → IsAnswer r p → (s : Scene) (c : Caller) → evaluated s (with_call c d) x p ≡ answers s (gives v)
-fault_refuses r e d x v is told p h s c = fault_evaluates e p (fault_came r e p is h) s (with_call c d) x ∙ ap (λ y. answers s (gives y)) (sym told)
 
 -- ---- that a verb is given
 
@@ -80,8 +73,3 @@ module _ {V : Type 0} (holds : V → World → Type 0) (now : V → World → Wo
       → Goes holds now old new (λ before after. verbs_at before o ≡ Some vs → (p : Parsed) → IsAnswer r p → Programs o n p before after a)
   tree_programs r t a is so w left =
       let u = so w left in (u.0, λ there p h. subst (λ q. Programs o n q (now old w) (now new w) a) (sym (tree_came r t p is h)) (u.1 there))
-
-  pub fault_is_told : (r : Result Program SyntaxFault) (e : SyntaxFault) (v : Datum) → r ≡ Err e → v ≡ fault_told e
-      → Goes holds now old old (λ before after. verbs_at before o ≡ Some vs → (p : Parsed) → IsAnswer r p → Programs o n p before after (gives v))
-  fault_is_told r e v is told w left =
-      (left, λ there p h s. fault_programs e p (fault_came r e p is h) (in_world s (now old w)) o n ∙ ap (λ x. answers (in_world s (now old w)) (gives x)) (sym told))

@@ -60,6 +60,7 @@ fn evaluated(alloc: Global, call: &Call, text: &Text) -> Result<NativeEffect, Al
 }
 
 // What a text begins of which this came, or its fault.
+#[tactic(auto, using(crate::proofs::Told::fault_evaluates))]
 fn begun_or_refused(
     alloc: Global,
     call: &Call,

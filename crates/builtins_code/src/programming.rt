@@ -84,6 +84,7 @@ fn put_lines<V: View>(
 }
 
 // A verb that may be programmed has the program of a text of which this came, or the text's fault is told.
+#[tactic(auto, using(crate::proofs::Told::fault_programs))]
 fn put_parsed<V: View>(
     alloc: Global,
     view: &mut V,

@@ -1,22 +1,16 @@
 -- Verbs that begin, or are not there.
-use Rattle.std.proofs.Common.{◌≡◌, ℤ, [], ◌∷◌, ◌++◌, List, Option, Some, None, refl, sym, ap, ◌∙◌, subst}
-use Rattle.std.specs.Prelude.{codes}
-use Rattle.spec_value.specs.Datum.{Text, Datum, Data, no_data, of_list, object}
-use Rattle.spec_world.specs.World.{World, Call, Native, create_native}
+use Rattle.std.proofs.Common.{◌≡◌, ℤ, Some, None, ap, ◌∙◌}
+use Rattle.spec_value.specs.Datum.{Text, Data}
+use Rattle.spec_world.specs.World.{World, Call, Native}
 use Rattle.spec_world.specs.VerbsSought.{Sought, find_verb}
 use Rattle.spec_moo.specs.Scene.{Scene, in_world}
 use Rattle.spec_moo.specs.Calling.{verb_call}
 use Rattle.spec_moo.specs.NativeEffect as N
-use Rattle.spec_moo.specs.Natives.Objects.{calls_found, stage}
-use Rattle.spec_moo.specs.Natives.Rows.{answers_with}
+use Rattle.spec_moo.specs.Natives.Objects.{calls_found}
 use Rattle.moo_task.specs.Effects.{effect_of}
-use Rattle.moo_task.specs.Frames.{native_of}
-use Rattle.moo_task.specs.declared.native.Native as rust
 use Rattle.moo_task.specs.declared.effect.NativeEffect.{NativeEffect}
-use Rattle.moo_task.specs.declared.effect.NativeEffect.TheVariants.{Answers}
 use Rattle.world.specs.Law.{Tells}
-use Rattle.builtins_staged.specs.Led.{with_call, begun_or, MayBegin, Leads}
-use Rattle.builtins_staged.specs.Children.{initialized}
+use Rattle.builtins_staged.specs.Led.{with_call, MayBegin}
 
 module _ {V : Type 0} (holds : V → World → Type 0) (now : V → World → World) (k : Call) (n : Native) (o : ℤ) (word : Text) (args : Data) where
   -- there is none

@@ -1,5 +1,6 @@
 -- A new child.
-use Rattle.std.proofs.Common.{◌≡◌, ◌⊎◌, inl, inr, ℕ, zero, suc, ℤ, pos, negsuc, Bool, true, false, ◌&&◌, ◌||◌, List, [], ◌∷◌, map, Option, Some, None, Result, Ok, Err, OnOk, refl, sym, ap, ◌∙◌, subst, cond, arith, IsTrue, is_some, if◌then◌else◌}
+use Rattle.std.proofs.Common.{◌≡◌, ◌⊎◌, inl, inr, zero, suc, ◌+◌, ◌≤◌, ℤ, pos, negsuc, Bool, true, false, ◌||◌, List, [], ◌∷◌, map, Option, Some, None, Result, Ok, Err, OnOk, refl, sym, ap, ◌∙◌, subst, cond, arith, IsTrue, is_some, leb-true, if◌then◌else◌}
+use Rattle.std.proofs.Math.Dec.{leb-zero}
 use Rattle.std.specs.Prelude.{option_map, neg_ℤ, int_le, ◌+ℤ◌}
 use Rattle.spec_value.specs.Datum.{Text, fold_case, same_text}
 use Rattle.spec_value.specs.Table.{Named, named, with, with_name, is_named}
@@ -16,7 +17,7 @@ use Rattle.spec_world.proofs.WorldTrees.{parents, ancestors_of}
 use Rattle.spec_world.proofs.Households.{Household, household}
 use Rattle.spec_world.proofs.SlotTables.{text_or_not, named_with, with_sorted, named_heirs, heirs_sorted, or_first}
 use Rattle.spec_world.proofs.Reparenting.{slots_above}
-use Rattle.spec_view.specs.Questions.{apply, new_greatest, new_object, is_number, put_record}
+use Rattle.spec_view.specs.Questions.{apply, new_greatest, new_object, is_number}
 use Rattle.rules.specs.Lines.{AreAgreeing}
 use Rattle.rules.specs.Standing.{IsStanding}
 use Rattle.rules.proofs.ObjectsStand.{created_stands}
@@ -116,9 +117,9 @@ numbered w sound n next room =
     both_hold (int_le (pos 0) n) (int_le n (pos 999999)) (subst (λ k. IsTrue (int_le (pos 0) k)) next (above w.greatest (first_holds (int_le (neg_ℤ (pos 1)) w.greatest) _ sound.greatest_in_range))) room
   where
     above : (g : ℤ) → IsTrue (int_le (neg_ℤ (pos 1)) g) → IsTrue (int_le (pos 0) (g +ℤ pos 1))
-    above (pos g) h = refl
+    above (pos g) h = leb-zero (g + 1)
     above (negsuc zero) h = refl
-    above (negsuc (suc g)) h = let no : false ≡ true = h in absurd (cc no)
+    above (negsuc (suc g)) h = let le : suc g ≤ 0 = leb-true (suc g) 0 h in absurd (omega (arith, le))
 
 pub made_told : {V A E : Type 0} (holds : V → World → Type 0) (now : V → World → World) (a b c d e : V) (r : Result A E) (parent owner n : ℤ) (ss : Named Slot) (x : Object)
     → AreAgreeing holds now a → ((w : World) → holds a w → IsNext (now a w) (Some n)) → Tells holds now a b (λ w. ss ≡ heir_slots owner (slots_at (object_at w parent)))

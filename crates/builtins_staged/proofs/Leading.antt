@@ -1,5 +1,5 @@
 -- Calls whose checks have passed, and what is left of them.
-use Rattle.std.proofs.Common.{◌≡◌, ℤ, Bool, true, false, not, ◌&&◌, ◌||◌, [], ◌∷◌, Option, Some, None, refl, sym, ap, ◌∙◌, subst, IsTrue, is_some}
+use Rattle.std.proofs.Common.{◌≡◌, ℤ, Bool, true, false, not, ◌&&◌, ◌||◌, [], ◌∷◌, None, refl, sym, ap, ◌∙◌, subst, is_some}
 use Rattle.std.specs.Ordering.{int_eq}
 use Rattle.spec_value.specs.Datum.{permission_denied, invalid_argument, recursive_move}
 use Rattle.spec_world.specs.World.{World, Call, object_at}

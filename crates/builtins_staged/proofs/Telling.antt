@@ -1,5 +1,5 @@
 -- `move`, call by call.
-use Rattle.std.proofs.Common.{◌≡◌, ℤ, Bool, true, false, not, ◌&&◌, ◌||◌, [], ◌∷◌, Option, Some, None, Ok, Err, refl, sym, ap, ◌∙◌, is_some, if◌then◌else◌}
+use Rattle.std.proofs.Common.{◌≡◌, ℤ, Bool, true, false, ◌&&◌, ◌||◌, [], ◌∷◌, Option, Some, None, Ok, Err, sym, ap, ◌∙◌, is_some, if◌then◌else◌}
 use Rattle.std.specs.Prelude.{codes, option_map}
 use Rattle.std.specs.Ordering.{int_eq}
 use Rattle.spec_value.specs.Datum.{Datum, ErrorCode, object, item, no_data, move_refused}
@@ -22,7 +22,7 @@ use Rattle.world.specs.Law.{Goes, Tells}
 use Rattle.reparenting.proofs.Steps.{both_told}
 use Rattle.builtins_objects.specs.Verdict.{verdict, by_verdict}
 use Rattle.builtins_objects.proofs.Chains.{unless_is}
-use Rattle.builtins_staged.specs.Led.{with_call, Leads, begun_or, MayBegin}
+use Rattle.builtins_staged.specs.Led.{with_call, Leads, MayBegin}
 use Rattle.builtins_staged.specs.Moves.{first_checks, later_checks, is_in, MayMove}
 use Rattle.builtins_staged.proofs.Leading.{then_leads, ends_led, told_beside}
 

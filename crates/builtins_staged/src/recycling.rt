@@ -11,7 +11,7 @@ ghost use Rattle.rules.specs.Lines.{AreAgreeing};
 ghost use Rattle.world.specs.Law.{Goes, Lasts, Tells};
 ghost use Rattle.builtins_objects.specs.Verdict.{verdict};
 ghost use Rattle.builtins_staged.specs.Led.{LeadsOver, MayBegin};
-ghost use Rattle.builtins_staged.specs.Recycles.{recycle_checks};
+ghost use Rattle.builtins_staged.specs.Recycles.{recycle_checks, recycle_told};
 
 use crate::calling::begins;
 use crate::objects::one;
@@ -49,6 +49,25 @@ pub fn recycle<V: View>(
     if let Some(error) = refused {
         return Ok(NativeEffect::Answers(Err(error)));
     }
+    let effect = tell(alloc, view, deeds, call, object)?;
+    Ok(effect)
+}
+
+// An object is told that it goes, or goes at once.
+fn tell<V: View>(
+    alloc: Global,
+    view: &mut V,
+    deeds: &mut Deeds,
+    call: &Call,
+    object: i32,
+) -> Result<NativeEffect, AllocError>
+    requires home { V.holds view.old (V.home view.old) }
+    requires well_formed { AreAgreeing V.holds V.now view.old }
+    ensures lasts { Lasts V.holds V.home V.anchor view.old view.new result }
+    ensures left { IfOk result (λ e. Goes V.holds V.now view.old view.new
+        (λ before after. LeadsOver (λ s c. recycle_told s c object) deeds.old before call.now e deeds.new after)) }
+    ensures well_formed { OnOk result (AreAgreeing V.holds V.now view.new) }
+{
     let begun = call_verb(alloc, view, call, object)?;
     if let Some(effect) = begun {
         return Ok(effect);

@@ -1,4 +1,4 @@
-use Rattle.std.proofs.Common.{◌≡◌, ap, ◌∙◌, refl, sym, subst, Some, None, rules, w32, to_z, of_z}
+use Rattle.std.proofs.Common.{◌≡◌, sym, w32}
 use Rattle.std.proofs.lemmas.Int.{to_z-of_z}
 use Rattle.spec_value.specs.Datum.{of_list}
 use Rattle.spec_moo.specs.Calling.{verb_call}

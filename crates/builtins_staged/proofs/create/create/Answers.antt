@@ -1,7 +1,6 @@
-use Rattle.std.proofs.Common.{◌≡◌, ◌||◌, ◌++◌, true, false, is_some, [], ◌∷◌, refl, ap, ◌∙◌, rules, w32, to_z, of_z}
+use Rattle.std.proofs.Common.{◌≡◌, ◌||◌, true, false, is_some, refl, ap, ◌∙◌, rules, w32, to_z, of_z}
 use Rattle.std.specs.Ordering.{int_eq}
 use Rattle.std.proofs.lemmas.Int.{to_z-of_z}
-use Rattle.spec_value.specs.Datum.{object as object_of}
 use Rattle.spec_world.specs.World.{Call, object_at}
 use Rattle.spec_world.specs.Families.{nowhere}
 use Rattle.rules.proofs.Tellings.{known_on}
@@ -13,7 +12,7 @@ use Rattle.builtins_staged.proofs.create.create.Goals as goal
 pub returns-then-not-there-clause-left : goal.returns-then-not-there-clause-left
 returns-then-not-there-clause-left g c =
     let parent = to_z-of_z w32 c.args.parent c.ranges.parent in
-    absent_led g.V.View.holds g.V.View.now c.args.call.now c.args.parent (c.args.call.now).programmer [] c.args.view.now c.is_place.new.view (rw (parent, c.if-not-there.true) at c.in_ok-there.ensures.left)
+    absent_led g.V.View.holds g.V.View.now c.args.call.now c.args.parent c.args.view.now c.is_place.new.view (rw (parent, c.if-not-there.true) at c.in_ok-there.ensures.left)
 
 pub returns-then-not-there-clause-well_formed : goal.returns-then-not-there-clause-well_formed
 returns-then-not-there-clause-well_formed g c =

@@ -1,6 +1,6 @@
-use Rattle.std.proofs.Common.{◌≡◌, ◌&&◌, true, false, Some, None, ap, ◌∙◌, rules, w32, to_z, of_z}
+use Rattle.std.proofs.Common.{◌≡◌, true, false, Some, None, ap, ◌∙◌, rules, w32, to_z, of_z}
 use Rattle.std.proofs.lemmas.Int.{to_z-of_z}
-use Rattle.spec_world.specs.World.{World, Call}
+use Rattle.spec_world.specs.World.{Call}
 use Rattle.spec_world.specs.ObjectLaws.{IsPlace}
 use Rattle.rules.proofs.Tellings.{known_on, stays_known}
 use Rattle.builtins_staged.specs.Children.{IsNext}
@@ -23,7 +23,7 @@ returns-then-not-allowed-clause-well_formed g c =
     let owner = to_z-of_z w32 c.args.owner c.ranges.owner in
     let within : to_z w32 (of_z w32 c.call.inside.programmer) ≡ c.call.inside.programmer = search rules in
     let programmer : to_z w32 (of_z w32 c.call.inside.programmer) ≡ (c.args.call.now).programmer = within ∙ ap (λ (k : Call). k.programmer) c.call.view_is in
-    known_on g.V.View.holds g.V.View.now c.args.view.now c.may_both.new.view (IsAllowed g.V.View.holds g.V.View.now c.args.call.now c.args.parent c.args.owner c.args.arguments.items false) c.requires.well_formed (rw (parent, owner, programmer, c.if-not-allowed.true) at c.in_ok-allowed.ensures.left)
+    known_on g.V.View.holds g.V.View.now c.args.view.now c.may_both.new.view (IsAllowed c.args.call.now c.args.parent c.args.owner false) c.requires.well_formed (rw (parent, owner, programmer, c.if-not-allowed.true) at c.in_ok-allowed.ensures.left)
 
 pub returns-in_default-clause-left : goal.returns-in_default-clause-left
 returns-in_default-clause-left g c =
@@ -41,7 +41,7 @@ returns-in_default-clause-well_formed g c =
     let within : to_z w32 (of_z w32 c.call.inside.programmer) ≡ c.call.inside.programmer = search rules in
     let programmer : to_z w32 (of_z w32 c.call.inside.programmer) ≡ (c.args.call.now).programmer = within ∙ ap (λ (k : Call). k.programmer) c.call.view_is in
     known_on g.V.View.holds g.V.View.now c.may_both.new.view c.next_number.new.view (λ w. IsNext w None)
-    (known_on g.V.View.holds g.V.View.now c.args.view.now c.may_both.new.view (IsAllowed g.V.View.holds g.V.View.now c.args.call.now c.args.parent c.args.owner c.args.arguments.items true) c.requires.well_formed (rw (parent, owner, programmer, c.if-not-allowed.false) at c.in_ok-allowed.ensures.left))
+    (known_on g.V.View.holds g.V.View.now c.args.view.now c.may_both.new.view (IsAllowed c.args.call.now c.args.parent c.args.owner true) c.requires.well_formed (rw (parent, owner, programmer, c.if-not-allowed.false) at c.in_ok-allowed.ensures.left))
     (rw c.in_default.is at c.in_ok-number.ensures.left)
 
 pub create_under-requires-clause-well_formed : goal.create_under-requires-clause-well_formed
@@ -51,7 +51,7 @@ create_under-requires-clause-well_formed g c =
     let within : to_z w32 (of_z w32 c.call.inside.programmer) ≡ c.call.inside.programmer = search rules in
     let programmer : to_z w32 (of_z w32 c.call.inside.programmer) ≡ (c.args.call.now).programmer = within ∙ ap (λ (k : Call). k.programmer) c.call.view_is in
     known_on g.V.View.holds g.V.View.now c.may_both.new.view c.next_number.new.view (λ w. IsNext w (Some c.in-Some.number))
-    (known_on g.V.View.holds g.V.View.now c.args.view.now c.may_both.new.view (IsAllowed g.V.View.holds g.V.View.now c.args.call.now c.args.parent c.args.owner c.args.arguments.items true) c.requires.well_formed (rw (parent, owner, programmer, c.if-not-allowed.false) at c.in_ok-allowed.ensures.left))
+    (known_on g.V.View.holds g.V.View.now c.args.view.now c.may_both.new.view (IsAllowed c.args.call.now c.args.parent c.args.owner true) c.requires.well_formed (rw (parent, owner, programmer, c.if-not-allowed.false) at c.in_ok-allowed.ensures.left))
     (rw c.in-Some.is at c.in_ok-number.ensures.left)
 
 pub create_under-requires-clause-place : goal.create_under-requires-clause-place
@@ -61,7 +61,7 @@ create_under-requires-clause-place g c =
     let within : to_z w32 (of_z w32 c.call.inside.programmer) ≡ c.call.inside.programmer = search rules in
     let programmer : to_z w32 (of_z w32 c.call.inside.programmer) ≡ (c.args.call.now).programmer = within ∙ ap (λ (k : Call). k.programmer) c.call.view_is in
     rw parent (stays_known g.V.View.holds g.V.View.now (λ w. IsPlace w c.args.parent) c.may_both.new.view c.next_number.new.view (λ w. IsNext w (Some c.in-Some.number))
-    (stays_known g.V.View.holds g.V.View.now (λ w. IsPlace w c.args.parent) c.args.view.now c.may_both.new.view (IsAllowed g.V.View.holds g.V.View.now c.args.call.now c.args.parent c.args.owner c.args.arguments.items true) (rw parent at c.requires.place) (rw (parent, owner, programmer, c.if-not-allowed.false) at c.in_ok-allowed.ensures.left))
+    (stays_known g.V.View.holds g.V.View.now (λ w. IsPlace w c.args.parent) c.args.view.now c.may_both.new.view (IsAllowed c.args.call.now c.args.parent c.args.owner true) c.requires.place (rw (parent, owner, programmer, c.if-not-allowed.false) at c.in_ok-allowed.ensures.left))
     (rw c.in-Some.is at c.in_ok-number.ensures.left))
 
 pub create_under-requires-clause-next : goal.create_under-requires-clause-next

@@ -1,7 +1,6 @@
-use Rattle.std.proofs.Common.{◌≡◌, ◌||◌, ◌&&◌, ◌++◌, true, false, is_some, [], ◌∷◌, refl, ap, ◌∙◌, w32}
+use Rattle.std.proofs.Common.{◌≡◌, ◌||◌, ◌&&◌, true, false, is_some, w32}
 use Rattle.std.specs.Ordering.{int_eq}
 use Rattle.std.proofs.lemmas.Int.{to_z-of_z}
-use Rattle.spec_value.specs.Datum.{object as object_of}
 use Rattle.spec_world.specs.World.{object_at}
 use Rattle.spec_world.specs.Families.{nowhere}
 use Rattle.spec_value.proofs.Entries.{first_holds}
@@ -15,7 +14,7 @@ pub returns-then-not-there-clause-left : goal.returns-then-not-there-clause-left
 returns-then-not-there-clause-left g c =
     let parent = to_z-of_z w32 c.args.parent c.ranges.parent in
     let owner = to_z-of_z w32 c.args.owner c.ranges.owner in
-    none_led g.V.View.holds g.V.View.now c.args.call.now c.args.parent c.args.owner [] c.args.view.now c.is_place_and_there.new.view (rw (parent, owner, c.if-not-there.true) at c.in_ok-there.ensures.left)
+    none_led g.V.View.holds g.V.View.now c.args.call.now c.args.parent c.args.owner c.args.view.now c.is_place_and_there.new.view (rw (parent, owner, c.if-not-there.true) at c.in_ok-there.ensures.left)
 
 pub returns-then-not-there-clause-well_formed : goal.returns-then-not-there-clause-well_formed
 returns-then-not-there-clause-well_formed g c =

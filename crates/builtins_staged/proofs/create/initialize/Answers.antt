@@ -1,4 +1,4 @@
-use Rattle.std.proofs.Common.{◌≡◌, [], ◌∷◌, ◌++◌, ap, ◌∙◌, pos, w32}
+use Rattle.std.proofs.Common.{[], ◌∷◌, ◌++◌, ap, ◌∙◌, w32}
 use Rattle.std.proofs.lemmas.Int.{to_z-of_z}
 use Rattle.spec_value.specs.Datum.{object as object_of}
 use Rattle.spec_world.specs.World.{create_native}
@@ -9,13 +9,13 @@ use Rattle.builtins_staged.proofs.create.initialize.Goals as goal
 pub returns-in-Some-clause-left : goal.returns-in-Some-clause-left
 returns-in-Some-clause-left g c =
     let number = to_z-of_z w32 c.args.number c.ranges.number in
-    verb_led g.V.View.holds g.V.View.now c.args.call.now (pos 0) (pos 0) c.args.arguments.items c.args.view.now c.begins.new.view c.args.number (stage create_native c.push.new.self.items) c.in-Some.effect
+    verb_led g.V.View.holds g.V.View.now c.args.call.now c.args.arguments.items c.args.view.now c.begins.new.view c.args.number (stage create_native c.push.new.self.items) c.in-Some.effect
     (ap (stage create_native) (c.in_ok-push.ensures.items ∙ ap (λ v. c.args.arguments.items ++ v ∷ []) (c.object.ensures ∙ ap object_of number)))
     (rw (number, c.in_ok-word.ensures, c.new.ensures.items, c.in-Some.is) at c.in_ok-begun.ensures.left)
 
 pub returns-in-None-clause-left : goal.returns-in-None-clause-left
 returns-in-None-clause-left g c =
     let number = to_z-of_z w32 c.args.number c.ranges.number in
-    no_verb_led g.V.View.holds g.V.View.now c.args.call.now (pos 0) (pos 0) c.args.arguments.items c.args.view.now c.begins.new.view c.args.number (stage create_native c.push.new.self.items) c.object-in-None.result
+    no_verb_led g.V.View.holds g.V.View.now c.args.call.now c.args.arguments.items c.args.view.now c.begins.new.view c.args.number (stage create_native c.push.new.self.items) c.object-in-None.result
     (ap (stage create_native) (c.in_ok-push.ensures.items ∙ ap (λ v. c.args.arguments.items ++ v ∷ []) (c.object.ensures ∙ ap object_of number))) (c.object-in-None.ensures ∙ ap object_of number)
     (rw (number, c.in_ok-word.ensures, c.new.ensures.items, c.in-None.is) at c.in_ok-begun.ensures.left)

@@ -14,7 +14,7 @@ pub move_now-requires-clause-may_move : goal.move_now-requires-clause-may_move
 move_now-requires-clause-may_move g c =
     let what = to_z-of_z w32 c.args.what c.ranges.what in
     let place = to_z-of_z w32 c.args.place c.ranges.place in
-    rw (what, place) (stays_known g.V.View.holds g.V.View.now (λ w. MayMove w c.args.what c.args.place) c.args.view.now c.is_there.new.view (There g.V.View.holds g.V.View.now c.args.call.now c.args.what c.args.place false) (rw (what, place) at c.requires.may_move) (rw (place, c.if-not-there.true) at c.in_ok-there.ensures.left))
+    rw (what, place) (stays_known g.V.View.holds g.V.View.now (λ w. MayMove w c.args.what c.args.place) c.args.view.now c.is_there.new.view (There g.V.View.holds g.V.View.now c.args.call.now c.args.what c.args.place false) c.requires.may_move (rw (place, c.if-not-there.true) at c.in_ok-there.ensures.left))
 
 pub returns-then-not-there-clause-left : goal.returns-then-not-there-clause-left
 returns-then-not-there-clause-left g c =

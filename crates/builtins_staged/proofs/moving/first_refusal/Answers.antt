@@ -1,4 +1,4 @@
-use Rattle.std.proofs.Common.{◌≡◌, true, false, w32}
+use Rattle.std.proofs.Common.{◌≡◌, true, w32}
 use Rattle.std.proofs.lemmas.Int.{to_z-of_z}
 use Rattle.rules.proofs.Tellings.{known_on}
 use Rattle.builtins_staged.proofs.Refusing.{are_there, allowed, first_absent, first_denied, first_inside, first_right}
@@ -23,8 +23,8 @@ is_inside-requires-clause-well_formed g c =
     let what = to_z-of_z w32 c.args.what c.ranges.what in
     let place = to_z-of_z w32 c.args.place c.ranges.place in
     let programmer = to_z-of_z w32 c.args.programmer c.ranges.programmer in
-    known_on g.V.View.holds g.V.View.now c.are_there.new.view c.may.new.view (λ w. allowed g.V.View.holds g.V.View.now c.args.programmer c.args.what c.args.place w ≡ true)
-    (known_on g.V.View.holds g.V.View.now c.args.view.now c.are_there.new.view (λ w. are_there g.V.View.holds g.V.View.now c.args.programmer c.args.what c.args.place w ≡ true) c.requires.well_formed
+    known_on g.V.View.holds g.V.View.now c.are_there.new.view c.may.new.view (λ w. allowed c.args.programmer c.args.what w ≡ true)
+    (known_on g.V.View.holds g.V.View.now c.args.view.now c.are_there.new.view (λ w. are_there c.args.what c.args.place w ≡ true) c.requires.well_formed
     (rw (what, place, c.if-not-there.false) at c.in_ok-there.ensures.left))
     (rw (what, programmer, c.if-not-allowed.false) at c.in_ok-allowed.ensures.left)
 

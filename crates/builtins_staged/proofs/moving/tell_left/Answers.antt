@@ -1,4 +1,4 @@
-use Rattle.std.proofs.Common.{◌≡◌, [], ◌∷◌, Some, None, rules, w32}
+use Rattle.std.proofs.Common.{◌≡◌, [], ◌∷◌, None, rules, w32}
 use Rattle.std.proofs.lemmas.Int.{to_z-of_z}
 use Rattle.spec_value.specs.Datum.{object}
 use Rattle.rules.proofs.Tellings.{known_on}

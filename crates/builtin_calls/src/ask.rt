@@ -7,7 +7,7 @@ ghost use Rattle.builtins_world.specs.Said.{Says};
 ghost use Rattle.builtin_requests.specs.Requests.{asking_of, said_of};
 
 use builtin_requests::asking::Asking;
-use builtin_requests::missing::missing;
+use builtins_code::reading::verb_code;
 use builtins_links::players::connected_players;
 use builtins_players::listing::players;
 use builtins_queue::listing::queued_tasks;
@@ -51,7 +51,7 @@ pub fn ask<V: View>(
         Asking::VerbArgs(object, which) => {
             Ok(verb_args(alloc, view, programmer, object, &which)?)
         }
-        Asking::VerbCode(_, _) => missing(),
+        Asking::VerbCode(object, which) => Ok(verb_code(alloc, view, programmer, object, &which)?),
         Asking::QueuedTasks => Ok(queued_tasks(alloc, view, programmer)?),
         Asking::ConnectedPlayers => Ok(connected_players(alloc, view)?),
     }

@@ -7,9 +7,9 @@ ghost use Rattle.builtins_world.specs.Said.{Does};
 ghost use Rattle.builtin_requests.specs.Requests.{changing_of, said_of};
 
 use builtin_requests::changing::Changing;
-use builtin_requests::missing::missing;
 use builtins_change::properties::set_property_info;
 use builtins_change::verbs::{add_verb, delete_verb, set_verb_args, set_verb_info};
+use builtins_code::programming::set_verb_code;
 use builtins_family::adding::add_property;
 use builtins_family::deleting::delete_property;
 use builtins_objects::chparent::chparent;
@@ -61,7 +61,10 @@ pub fn change<V: View>(
         Changing::DeleteVerb(object, which) => {
             Ok(delete_verb(alloc, view, programmer, object, &which)?)
         }
-        Changing::SetVerbCode(_, _, _) => missing(),
+        Changing::SetVerbCode(object, which, lines) => {
+            let given = lines.as_slice();
+            Ok(set_verb_code(alloc, view, programmer, object, &which, given)?)
+        },
         Changing::Shutdown => Ok(shutdown(view, programmer)?),
     }
 }

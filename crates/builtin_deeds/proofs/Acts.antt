@@ -17,6 +17,7 @@ use Rattle.moo_task.specs.declared.running.Running.{Running}
 use Rattle.world.specs.Law.{Goes, Tells}
 use Rattle.builtins_world.specs.Said.{Does, Says, with_programmer}
 use Rattle.builtins_links.specs.Acting.{with_player}
+use Rattle.builtins_staged.specs.Led.{Leads, LeadsOver}
 use Rattle.builtin_requests.specs.Requests.{own_of, said_of}
 use Rattle.builtin_requests.specs.declared.own.Own.{Own}
 use Rattle.builtin_deeds.specs.Acting.{scene_for, caller_for, ActsFor}
@@ -80,3 +81,28 @@ module _ {V : Type 0} (holds : V → World → Type 0) (now : V → World → Wo
   pub same_acts : (row rule : Act) (d e : Deeds) (x : NativeEffect) → ((s : Scene) (c : N.Caller) → row s c ≡ rule s c)
       → Goes holds now old new (λ before after. ActsFor rule r d before x e after) → Goes holds now old new (λ before after. ActsFor row r d before x e after)
   same_acts row rule d e x same goes w left = let g = goes w left in (g.0, same (scene_for d (now old w) r) (caller_for r) ∙ g.1)
+
+  -- by the call of the verb that runs
+  pub leads_acts : (row : Act) (d : Deeds) (x : NativeEffect) → Goes holds now old new (λ before after. Leads row before after r.frame.call x)
+      → Goes holds now old new (λ before after. ActsFor row r d before x d after)
+  leads_acts row d x goes w left = let g = goes w left in (g.0, g.1 (scene_for d (now old w) r) (caller_for r))
+
+  pub leads_over_acts : (row : Act) (d e : Deeds) (x : NativeEffect) → Goes holds now old new (λ before after. LeadsOver row d before r.frame.call x e after)
+      → Goes holds now old new (λ before after. ActsFor row r d before x e after)
+  leads_over_acts row d e x goes w left = let g = goes w left in (g.0, g.1 (ticks_of r) (caller_for r))
+
+  pub told_acts : (row : Act) (d : Deeds) (x : NativeEffect) → Tells holds now old new (λ w. Leads row w w r.frame.call x)
+      → Goes holds now old new (λ before after. ActsFor row r d before x d after)
+  told_acts row d x told w left =
+      let g = told w left in (g.0, subst (λ u. ActsFor row r d (now old w) x d u) (sym g.1.0) (g.1.1 (scene_for d (now old w) r) (caller_for r)))
+
+  -- of the scene alone, where nothing changes
+  pub stays_acts : (row : Scene → N.NativeEffect) (d : Deeds) (x : NativeEffect) → ((s : Scene) → row s ≡ effect_of x s)
+      → Goes holds now old old (λ before after. ActsFor (λ s c. row s) r d before x d after)
+  stays_acts row d x said w left = (left, said (scene_for d (now old w) r))
+
+  -- of the step alone
+  pub step_acts : (row : Scene → N.NativeEffect) (d e : Deeds) (x : NativeEffect)
+      → Goes holds now old new (λ before after. (t : ℕ) → row (scene_of d before t) ≡ effect_of x (scene_of e after t))
+      → Goes holds now old new (λ before after. ActsFor (λ s c. row s) r d before x e after)
+  step_acts row d e x goes w left = let g = goes w left in (g.0, g.1 (ticks_of r))

@@ -6,7 +6,10 @@ ghost use Rattle.builtin_requests.specs.Requests.{calling_of, said_of};
 ghost use Rattle.builtin_deeds.specs.Acting.{ActsFor};
 
 use builtin_requests::calling::Calling;
-use builtin_requests::missing::missing;
+use builtins_code::evaluating::eval;
+use builtins_staged::create::{create, create_for};
+use builtins_staged::moving::move_object;
+use builtins_staged::recycling::recycle;
 use moo_task::deeds::Deeds;
 use moo_task::effect::NativeEffect;
 use moo_task::running::Running;
@@ -29,10 +32,16 @@ pub fn call_verb<V: View>(
     ensures well_formed { OnOk result (AreAgreeing V.holds V.now view.new) }
 {
     match calling {
-        Calling::Create(_) => missing(),
-        Calling::CreateFor(_, _) => missing(),
-        Calling::Recycle(_) => missing(),
-        Calling::Move(_, _) => missing(),
-        Calling::Eval(_) => missing(),
+        Calling::Create(parent) => Ok(create(alloc, view, &task.frame.call, parent)?),
+        Calling::CreateFor(parent, owner) => Ok(create_for(
+            alloc,
+            view,
+            &task.frame.call,
+            parent,
+            owner,
+        )?),
+        Calling::Recycle(object) => Ok(recycle(alloc, view, deeds, &task.frame.call, object)?),
+        Calling::Move(what, place) => Ok(move_object(alloc, view, &task.frame.call, what, place)?),
+        Calling::Eval(text) => Ok(eval(alloc, view, &task.frame.call, &text)?),
     }
 }

@@ -6,7 +6,9 @@ ghost use Rattle.builtin_deeds.specs.Acting.{ActsFor};
 ghost use Rattle.builtin_deeds.specs.Stages.{stage_does};
 
 use crate::stages::Stage;
-use builtin_requests::missing::missing;
+use builtins_code::evaluating::eval_stage;
+use builtins_staged::moving::{accepted, told_to_enter};
+use builtins_staged::recycling::let_go;
 use moo_task::deeds::Deeds;
 use moo_task::effect::NativeEffect;
 use moo_task::running::Running;
@@ -31,11 +33,21 @@ pub fn go_on<V: View>(
     ensures well_formed { OnOk result (AreAgreeing V.holds V.now view.new) }
 {
     match stage {
-        Stage::Evaluated => missing(),
+        Stage::Evaluated => Ok(NativeEffect::Answers(eval_stage(alloc, value)?)),
         Stage::Created(object) => Ok(NativeEffect::Answers(Ok(object))),
-        Stage::Recycled(_) => missing(),
-        Stage::Asked(_, _) => missing(),
-        Stage::Left(_, _, _) => missing(),
+        Stage::Recycled(object) => Ok(let_go(alloc, view, deeds, object)?),
+        Stage::Asked(what, place) => {
+            let let_in = value.is_true();
+            Ok(accepted(alloc, view, &task.frame.call, what, place, let_in)?)
+        },
+        Stage::Left(what, place, before) => Ok(told_to_enter(
+            alloc,
+            view,
+            &task.frame.call,
+            what,
+            place,
+            before,
+        )?),
         Stage::Ended => Ok(NativeEffect::Answers(Ok(Value::integer(0)))),
     }
 }

@@ -1,5 +1,5 @@
 pub mod Dues
 pub mod Logins
-pub mod Numbered
+pub mod Resuming
 pub mod Steps
 pub mod Typed

@@ -13,12 +13,17 @@ pub parse-requires-clause-well_formed : goal.parse-requires-clause-well_formed
 parse-requires-clause-well_formed g c w h = agreeing_stands (g.V.View.now c.args.view.now w) (c.requires.ready w h 0).agrees.world
 
 pub run_command-requires-clause-ready : goal.run_command-requires-clause-ready
-run_command-requires-clause-ready g c = ready_told g.V.View.holds g.V.View.now c.args.view.now c.parse.new.view _ c.args.deeds c.requires.ready c.in_ok-command.ensures.left
+run_command-requires-clause-ready g c =
+    let person : to_z w32 (of_z w32 c.link.inside.person) ≡ c.args.link.now.person = search rules in
+    ready_told g.V.View.holds g.V.View.now c.args.view.now c.parse.new.view (λ w. command_said w c.args.link.now.person c.args.text.now ≡ command_of c.in_ok-command.command) c.args.deeds c.requires.ready
+    (rw (person, c.as_str.ensures) at c.in_ok-command.ensures.left)
 
 pub run_command-requires-clause-link : goal.run_command-requires-clause-link
 run_command-requires-clause-link g c =
-    rw (to_z-of_z w32 c.args.connection c.ranges.connection) (still g.V.View.holds g.V.View.now c.args.view.now c.parse.new.view _ (λ w. at w.links c.args.connection ≡ Some c.args.link.now) c.requires.link
-    c.in_ok-command.ensures.left)
+    let person : to_z w32 (of_z w32 c.link.inside.person) ≡ c.args.link.now.person = search rules in
+    rw (to_z-of_z w32 c.args.connection c.ranges.connection) (still g.V.View.holds g.V.View.now c.args.view.now c.parse.new.view
+    (λ w. command_said w c.args.link.now.person c.args.text.now ≡ command_of c.in_ok-command.command) (λ w. at w.links c.args.connection ≡ Some c.args.link.now) c.requires.link
+    (rw (person, c.as_str.ensures) at c.in_ok-command.ensures.left))
 
 pub returns-clause-played : goal.returns-clause-played
 returns-clause-played g c =

@@ -14,7 +14,9 @@ use Rattle.step_tasks.proofs.Playing.{plays_then, ready_told}
 use Rattle.step_events.proofs.commands.run_huh.Goals as goal
 
 pub play_task-requires-clause-ready : goal.play_task-requires-clause-ready
-play_task-requires-clause-ready g c = ready_told g.V.View.holds g.V.View.now c.args.view.now c.location.new.view _ c.args.deeds c.requires.ready c.in_ok-room.ensures.left
+play_task-requires-clause-ready g c =
+    ready_told g.V.View.holds g.V.View.now c.args.view.now c.location.new.view (λ w. location_of (object_at w c.args.player) ≡ c.in_ok-room.room) c.args.deeds c.requires.ready
+    (rw (to_z-of_z w32 c.args.player c.ranges.player) at c.in_ok-room.ensures.left)
 
 pub play_task-requires-clause-runs : goal.play_task-requires-clause-runs
 play_task-requires-clause-runs g c =

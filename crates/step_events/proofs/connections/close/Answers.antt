@@ -17,7 +17,7 @@ gone-requires-clause-ready g c =
     let connection = to_z-of_z w32 c.args.connection c.ranges.connection in
     ready_changed view.holds view.now c.read_link.new.view c.close_link.new.view (λ w. close_link w c.args.connection) c.args.deeds c.args.deeds
     (ready_told view.holds view.now c.args.view.now c.read_link.new.view (λ w. at w.links c.args.connection ≡ c.in_ok-link.link) c.args.deeds c.requires.ready (rw connection at c.in_ok-link.ensures.left))
-    (rw connection at c.in_ok-close_link.ensures.left) (λ w t h r. links_close (scene_of c.args.deeds (view.now c.read_link.new.view w) t) c.args.connection r)
+    (rw connection at c.in_ok-close_link-in-Some.ensures.left) (λ w t h r. links_close (scene_of c.args.deeds (view.now c.read_link.new.view w) t) c.args.connection r)
 
 pub returns-in_ok-outcome-in-Some-clause-played : goal.returns-in_ok-outcome-in-Some-clause-played
 returns-in_ok-outcome-in-Some-clause-played g c s opening =
@@ -25,11 +25,11 @@ returns-in_ok-outcome-in-Some-clause-played g c s opening =
     let connection = to_z-of_z w32 c.args.connection c.ranges.connection in
     let person : to_z w32 (of_z w32 c.link.inside.person) ≡ c.in-Some.link.person = search rules in
     plays_then view.holds view.now c.args.view.now c.read_link.new.view c.gone.new.view (λ w. at w.links c.args.connection ≡ Some c.in-Some.link)
-    (λ w. closed_link s w c.args.connection (at w.links c.args.connection)) (λ w. closed_link s w c.args.connection (Some c.in-Some.link)) c.in_ok-outcome.outcome
+    (λ w. closed_link s w c.args.connection (at w.links c.args.connection)) (λ w. closed_link s w c.args.connection (Some c.in-Some.link)) c.in_ok-outcome-in-Some.outcome
     (rw (connection, c.in-Some.is) at c.in_ok-link.ensures.left)
     (plays_changed view.holds view.now c.read_link.new.view c.close_link.new.view c.gone.new.view (λ w. close_link w c.args.connection)
-    (λ w. closed_link s w c.args.connection (Some c.in-Some.link)) (λ w. gone (scene_of c.args.deeds w foreground_ticks) c.args.connection c.in-Some.link.person) c.in_ok-outcome.outcome
-    (rw connection at c.in_ok-close_link.ensures.left) (rw (connection, person) at c.in_ok-outcome.ensures.played)
+    (λ w. closed_link s w c.args.connection (Some c.in-Some.link)) (λ w. gone (scene_of c.args.deeds w foreground_ticks) c.args.connection c.in-Some.link.person) c.in_ok-outcome-in-Some.outcome
+    (rw connection at c.in_ok-close_link-in-Some.ensures.left) (rw (connection, person) at c.in_ok-outcome-in-Some.ensures.played)
     (λ w. ap (λ (u : Scene). gone u c.args.connection c.in-Some.link.person) (opening (close_link w c.args.connection) foreground_ticks)))
     (λ w is. ap (closed_link s w c.args.connection) is)
 

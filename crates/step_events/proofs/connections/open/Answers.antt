@@ -27,5 +27,5 @@ pub returns-in_ok-outcome-in-None-clause-played : goal.returns-in_ok-outcome-in-
 returns-in_ok-outcome-in-None-clause-played g c s opening =
     let connection = to_z-of_z w32 c.args.connection c.ranges.connection in
     plays_then g.V.View.holds g.V.View.now c.args.view.now c.read_link.new.view c.open_new.new.view (λ w. at w.links c.args.connection ≡ None)
-    (λ w. opened_link s w c.args.connection (at w.links c.args.connection)) (λ w. opened_link s w c.args.connection None) c.in_ok-outcome.outcome
-    (rw (connection, c.in-None.is) at c.in_ok-link.ensures.left) ((rw connection at c.in_ok-outcome.ensures.played) s opening) (λ w is. ap (opened_link s w c.args.connection) is)
+    (λ w. opened_link s w c.args.connection (at w.links c.args.connection)) (λ w. opened_link s w c.args.connection None) c.in_ok-outcome-in-None.outcome
+    (rw (connection, c.in-None.is) at c.in_ok-link.ensures.left) ((rw connection at c.in_ok-outcome-in-None.ensures.played) s opening) (λ w is. ap (opened_link s w c.args.connection) is)

@@ -22,15 +22,15 @@ play_task-requires-clause-ready g c =
     c.in_ok-found.ensures.left
 
 pub play_task-requires-clause-runs : goal.play_task-requires-clause-runs
-play_task-requires-clause-runs g c = (system_task c.args.player (codes "user_disconnected") [] (item (object c.args.player) no_data) c.in-Some.found, rw (to_z-of_z w32 c.args.player c.ranges.player) at c.in_ok-task.ensures.runs)
+play_task-requires-clause-runs g c = (system_task c.args.player (codes "user_disconnected") [] (item (object c.args.player) no_data) c.in-Some.found, rw (to_z-of_z w32 c.args.player c.ranges.player) at c.in_ok-task-in-Some.ensures.runs)
 
 pub returns-in_ok-outcome-in-Some-clause-played : goal.returns-in_ok-outcome-in-Some-clause-played
 returns-in_ok-outcome-in-Some-clause-played g c =
     let view = g.V.View in
     let player = to_z-of_z w32 c.args.player c.ranges.player in
     let p = system_task c.args.player (codes "user_disconnected") [] (item (object c.args.player) no_data) c.in-Some.found in
-    let rest = c.in_ok-outcome-in-Some.ensures.played p (rw player at c.in_ok-task.ensures.runs) in
-    let ran : Goes view.holds view.now c.on_system.new.view c.play_task.new.view (λ before after. StepsTo (came_to (run (scene_of c.args.deeds before foreground_ticks) p)) after c.in_ok-outcome-in-Some.outcome) = rw c.in_ok-task.ensures.ticks at rest in
+    let rest = c.in_ok-outcome-in-Some.ensures.played p (rw player at c.in_ok-task-in-Some.ensures.runs) in
+    let ran : Goes view.holds view.now c.on_system.new.view c.play_task.new.view (λ before after. StepsTo (came_to (run (scene_of c.args.deeds before foreground_ticks) p)) after c.in_ok-outcome-in-Some.outcome) = rw c.in_ok-task-in-Some.ensures.ticks at rest in
     plays_then view.holds view.now c.args.view.now c.on_system.new.view c.play_task.new.view (λ w. find_verb w system (codes "user_disconnected") ≡ Some c.in-Some.found)
     (λ w. told_gone (scene_of c.args.deeds w foreground_ticks) c.args.player (find_verb w system (codes "user_disconnected")))
     (λ w. came_to (run (scene_of c.args.deeds w foreground_ticks) p)) c.in_ok-outcome-in-Some.outcome (rw c.in-Some.is at c.in_ok-found.ensures.left) ran

@@ -1,10 +1,12 @@
-use Rattle.std.proofs.Common.{◌≡◌, ◌∙◌, Some, None, ap, sym, w32}
+use Rattle.std.proofs.Common.{◌≡◌, ◌∙◌, ℤ, Some, None, ap, sym, subst, w32}
 use Rattle.std.proofs.lemmas.Int.{to_z-of_z}
 use Rattle.spec_value.specs.Table.{at}
 use Rattle.spec_step.specs.Outcome.{Outcome}
 use Rattle.spec_moo.specs.Scene.{Scene}
 use Rattle.spec_moo.specs.Steps.Events.{line_on, line_taken, foreground_ticks}
 use Rattle.moo_task.specs.Deeds.{scene_of}
+use Rattle.world.specs.Law.{Goes}
+use Rattle.step_tasks.specs.Performed.{StepsTo}
 use Rattle.step_tasks.proofs.Playing.{plays_told, plays_then, ready_told, told_still}
 use Rattle.step_events.proofs.lines.line.Goals as goal
 
@@ -21,10 +23,17 @@ take_line-requires-clause-link g c =
 pub returns-in_ok-outcome-in-Some-clause-played : goal.returns-in_ok-outcome-in-Some-clause-played
 returns-in_ok-outcome-in-Some-clause-played g c s opening =
     let connection = to_z-of_z w32 c.args.connection c.ranges.connection in
+    let k = c.in-Some.link in
+    let taken : Goes g.V.View.holds g.V.View.now c.read_link.new.view c.take_line.new.view
+    (λ before after. StepsTo (line_taken (scene_of c.args.deeds before foreground_ticks) c.args.connection k c.args.text.now k.programming) after c.in_ok-outcome-in-Some.outcome) =
+    subst
+    (λ (n : ℤ). Goes g.V.View.holds g.V.View.now c.read_link.new.view c.take_line.new.view
+    (λ before after. StepsTo (line_taken (scene_of c.args.deeds before foreground_ticks) n k c.args.text.now k.programming) after c.in_ok-outcome-in-Some.outcome))
+    connection c.in_ok-outcome-in-Some.ensures.played in
     plays_then g.V.View.holds g.V.View.now c.args.view.now c.read_link.new.view c.take_line.new.view (λ w. at w.links c.args.connection ≡ Some c.in-Some.link)
     (λ w. line_on s w c.args.connection c.args.text.now (at w.links c.args.connection))
-    (λ w. line_taken (scene_of c.args.deeds w foreground_ticks) c.args.connection c.in-Some.link c.args.text.now c.in-Some.link.programming) c.in_ok-outcome.outcome
-    (rw (connection, c.in-Some.is) at c.in_ok-link.ensures.left) (rw connection at c.in_ok-outcome.ensures.played)
+    (λ w. line_taken (scene_of c.args.deeds w foreground_ticks) c.args.connection c.in-Some.link c.args.text.now c.in-Some.link.programming) c.in_ok-outcome-in-Some.outcome
+    (rw (connection, c.in-Some.is) at c.in_ok-link.ensures.left) taken
     (λ w is. ap (line_on s w c.args.connection c.args.text.now) is
     ∙ ap (λ (u : Scene). line_taken u c.args.connection c.in-Some.link c.args.text.now c.in-Some.link.programming) (opening w foreground_ticks))
 

@@ -20,8 +20,8 @@ pub returns-in_ok-outcome-in-Some-clause-played : goal.returns-in_ok-outcome-in-
 returns-in_ok-outcome-in-Some-clause-played g c s opening =
     let id = to_z-of_z w32 c.args.id c.ranges.id in
     plays_then g.V.View.holds g.V.View.now c.args.view.now c.read_task.new.view c.ready_run.new.view (λ w. at w.tasks c.args.id ≡ Some c.in-Some.task)
-    (λ w. ready_at s w c.args.id (at w.tasks c.args.id)) (λ w. ready_run s w c.args.id c.in-Some.task (is_due s.moment c.in-Some.task.waiting)) c.in_ok-outcome.outcome
-    (rw (id, c.in-Some.is) at c.in_ok-task.ensures.left) ((rw id at c.in_ok-outcome.ensures.played) s opening) (λ w is. ap (ready_at s w c.args.id) is)
+    (λ w. ready_at s w c.args.id (at w.tasks c.args.id)) (λ w. ready_run s w c.args.id c.in-Some.task (is_due s.moment c.in-Some.task.waiting)) c.in_ok-outcome-in-Some.outcome
+    (rw (id, c.in-Some.is) at c.in_ok-task.ensures.left) ((rw id at c.in_ok-outcome-in-Some.ensures.played) s opening) (λ w is. ap (ready_at s w c.args.id) is)
 
 pub returns-in-None-clause-played : goal.returns-in-None-clause-played
 returns-in-None-clause-played g c s opening =

@@ -1,5 +1,5 @@
 -- A step: the next number is raised, and a world that is ending runs nothing.
-use Rattle.std.proofs.Common.{◌≡◌, ◌∙◌, ap, sym, refl, subst, ℕ, suc, ◌+◌, ◌≤◌, Bool, true, false, IsTrue, if◌then◌else◌, arith}
+use Rattle.std.proofs.Common.{◌≡◌, ◌∙◌, ap, sym, subst, ℕ, suc, ◌+◌, ◌≤◌, Bool, true, false, IsTrue, if◌then◌else◌, arith}
 use Rattle.std.specs.Prelude.{max, min}
 use Rattle.spec_world.specs.World.{World}
 use Rattle.spec_world.specs.WellFormed.{IsWellFormed}
@@ -7,9 +7,8 @@ use Rattle.spec_view.specs.Questions.{new_next, apply}
 use Rattle.spec_step.specs.Step.{Step, in_range}
 use Rattle.spec_step.specs.Outcome.{Outcome, ended}
 use Rattle.spec_moo.specs.Steps.{numbered, play1}
-use Rattle.spec_moo.specs.Steps.Outcomes.{opening_scene, idle_with}
+use Rattle.spec_moo.specs.Steps.Outcomes.{idle_with}
 use Rattle.spec_moo.specs.Steps.Events.{event, event_of}
-use Rattle.spec_moo.specs.Scene.{Scene}
 use Rattle.spec_holding.proofs.WholeWorlds.{stays_whole_once}
 use Rattle.spec_ready.specs.Ready.{IsReady}
 use Rattle.spec_ready.proofs.Readiness.{opens_ready}

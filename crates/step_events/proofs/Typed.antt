@@ -1,5 +1,5 @@
 -- The words of a line, by its parts.
-use Rattle.std.proofs.Common.{◌≡◌, ◌∙◌, ap, sym, refl, ℕ, List, [], ◌∷◌, Option, Some, None}
+use Rattle.std.proofs.Common.{◌≡◌, ◌∙◌, ap, sym, refl, List, [], ◌∷◌, Option, Some, None}
 use Rattle.spec_value.specs.Datum.{Text}
 use Rattle.spec_world.specs.CommandLines.{Parts, parts_at, parts_of_words, line_parts}
 use Rattle.spec_world.specs.Prepositions.{Preposition, find_preposition}

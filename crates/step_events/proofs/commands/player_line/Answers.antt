@@ -1,4 +1,4 @@
-use Rattle.std.proofs.Common.{◌≡◌, ◌∙◌, Some, ap, to_z, of_z, w32, rules}
+use Rattle.std.proofs.Common.{◌≡◌, Some, ap, to_z, of_z, w32, rules}
 use Rattle.std.proofs.lemmas.Int.{to_z-of_z}
 use Rattle.spec_value.specs.Table.{at}
 use Rattle.spec_world.specs.CommandLines.{command_said}

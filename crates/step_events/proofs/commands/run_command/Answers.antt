@@ -1,7 +1,6 @@
-use Rattle.std.proofs.Common.{◌≡◌, ◌∙◌, ap, sym, to_z, of_z, w32, rules}
+use Rattle.std.proofs.Common.{◌≡◌, to_z, of_z, w32, rules}
 use Rattle.std.proofs.lemmas.Int.{to_z-of_z}
 use Rattle.spec_world.specs.World.{World}
-use Rattle.spec_step.specs.Outcome.{Outcome}
 use Rattle.spec_moo.specs.Steps.Events.{command_run, foreground_ticks}
 use Rattle.rules.specs.Meanings.{command_of}
 use Rattle.rules.specs.declared.command_parser.command.Command.{Command}

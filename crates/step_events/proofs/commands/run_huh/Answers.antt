@@ -1,4 +1,4 @@
-use Rattle.std.proofs.Common.{◌≡◌, ap, ℤ, codes, to_z, of_z, w32, rules}
+use Rattle.std.proofs.Common.{◌≡◌, ap, ℤ, codes, w32, rules}
 use Rattle.std.proofs.lemmas.Int.{to_z-of_z}
 use Rattle.spec_value.specs.Datum.{of_list}
 use Rattle.spec_world.specs.World.{object_at}

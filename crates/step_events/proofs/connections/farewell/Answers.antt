@@ -1,4 +1,4 @@
-use Rattle.std.proofs.Common.{◌≡◌, [], codes, w32, rules}
+use Rattle.std.proofs.Common.{◌≡◌, [], w32, rules}
 use Rattle.std.proofs.lemmas.Int.{to_z-of_z}
 use Rattle.spec_value.specs.Datum.{no_data, item, object}
 use Rattle.step_events.proofs.connections.farewell.Goals as goal

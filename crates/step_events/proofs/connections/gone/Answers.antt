@@ -3,8 +3,6 @@ use Rattle.std.specs.Ordering.{int_eq}
 use Rattle.std.proofs.lemmas.Int.{to_z-of_z}
 use Rattle.spec_world.specs.Links.{connection_object}
 use Rattle.spec_world.specs.VerbsSought.{find_verb}
-use Rattle.spec_world.specs.World.{World}
-use Rattle.spec_step.specs.Outcome.{Outcome}
 use Rattle.spec_moo.specs.Steps.Running.{system}
 use Rattle.spec_moo.specs.Steps.Events.{told_gone, nothing_runs, foreground_ticks}
 use Rattle.moo_task.specs.Deeds.{scene_of}

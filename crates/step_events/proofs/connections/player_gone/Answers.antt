@@ -1,13 +1,11 @@
-use Rattle.std.proofs.Common.{◌≡◌, ◌∙◌, Some, None, [], ap, codes, w32, subst}
+use Rattle.std.proofs.Common.{◌≡◌, ◌∙◌, Some, None, [], ap, codes, w32}
 use Rattle.std.proofs.lemmas.Int.{to_z-of_z}
 use Rattle.spec_value.specs.Datum.{no_data, item, object}
-use Rattle.spec_world.specs.World.{World}
 use Rattle.spec_world.specs.VerbsSought.{find_verb}
 use Rattle.spec_moo.specs.Steps.Running.{run, came_to, system, system_task}
 use Rattle.spec_moo.specs.Steps.Events.{told_gone, foreground_ticks}
 use Rattle.rules.proofs.InheritStanding.{agreeing_stands}
 use Rattle.moo_task.specs.Deeds.{scene_of}
-use Rattle.moo_task.specs.Outcomes.{ticks_of}
 use Rattle.world.specs.Law.{Goes}
 use Rattle.step_tasks.specs.Performed.{StepsTo}
 use Rattle.step_tasks.proofs.Playing.{plays_told, plays_then, ready_told}

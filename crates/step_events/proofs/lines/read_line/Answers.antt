@@ -1,6 +1,6 @@
-use Rattle.std.proofs.Common.{◌≡◌, ◌∙◌, Some, None, ap, sym, to_z, of_z, w32, rules}
+use Rattle.std.proofs.Common.{◌≡◌, Some, None, ap, to_z, of_z, w32, rules}
 use Rattle.std.proofs.lemmas.Int.{to_z-of_z}
-use Rattle.spec_value.specs.Datum.{Datum, text}
+use Rattle.spec_value.specs.Datum.{text}
 use Rattle.spec_value.specs.Table.{at}
 use Rattle.spec_world.specs.Links.{reader_of}
 use Rattle.spec_moo.specs.Steps.Events.{line_read, line_for, read_by, foreground_ticks}

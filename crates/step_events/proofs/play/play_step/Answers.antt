@@ -1,4 +1,4 @@
-use Rattle.std.proofs.Common.{◌≡◌, ◌+◌, ◌∙◌, ap, true, false}
+use Rattle.std.proofs.Common.{◌≡◌, ◌+◌, ◌∙◌, ap}
 use Rattle.spec_step.specs.Step.{Step}
 use Rattle.spec_ready.proofs.Readiness.{number_small}
 use Rattle.task_step.specs.StepView.{event_of}

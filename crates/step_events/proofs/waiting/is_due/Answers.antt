@@ -1,4 +1,4 @@
-use Rattle.std.proofs.Common.{◌≡◌, ◌∙◌, ap, sym}
+use Rattle.std.proofs.Common.{◌∙◌, ap, sym}
 use Rattle.step_events.proofs.Dues.{passed, due_once_passed}
 use Rattle.step_events.proofs.waiting.is_due.Goals as goal
 

@@ -2,13 +2,13 @@
 use crate::functions::{call_function, named};
 use builtin_deeds::resuming::go_on;
 use builtin_deeds::stages::stage_of;
-use running::moo_run::natives::Natives;
 use moo_task::deeds::Deeds;
 use moo_task::effect::NativeEffect;
 use moo_task::native::Native;
 use moo_task::running::Running;
 use moo_value::text::Text;
 use moo_value::value::Value;
+use running::moo_run::natives::Natives;
 use std::alloc::{AllocError, Global};
 use world::law::View;
 

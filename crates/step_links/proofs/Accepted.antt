@@ -1,5 +1,5 @@
 -- What the value does with which a login ends.
-use Rattle.std.proofs.Common.{◌≡◌, ◌∙◌, ap, sym, refl, subst, ℕ, suc, ◌<◌, ℤ, Bool, true, false, ◌&&◌, IsTrue, [], ◌∷◌, Option, Some, None, if◌then◌else◌}
+use Rattle.std.proofs.Common.{◌≡◌, ◌∙◌, ap, sym, refl, subst, ℕ, suc, ◌<◌, ℤ, true, false, ◌&&◌, IsTrue, [], ◌∷◌, Option, Some, None, if◌then◌else◌}
 use Rattle.std.specs.Prelude.{option_map, OnOk, codes, Ok, Err, Result as Returned}
 use Rattle.spec_value.specs.Datum.{Datum, object}
 use Rattle.spec_value.specs.Table.{at}

@@ -1,11 +1,11 @@
 -- Lines that are collected, and what comes of them when they end.
-use Rattle.std.proofs.Common.{◌≡◌, ◌∙◌, ap, sym, refl, subst, ℕ, zero, suc, ◌+◌, ◌%◌, ◌^◌, ◌-◌, ◌<◌, ◌≤◌, min, ℤ, Bool, true, false, List, [], ◌∷◌, ◌++◌, append_assoc, Option, Some, None, IsTrue, if◌then◌else◌, codes, arith}
+use Rattle.std.proofs.Common.{◌≡◌, ◌∙◌, ap, sym, refl, subst, ℕ, zero, suc, ◌+◌, ◌%◌, ◌^◌, ◌-◌, ◌<◌, min, ℤ, Bool, true, false, List, [], ◌∷◌, ◌++◌, Option, Some, None, IsTrue, if◌then◌else◌, codes, arith}
 use Rattle.std.specs.Prelude.{option_map, nat_le, Result, Ok, Err, IfOk, OnOk}
 use Rattle.std.proofs.lemmas.Bool.Decides.{nat_tests}
 use Rattle.std.specs.Fmt.{decimal}
 use Rattle.std.proofs.lemmas.Fmt.{decimal_by_steps}
 use Rattle.spec_value.specs.Answer.{is_allowed}
-use Rattle.spec_value.specs.Datum.{list, of_list, is_text, data_weight, Text, same_text}
+use Rattle.spec_value.specs.Datum.{list, of_list, is_text, Text, same_text}
 use Rattle.spec_program.specs.ReadPrograms.{Parsed, program, faulty}
 use Rattle.spec_world.specs.World.{World, Object, Link, Programming, Verb, object_at}
 use Rattle.spec_world.specs.VerbNames.{any_spells}
@@ -14,11 +14,10 @@ use Rattle.spec_world.specs.Links.{open_link}
 use Rattle.spec_world.specs.Members.{verb_changed}
 use Rattle.spec_world.proofs.Trees.{some_same}
 use Rattle.spec_view.specs.Questions.{verbs_at}
-use Rattle.spec_step.specs.Outcome.{Outcome}
 use Rattle.spec_moo.specs.Scene.{Scene}
 use Rattle.spec_moo.specs.Natives.Properties.{as_texts}
 use Rattle.spec_moo.specs.Natives.Verbs.{place_of_word}
-use Rattle.spec_moo.specs.Steps.Programming.{says, own_place, programmable, programmable_at, written, fits_still, with_line, ends, goes_on, collected}
+use Rattle.spec_moo.specs.Steps.Programming.{says, own_place, programmable, programmable_at, written, fits_still, ends, goes_on, collected}
 use Rattle.syntax_fault.specs.Meaning.{kind_meant, OfKindOrMemory, IsFaultOrMemory}
 use Rattle.syntax_fault.specs.declared.fault.SyntaxFault.{SyntaxFault}
 use Rattle.moo_value.proofs.Characters.{is_text-append}

@@ -1,11 +1,11 @@
 -- Links that are written, and what is told and queued with them.
-use Rattle.std.proofs.Common.{◌≡◌, ◌∙◌, ap, sym, refl, ℕ, zero, suc, ◌+◌, ◌<◌, ◌≤◌, ℤ, pos, negsuc, Bool, true, false, ◌&&◌, List, [], ◌∷◌, ◌++◌, append_assoc, Option, Some, None, IsTrue, if◌then◌else◌, codes, arith, le-leb}
-use Rattle.std.specs.Prelude.{int_le, nat_lt}
+use Rattle.std.proofs.Common.{◌≡◌, ◌∙◌, ap, sym, refl, ℕ, suc, ◌+◌, ◌<◌, ◌≤◌, ℤ, pos, negsuc, Bool, true, false, List, [], ◌∷◌, ◌++◌, append_assoc, Some, None, IsTrue, if◌then◌else◌, codes, arith, le-leb}
+use Rattle.std.specs.Prelude.{int_le}
 use Rattle.std.proofs.lemmas.Bool.Decides.{nat_tests}
 use Rattle.std.specs.Fmt.{signed_decimal}
 use Rattle.spec_value.specs.Literal.{to_text}
 use Rattle.spec_value.proofs.Entries.{first_holds, second_holds, both_hold}
-use Rattle.spec_value.specs.Datum.{Text, object, no_data, item}
+use Rattle.spec_value.specs.Datum.{object, no_data, item}
 use Rattle.spec_value.specs.Table.{at, with}
 use Rattle.spec_world.specs.World.{World, Link, Task}
 use Rattle.spec_world.specs.WellFormed.{is_connection}

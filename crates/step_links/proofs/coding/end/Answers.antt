@@ -1,11 +1,11 @@
-use Rattle.std.proofs.Common.{◌≡◌, ◌∙◌, Some, None, ap, sym, refl, subst, w32, to_z, of_z, rules}
+use Rattle.std.proofs.Common.{◌≡◌, None, ap, sym, refl, subst, w32, to_z, of_z, rules}
 use Rattle.std.proofs.lemmas.Int.{to_z-of_z}
 use Rattle.spec_world.specs.World.{World, Link}
 use Rattle.spec_world.specs.Links.{open_link}
 use Rattle.spec_moo.specs.Steps.Events.{foreground_ticks}
 use Rattle.spec_moo.specs.Steps.Programming.{ends, ends_at, programmable}
 use Rattle.moo_task.specs.Deeds.{scene_of}
-use Rattle.step_tasks.proofs.Playing.{ready_agrees, plays_then, plays_changed, still, told_still}
+use Rattle.step_tasks.proofs.Playing.{ready_agrees, plays_then, plays_changed, told_still}
 use Rattle.step_links.specs.Codes.{HasVerbAt}
 use Rattle.step_links.proofs.Relinks.{link_ranged, written_goes}
 use Rattle.step_links.proofs.Codings.{may_be_programmed, still_has}

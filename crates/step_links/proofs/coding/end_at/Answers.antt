@@ -1,4 +1,4 @@
-use Rattle.std.proofs.Common.{◌≡◌, ℕ, Some, None, sym, w32, to_z, of_z, rules}
+use Rattle.std.proofs.Common.{◌≡◌, ℕ, Some, None, w32, to_z, of_z, rules}
 use Rattle.std.specs.Prelude.{Option}
 use Rattle.std.proofs.lemmas.Int.{to_z-of_z}
 use Rattle.spec_world.specs.World.{World}

@@ -1,6 +1,5 @@
-use Rattle.std.proofs.Common.{◌≡◌, ◌∙◌, ap, sym, w32}
+use Rattle.std.proofs.Common.{w32}
 use Rattle.std.proofs.lemmas.Int.{to_z-of_z}
-use Rattle.spec_program.specs.Tree.{Program}
 use Rattle.spec_program.specs.ReadPrograms.{program}
 use Rattle.spec_world.specs.World.{World}
 use Rattle.spec_world.specs.Members.{verb_changed}

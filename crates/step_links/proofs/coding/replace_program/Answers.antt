@@ -1,6 +1,5 @@
-use Rattle.std.proofs.Common.{◌≡◌, Some, None, w32, rules}
+use Rattle.std.proofs.Common.{◌≡◌, None, w32, rules}
 use Rattle.std.proofs.lemmas.Int.{to_z-of_z}
-use Rattle.spec_world.specs.Permissions.{in_place}
 use Rattle.builtins_change.specs.Programs.{with_program}
 use Rattle.step_links.proofs.Codings.{none_less, program_given}
 use Rattle.step_links.proofs.coding.replace_program.Goals as goal

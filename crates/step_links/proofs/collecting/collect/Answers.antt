@@ -1,4 +1,4 @@
-use Rattle.std.proofs.Common.{◌∙◌, ap, sym, w32, if◌then◌else◌}
+use Rattle.std.proofs.Common.{◌∙◌, ap, w32, if◌then◌else◌}
 use Rattle.std.proofs.lemmas.Int.{to_z-of_z}
 use Rattle.spec_moo.specs.Steps.Events.{foreground_ticks}
 use Rattle.spec_moo.specs.Steps.Programming.{ends, goes_on}

@@ -1,4 +1,4 @@
-use Rattle.std.proofs.Common.{List, ℕ, IsTrue, ◌∙◌, sym, subst, rules, arith}
+use Rattle.std.proofs.Common.{List, ℕ, IsTrue, ◌∙◌, sym, subst, rules}
 use Rattle.spec_value.specs.Datum.{is_text}
 use Rattle.step_links.proofs.Codings.{text_decimal, fault_joined}
 use Rattle.step_links.proofs.faults.fault_text.Goals as goal

@@ -1,4 +1,4 @@
-use Rattle.std.proofs.Common.{◌≡◌, ℕ, true, false, w32}
+use Rattle.std.proofs.Common.{◌≡◌, ℕ, true, w32}
 use Rattle.std.proofs.lemmas.Int.{to_z-of_z}
 use Rattle.spec_moo.specs.Steps.Events.{foreground_ticks, may_log_in}
 use Rattle.moo_task.specs.Deeds.{scene_of}

@@ -1,4 +1,4 @@
-use Rattle.std.proofs.Common.{◌≡◌, ◌∙◌, sym, ap, subst, to_z, of_z, w32, rules}
+use Rattle.std.proofs.Common.{◌≡◌, sym, subst, to_z, of_z, w32, rules}
 use Rattle.std.specs.Prelude.{ℕ, OnOk}
 use Rattle.std.proofs.lemmas.Int.{to_z-of_z}
 use Rattle.spec_value.specs.Datum.{Datum, object}

@@ -1,8 +1,8 @@
-use Rattle.std.proofs.Common.{◌≡◌, ◌∙◌, [], ap, codes, w32, rules}
+use Rattle.std.proofs.Common.{◌≡◌, [], ap, codes, w32, rules}
 use Rattle.std.proofs.lemmas.Int.{to_z-of_z}
-use Rattle.spec_value.specs.Datum.{item, no_data, object, list}
+use Rattle.spec_value.specs.Datum.{item, no_data, object}
 use Rattle.spec_world.specs.VerbsSought.{Sought}
-use Rattle.spec_moo.specs.Steps.Running.{system_call, system_task, unnamed}
+use Rattle.spec_moo.specs.Steps.Running.{system_call, unnamed}
 use Rattle.moo_code.specs.Machine.{Kept}
 use Rattle.moo_task.specs.Outcomes.{running_kept}
 use Rattle.step_tasks.proofs.Beginnings.{begun_kept}

@@ -1,7 +1,5 @@
-use Rattle.std.proofs.Common.{◌≡◌, ◌+◌, ◌∙◌, ◌≤◌, ◌<◌, suc, ℕ, Some, ap, sym, refl, arith, add-one, w32, to_z, of_z, rules}
-use Rattle.std.specs.Prelude.{OnOk}
+use Rattle.std.proofs.Common.{◌≡◌, ◌+◌, ◌≤◌, ◌<◌, sym, arith, w32, to_z, of_z, rules}
 use Rattle.std.proofs.lemmas.Int.{to_z-of_z}
-use Rattle.spec_moo.specs.Steps.Events.{greeted}
 use Rattle.moo_task.specs.Deeds.{scene_of}
 use Rattle.step_links.proofs.Relinks.{not_greeted, one_taken}
 use Rattle.step_links.proofs.Accepted.{greeted_goes}

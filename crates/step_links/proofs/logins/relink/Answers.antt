@@ -1,4 +1,4 @@
-use Rattle.std.proofs.Common.{◌≡◌, None, IsTrue, w32, rules}
+use Rattle.std.proofs.Common.{◌≡◌, None, w32, rules}
 use Rattle.std.proofs.lemmas.Int.{to_z-of_z}
 use Rattle.spec_world.specs.World.{Link}
 use Rattle.spec_moo.specs.Steps.Events.{foreground_ticks}

@@ -1,4 +1,4 @@
-use Rattle.std.proofs.Common.{◌≡◌, List, ℕ, ℤ, Result, Ok, Err, IsTrue, codes, ◌++◌, ◌∙◌, ap, sym, subst, w32, to_z, of_z, rules}
+use Rattle.std.proofs.Common.{◌≡◌, List, ℕ, ℤ, IsTrue, codes, ◌++◌, ◌∙◌, ap, sym, subst, w32}
 use Rattle.std.proofs.lemmas.Int.{to_z-of_z}
 use Rattle.std.specs.Fmt.{signed_decimal}
 use Rattle.spec_value.specs.Datum.{object, is_text}

@@ -6,7 +6,7 @@ use Rattle.spec_fixture.proofs.FixtureFits.{fixture_fits}
 use Rattle.spec_holding.specs.Whole.{TextsSpell}
 use Rattle.world.specs.Sound.{IsSound}
 
-fixture_is_spelled : TextsSpell fixture
+pub fixture_is_spelled : TextsSpell fixture
 fixture_is_spelled = (each_entry _ fixture.objects refl, each_entry _ fixture.tasks refl)
 
 pub fixture_is_sound : IsSound fixture

@@ -6,7 +6,6 @@ mod arguments;
 pub mod asking;
 pub mod calling;
 pub mod changing;
-pub mod missing;
 pub mod own;
 pub mod request;
 mod several;

@@ -1,6 +1,0 @@
-//! The built-in functions, as tasks call them (Programmer's Manual, "Built-in Functions").
-#![tactic(auto)]
-
-pub mod builtins;
-mod functions;
-mod perform;

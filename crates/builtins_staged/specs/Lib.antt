@@ -1,4 +1,0 @@
-pub mod Led
-pub mod Children
-pub mod Moves
-pub mod Recycles

@@ -6,6 +6,8 @@ use Rattle.spec_step.specs.Step.{Step}
 use Rattle.spec_step.specs.Outcome.{Outcome}
 use Rattle.spec_moo.specs.Steps.{play1, play}
 use Rattle.spec_moo.proofs.StepWorlds.{play_goes_on}
+use Rattle.world.specs.Law.{Goes}
+use Rattle.steps.specs.Performed as performed
 use Rattle.task_run.specs.Performed.{StepsTo}
 
 -- what a step left and gave is what it plays
@@ -35,3 +37,8 @@ first_played w u v ss i n os h count same l = (ap (λ k. play w (take k ss)) cou
 -- the whole
 pub all_played : (w u : World) (ss : List Step) (i : ℕ) (os : List Outcome) → play w (take i ss) ≡ (u, os) → i ≡ length ss → play w ss ≡ (u, os)
 all_played w u ss i os h e = sym (ap (play w) (ap (λ k. take k ss) e ∙ take-length ss)) ∙ h
+
+-- what a step plays over a view is what it left and gave
+pub stepped : {V : Type 0} (holds : V → World → Type 0) (now : V → World → World) (a b : V) (f : World → World × Outcome) (o : Outcome)
+    → Goes holds now a b (λ before after. performed.StepsTo (f before) after o) → Goes holds now a b (λ before after. StepsTo (f before) after o)
+stepped holds now a b f o goes w left = let g = goes w left in (g.0, (ap (λ p. p.0) (sym g.1), ap (λ p. p.1) g.1))

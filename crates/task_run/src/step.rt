@@ -5,7 +5,9 @@ ghost use Rattle.spec_moo.specs.Steps.{play1};
 ghost use Rattle.world.specs.Law.{Goes, AreSound};
 ghost use Rattle.task_run.specs.Performed.{StepsTo};
 
+use builtins::builtin_natives::builtins::Builtins;
 use std::alloc::{AllocError, Global};
+use steps::step_events::play::play_step;
 use task_step::outcome::Outcome;
 use task_step::step::Step;
 use world::law::View;
@@ -22,5 +24,6 @@ pub fn run_step<V: View>(alloc: Global, view: &mut V, step: &Step) -> Result<Out
     ensures played { IfOk result (λ o. Goes V.holds V.now view.old view.new
         (λ before after. StepsTo (play1 before step.now) after o)) }
 {
-    Err(AllocError)
+    let mut natives = Builtins;
+    play_step(alloc, view, &mut natives, step)
 }

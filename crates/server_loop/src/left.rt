@@ -67,8 +67,11 @@ fn left_links(alloc: Global, world: &World) -> Result<Vec<u32>, AllocError> {
 }
 
 fn has_link(world: &World, number: u32) -> Result<bool, AllocError> {
+    let Ok(connection) = i32::try_from(number) else {
+        return Ok(false);
+    };
     Ok(matches!(
-        world.ask(&Question::Link(number as i32))?,
+        world.ask(&Question::Link(connection))?,
         Answer::Link(Some(_))
     ))
 }

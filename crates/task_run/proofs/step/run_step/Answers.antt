@@ -3,6 +3,6 @@ use Rattle.spec_moo.specs.Steps.{play1}
 use Rattle.task_run.proofs.Playing.{stepped}
 use Rattle.task_run.proofs.step.run_step.Goals as goal
 
-pub returns-in-Ok-clause-played : goal.returns-in-Ok-clause-played
-returns-in-Ok-clause-played g c =
+pub returns-clause-played : goal.returns-clause-played
+returns-clause-played g c =
     stepped g.V.View.holds g.V.View.now c.args.view.now c.play_step.new.view (λ w. play1 w c.args.step.now) _ c.play_step.ensures.played

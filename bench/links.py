@@ -9,11 +9,24 @@ import time
 port, pid = int(sys.argv[1]), int(sys.argv[2])
 LINE = b"looks\r\n"
 ANSWER = b"I couldn't understand that.\r\n"
+# What a link is told when it is opened, and at each line until somebody has logged in.
+GREETING = b"Type connect #n\r\n"
+CONNECTED = b"*** Connected ***\r\n"
 
 
 def connect():
+    """A link on which nobody has logged in."""
     link = socket.create_connection(("127.0.0.1", port), timeout=20)
     link.setsockopt(socket.IPPROTO_TCP, socket.TCP_NODELAY, 1)
+    read(link, len(GREETING))
+    return link
+
+
+def log_in():
+    """A link on which a player has logged in."""
+    link = connect()
+    link.sendall(b"connect #4\r\n")
+    read(link, len(CONNECTED))
     return link
 
 
@@ -49,7 +62,7 @@ def ticks():
 
 def ping_pong():
     """The median time of a line and its answer, and the ninety-ninth hundredth."""
-    link, times = connect(), []
+    link, times = log_in(), []
     for _ in range(20000):
         start = time.perf_counter_ns()
         link.sendall(LINE)
@@ -63,7 +76,7 @@ def ping_pong():
 
 def pipelined():
     """Lines on one link, 64 on their way at a time."""
-    link, count = connect(), 0
+    link, count = log_in(), 0
     link.sendall(64 * LINE)
     rest, start = 0, time.perf_counter_ns()
     while count < 500000:
@@ -76,32 +89,35 @@ def pipelined():
 
 
 def many():
-    """Lines on 64 links, of which the fixture answers two; the others' lines are run and told nothing, so their number is known when those answer."""
+    """Lines on 64 links on which nobody has logged in: each runs the verb that tells how to, and its answer is read while further lines are sent."""
     links = [connect() for _ in range(64)]
-    time.sleep(0.5)
     each, start = 4000, time.perf_counter_ns()
-    chooser, left = selectors.DefaultSelector(), {}
+    chooser, unsent, unread = selectors.DefaultSelector(), {}, {}
     for link in links:
         link.setblocking(False)
-        chooser.register(link, selectors.EVENT_WRITE)
-        left[link] = memoryview(each * b"count\r\n" + LINE)
-    while left:
-        for key, _ in chooser.select(20):
+        chooser.register(link, selectors.EVENT_READ | selectors.EVENT_WRITE)
+        unsent[link], unread[link] = memoryview(each * LINE), each * len(GREETING)
+    while chooser.get_map():
+        for key, events in chooser.select(20):
             link = key.fileobj
-            left[link] = left[link][link.send(left[link][:65536]) :]
-            if not left[link]:
-                chooser.unregister(link)
-                del left[link]
-    for link in links[:2]:
-        link.setblocking(True)
-        read(link, len(ANSWER))
-    tell("cheap lines on 64 links", "steps/s", 64 * each, time.perf_counter_ns() - start)
+            if events & selectors.EVENT_WRITE:
+                unsent[link] = unsent[link][link.send(unsent[link][:4096]) :]
+                if not unsent[link]:
+                    chooser.modify(link, selectors.EVENT_READ)
+            if events & selectors.EVENT_READ:
+                piece = link.recv(65536)
+                if not piece:
+                    sys.exit("links.py: the server ended a link")
+                unread[link] -= len(piece)
+                if not unread[link]:
+                    chooser.unregister(link)
+    tell("lines on 64 links before a login", "steps/s", 64 * each, time.perf_counter_ns() - start)
     close(*links)
 
 
 def flood():
     """100 MB without a line end."""
-    link, blob = connect(), (1 << 20) * b"x"
+    link, blob = log_in(), (1 << 20) * b"x"
     start = time.perf_counter_ns()
     for _ in range(100):
         link.sendall(blob)

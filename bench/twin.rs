@@ -1,4 +1,4 @@
-//! The same loops in plain Rust, as a measure of what `moo_bench` and `world_bench` print. `bench/run` compiles it where there is a `rustc`.
+//! The same loops in plain Rust, as a measure of what `moo_bench` prints. `bench/run` compiles it where there is a `rustc`.
 //!
 //! Each line has the name of the product's line, `Rust`, the unit, how many operations, what they took in all, and a checksum.
 use std::collections::BTreeMap;
@@ -14,9 +14,8 @@ fn main() {
         Some("claims") => claims::run(),
         Some("table") => table::run(),
         Some("table-memory") => table::memory(),
-        Some("machine") => machine::run(),
         _ => {
-            eprintln!("twin: the words are values, telnet, claims, table, table-memory and machine");
+            eprintln!("twin: the words are values, telnet, claims, table and table-memory");
             std::process::exit(2);
         }
     }
@@ -334,117 +333,5 @@ mod table {
         let text = std::fs::read_to_string("/proc/self/statm").unwrap_or_default();
         let pages = text.split_ascii_whitespace().nth(1).and_then(|word| word.parse().ok());
         pages.unwrap_or(0u64) * 4096
-    }
-}
-
-/// A plain interpreter of the same instructions over the same values, whose world is changed in place.
-mod machine {
-    use super::value::{Value, plus};
-    use super::*;
-
-    enum Instruction {
-        Push(Value),
-        Load(usize),
-        Plus,
-        ReadProperty,
-        WriteProperty,
-        Pop,
-    }
-
-    struct Slot {
-        content: Option<Value>,
-        owner: i32,
-    }
-
-    type World = BTreeMap<i32, Vec<(Arc<str>, Slot)>>;
-
-    const STATEMENTS: usize = 10_000;
-    const TIMES: usize = 200;
-
-    pub fn run() {
-        let one = || Instruction::Push(Value::Integer(1));
-        let n = || Instruction::Push(Value::Text("n".into()));
-        line("machine: `1 + 1;`, 1 tick, on Live", || vec![one(), one(), Instruction::Plus]);
-        line("machine: `num;`, a variable, no tick, on Live", || vec![Instruction::Load(0)]);
-        line("machine: `this.n;`, 1 tick, on Live", || {
-            vec![Instruction::Load(1), n(), Instruction::ReadProperty]
-        });
-        line("machine: `this.n = 1;`, 1 tick, on Live", || {
-            vec![Instruction::Load(1), n(), one(), Instruction::WriteProperty]
-        });
-    }
-
-    fn line(name: &str, statement: impl Fn() -> Vec<Instruction>) {
-        let mut code = Vec::new();
-        for _ in 0..STATEMENTS {
-            code.extend(statement());
-            code.push(Instruction::Pop);
-        }
-        let content = Some(Value::Integer(0));
-        let mut world = World::from([(3, vec![("n".into(), Slot { content, owner: 2 })])]);
-        measure(name, "ns", STATEMENTS * TIMES, || {
-            (0..TIMES).map(|_| ticks(black_box(&code), black_box(&mut world))).sum()
-        });
-    }
-
-    // The ticks of one run, and one more where it came to its end.
-    fn ticks(code: &[Instruction], world: &mut World) -> u64 {
-        let slots = vec![Some(Value::Integer(0)), Some(Value::Object(3))];
-        let mut operands = Vec::new();
-        let mut left = u32::MAX;
-        for instruction in code {
-            if step(instruction, &slots, &mut operands, world, &mut left).is_none() {
-                return u64::from(u32::MAX - left);
-            }
-        }
-        u64::from(u32::MAX - left) + 1
-    }
-
-    fn step(
-        instruction: &Instruction,
-        slots: &[Option<Value>],
-        operands: &mut Vec<Value>,
-        world: &mut World,
-        left: &mut u32,
-    ) -> Option<()> {
-        match instruction {
-            Instruction::Push(value) => operands.push(value.clone()),
-            Instruction::Load(slot) => operands.push(slots.get(*slot)?.clone()?),
-            Instruction::Plus => {
-                let right = operands.pop()?;
-                let value = operands.pop()?;
-                *left = left.checked_sub(1)?;
-                operands.push(plus(&value, &right)?);
-            }
-            Instruction::ReadProperty => {
-                let name = operands.pop()?;
-                let object = operands.pop()?;
-                *left = left.checked_sub(1)?;
-                let slot = slot_of(world, &object, &name)?;
-                operands.push(slot.content.clone()?);
-            }
-            Instruction::WriteProperty => {
-                let value = operands.pop()?;
-                let name = operands.pop()?;
-                let object = operands.pop()?;
-                *left = left.checked_sub(1)?;
-                slot_of(world, &object, &name)?.content = Some(value.clone());
-                operands.push(value);
-            }
-            Instruction::Pop => {
-                operands.pop()?;
-            }
-        }
-        Some(())
-    }
-
-    // The slot of a property that the wizard may read and write.
-    fn slot_of<'a>(world: &'a mut World, object: &Value, name: &Value) -> Option<&'a mut Slot> {
-        let (Value::Object(object), Value::Text(name)) = (object, name) else {
-            return None;
-        };
-        let slots = world.get_mut(object)?;
-        let (_, slot) = slots.iter_mut().find(|(stored, _)| stored.eq_ignore_ascii_case(name))?;
-        (slot.owner == 2).then_some(slot)
     }
 }

@@ -1,6 +1,6 @@
 #!/usr/bin/env python3
-"""clients.py PORT PID [descriptors]: clients of a moo-server over the fixture on this port, whose process is known. Says what went wrong, and ends with
-status 1 then. With `descriptors`, the server has but a few descriptors."""
+"""clients.py PORT PID [descriptors | shutdown]: clients of a moo-server over the fixture on this port, whose process is known. Says what went wrong, and
+ends with status 1 then. With `descriptors`, the server has but a few descriptors; with `shutdown`, it is told to end."""
 import os
 import socket
 import struct
@@ -10,6 +10,9 @@ import time
 
 port, pid = int(sys.argv[1]), int(sys.argv[2])
 UNKNOWN = b"I couldn't understand that.\r\n"
+# What an opened link is told, and each line of it until somebody has logged in.
+GREETING = b"Type connect #n\r\n"
+CONNECTED = b"*** Connected ***\r\n"
 failures = 0
 
 
@@ -24,9 +27,19 @@ def wants(name, got, wanted):
         fail(f"{name}: got {got!r}, not {wanted!r}")
 
 
-def connect(seconds=5.0):
+def connect(seconds=5.0, greeted=True):
     link = socket.create_connection(("127.0.0.1", port), timeout=seconds)
     link.setsockopt(socket.IPPROTO_TCP, socket.TCP_NODELAY, 1)
+    if greeted:
+        wants("the greeting", read(link, len(GREETING)), GREETING)
+    return link
+
+
+def log_in(player):
+    """A link on which this player has logged in."""
+    link = connect()
+    link.sendall(b"connect " + player + b"\r\n")
+    wants("a login", read(link, len(CONNECTED)), CONNECTED)
     return link
 
 
@@ -56,9 +69,9 @@ def is_shut(link, seconds=5.0):
 
 
 def answers(link):
-    """Whether this link is told what it asks for: the fixture's links 1 and 2 are."""
+    """Whether this link, on which nobody has logged in, is told how to."""
     link.sendall(b"looks\r\n")
-    return read(link, len(UNKNOWN)) == UNKNOWN
+    return read(link, len(GREETING)) == GREETING
 
 
 def settle():
@@ -77,8 +90,64 @@ def ticks():
     return int(fields[11]) + int(fields[12])
 
 
+def is_running():
+    """Whether the server's process is there, and not merely not waited for."""
+    try:
+        with open(f"/proc/{pid}/stat") as line:
+            return line.read().rsplit(")", 1)[1].split()[0] != "Z"
+    except OSError:
+        return False
+
+
+def logins():
+    """Players log in, are closed where they log in again, and have tasks that go on later."""
+    link = log_in(b"#4")
+    link.sendall(b"looks\r\n;notify(player, \"one\") + suspend(1) + notify(player, \"two\")\r\n")
+    wants("a player's lines", read(link, len(UNKNOWN) + 10), UNKNOWN + b"one\r\ntwo\r\n")
+    other = log_in(b"#5")
+    other.sendall(b"tell\r\n")
+    wants("another player's notice", read(link, 4), b"hi\r\n")
+    again = log_in(b"#4")
+    if not is_shut(link):
+        fail("a player's older link is not closed")
+    again.sendall(b";boot_player(#5)\r\n")
+    if not is_shut(other):
+        fail("a player who was booted is not cut")
+    for ended in (link, other, again):
+        ended.close()
+    settle()
+
+
+def says(name, link, text, *told):
+    """A line, and what the link is then told."""
+    link.sendall(text + b"\r\n")
+    wanted = b"".join(line + b"\r\n" for line in told)
+    wants(name, read(link, len(wanted)), wanted)
+
+
+def tasks():
+    """A player programs a verb, which another one runs; a task reads a line; forks run by themselves; what waits on a link ends with it."""
+    wizard, link = log_in(b"#2"), log_in(b"#4")
+    says("a verb to be programmed", wizard, b".program #3:sum", b"Now programming #3:sum.")
+    says("a verb that is programmed", wizard, b'fork (0) notify(#4, "later"); endfork\r\nnotify(player, "now");\r\n.', b"Verb programmed.")
+    says("what it tells", link, b"sum", b"now", b"later")
+    says("a program with a fault", wizard, b".program #3:sum\r\nretrun 1;\r\n.", b"Now programming #3:sum.", b"Line 1: Token")
+    says("a task that reads", link, b';notify(player, "got " + read())\r\nlooks', b"got looks")
+    says("an error", link, b";1 / 0", b"#-1:eval: Division by zero", b"called from #3:eval", b"(End of traceback)")
+    says("a task without an end", link, b"spin", b"#3:spin: Task ran out of ticks", b"(End of traceback)")
+    link.sendall(b";read()\r\n")
+    settle()
+    link.close()
+    settle()
+    link = log_in(b"#4")
+    says("tasks that are left", link, b";notify(player, toliteral(queued_tasks()))", b"{}")
+    for ended in (wizard, link):
+        ended.close()
+    settle()
+
+
 def lines_and_replies():
-    link = connect()
+    link = log_in(b"#4")
     for piece in [b"loo", b"ks\r", b"\n\xff\xfd\x01cou", b"nt\n\xff\xf6LOOKS\n", b"\xff\xfa\x01\r\n\xff\xf0looks\r\0\n"]:
         link.sendall(piece)
         time.sleep(0.05)
@@ -94,7 +163,7 @@ def half_closed():
         link = connect()
         link.sendall(count * b"looks\n")
         link.shutdown(socket.SHUT_WR)
-        wants(f"half-closed after {count}", len(read(link, 1 << 30)), count * len(UNKNOWN))
+        wants(f"half-closed after {count}", len(read(link, 1 << 30)), count * len(GREETING))
         link.close()
         settle()
 
@@ -103,26 +172,22 @@ def in_order():
     """Replies and lines come whole, and as many as were asked for."""
     link = connect()
     link.sendall(300 * b"looks\r\n\xff\xf6")
-    got = read(link, 300 * (len(UNKNOWN) + 7))
-    wants("whole lines", (got.count(UNKNOWN), got.count(b"[Yes]\r\n"), len(got)), (300, 300, 300 * (len(UNKNOWN) + 7)))
+    got = read(link, 300 * (len(GREETING) + 7))
+    wants("whole lines", (got.count(GREETING), got.count(b"[Yes]\r\n"), len(got)), (300, 300, 300 * (len(GREETING) + 7)))
     link.close()
     settle()
 
 
 def numbers():
-    """A socket gets the least number that is free; the fixture's links are 1 and 2."""
+    """Each link is greeted, also one whose number another had."""
     one, two, three = connect(), connect(), connect()
-    settle()
-    if not (answers(one) and answers(two)):
-        fail("the first two links are not told anything")
-    three.settimeout(0.3)
-    if answers(three):
-        fail("a third link is told something")
+    if not (answers(one) and answers(two) and answers(three)):
+        fail("the first links are not told anything")
     two.close()
     settle()
     four = connect()
     if not answers(four):
-        fail("the number of a link that was closed is not given again")
+        fail("a link with the number of one that was closed is not told anything")
     for link in (one, three, four):
         link.close()
     settle()
@@ -137,7 +202,7 @@ def crowd():
     settle()
     if not (answers(links[0]) and answers(links[1])):
         fail("with 64 links the first two are not told anything")
-    extra = connect()
+    extra = connect(greeted=False)
     if not is_shut(extra):
         fail("a 65th socket is not refused")
     extra.close()
@@ -206,7 +271,7 @@ def no_line_end():
         link.sendall(blob)
     resident = status_of("VmRSS")
     link.sendall(b"\r\n")
-    wants("100 MB without a line end", read(link, len(UNKNOWN)), UNKNOWN)
+    wants("100 MB without a line end", read(link, len(GREETING)), GREETING)
     if resident > 20_000:
         fail(f"100 MB without a line end: {resident} kB are resident")
     link.close()
@@ -276,7 +341,7 @@ def few_descriptors():
     """More sockets than the server has descriptors for: links that are open go on, and new ones get in when others are closed."""
     links = [connect(), connect()]
     settle()
-    links += [connect() for _ in range(30)]
+    links += [connect(greeted=False) for _ in range(30)]
     settle()
     if not (answers(links[0]) and answers(links[1])):
         fail("without descriptors the first two links are not told anything")
@@ -289,9 +354,27 @@ def few_descriptors():
     link.close()
 
 
+def shutdown():
+    """The server ends, and what it told before is written."""
+    link = log_in(b"#4")
+    says("a last line", link, b';notify(player, "bye") + shutdown()', b"bye")
+    if not is_shut(link):
+        fail("a server that ends leaves a link open")
+    end = time.monotonic() + 20
+    while is_running():
+        if time.monotonic() > end:
+            fail("the server does not end")
+            return
+        time.sleep(0.1)
+
+
 if sys.argv[3:] == ["descriptors"]:
     few_descriptors()
+elif sys.argv[3:] == ["shutdown"]:
+    shutdown()
 else:
+    logins()
+    tasks()
     lines_and_replies()
     half_closed()
     in_order()

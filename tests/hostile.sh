@@ -1,6 +1,6 @@
 #!/bin/sh
-# Texts of 10 MB that are long, deep or wrong at their end are answered in seconds by whatever reads them: scripts by `moo-play`, programs and literals
-# by the benchmarks' program, which reads them at full size. A reader that takes time by the square of its text would take hours.
+# Texts that are long, deep or wrong at their end are answered in seconds by `moo-play`: scripts of 10 MB, and programs as long as a player can type them.
+# A reader of scripts that takes time by the square of its text would take hours. (Programs and literals of 1 MB are read by `./bench/run worst`.)
 set -u
 root=$(cd "$(dirname -- "$0")/.." && pwd) || exit 2
 work=$(mktemp -d) || exit 2
@@ -49,10 +49,57 @@ script "the longest lines" 0 '' 4800
 { lines 600000 'line 1 count'; printf 'line 1 count'; } >"$work/script"
 script "steps and no line end" 2 'moo-play: script: line 600002: Word\n' 0
 
-# Programs and literals: each has a line of its own, with its nanoseconds.
-ln -s "$root/moo-play" "$work/moo-bench"
-timeout 600 "$work/moo-bench" hostile >"$work/out" 2>"$work/errors" || fail "programs and literals: status $?, told $(head -c 200 "$work/errors")"
-[ "$(grep -c '^hostile ' "$work/out")" -ge 30 ] || fail "programs and literals: $(wc -l <"$work/out") lines"
-awk -F '\t' -v limit="$limit" '$5 > limit * 1000000000 { print $1 ": " $5 / 1000000000 " s"; slow = 1 } END { exit slow }' "$work/out" >"$work/slow" || fail "programs and literals: $(cat "$work/slow")"
+# program NAME BEFORE MIDDLE AFTER: a player types a program of 60,000 characters, BEFORE again and again, MIDDLE, and AFTER as often; it is programmed, or its
+# fault is told, and the next command is answered.
+program() {
+    {
+        printf 'key %064d\nopen 3\nline 3 connect #2\nline 3 .program #3:sum\n' 0
+        before=$2 middle=$3 after=$4 awk 'BEGIN {
+            before = ENVIRON["before"]; after = ENVIRON["after"]; count = int(60000 / (length(before) + length(after)))
+            for (i = 0; i < count; i++) printf "%s", before
+            printf "%s", ENVIRON["middle"]
+            for (i = 0; i < count; i++) printf "%s", after
+            print ""
+        }' | fold -w 4000 | sed 's/^/line 3 /'
+        printf 'line 3 .\nline 1 count\n'
+    } >"$work/script"
+    timeout "$limit" "$root/moo-play" fixture "$work/script" >"$work/out" 2>"$work/errors"
+    status=$?
+    [ "$status" -eq 0 ] && [ ! -s "$work/errors" ] || fail "program of $1: status $status, told $(head -c 200 "$work/errors")"
+    tail -n 1 "$work/out" | grep -q '^step [0-9]* value 1 ticks 5$' || fail "program of $1: $(tail -n 1 "$work/out" | head -c 200)"
+    tail -n 2 "$work/out" | head -n 1 | grep -Eq '^> 3 (Verb programmed\.|Line [0-9]+: [A-Z][a-z ]+)$' || fail "program of $1: $(tail -n 2 "$work/out" | head -n 1 | head -c 200)"
+}
+
+program "open parentheses" '(' '' ''
+program "parentheses" '(' 1 ')'
+program "closed parentheses" '' '' ')'
+program "a sum" '1+' '1;' ''
+program "a sum without an end" '1+' '' ''
+program "assignments" 'o.p=' '1;' ''
+program "properties" '' 'o' '.p'
+program "properties in parentheses" 'o.(' 1 ')'
+program "statements" '1;' '' ''
+program "statements and a wrong one" 'a;' '?' ''
+program "empty statements" ';' '' ''
+program "a name" 'a' ';' ''
+program "digits" '1' ';' ''
+program "minus signs" '-' '1;' ''
+program "a text of backslashes" '' '"' '\\'
+program "texts" '""+' '1;' ''
+program "spaces" ' ' '1;' ' '
+program "open brackets" 'a[' '' ''
+program "brackets" 'a[' 1 ']'
+program "lists" '{' '' '}'
+program "open scatterings" '{a, ' '' ''
+program "a list" '{' 1 ', 1'
+program "calls" 'f(' '' ')'
+program "calls of verbs" 'a:b(' '' ')'
+program "conditions" '1 ? 2 | ' '3;' ''
+program "catches" '`' 1 " ! ANY'"
+program "branches" 'if (1) ' '' ' endif'
+program "a chain of branches" 'if (1) ' '' ' elseif (1)'
+program "loops without an end" 'while (1) ' '' ''
+program "forks" 'fork (0) ' '' ' endfork'
+program "leavings of no loop" 'break;' '' ''
 
 [ "$failures" -eq 0 ]

@@ -73,11 +73,14 @@ start() {
     limit=$1 && shift
     for port in 7783 17783 27783 37783 47783 none; do
         [ "$port" != none ] || { fail "no port is free, or the server does not start: $(cat "$work/told")"; exit 1; }
+        : >"$work/told"
         sh -c 'ulimit -n "$1" && shift && exec "$@"' sh "$limit" "$server" fixture --port "$port" "$@" >"$work/out" 2>"$work/told" </dev/null &
         pid=$!
-        for time in 1 2 3 4 5 6 7 8 9 10; do
+        # (a whole line, which the server may write in pieces)
+        time=0
+        while [ "$(wc -l <"$work/told")" -eq 0 ] && kill -0 "$pid" 2>/dev/null && [ "$time" -lt 100 ]; do
             sleep 0.1
-            [ -s "$work/told" ] && break
+            time=$((time + 1))
         done
         echo "moo-server: listening on 127.0.0.1:$port" | cmp -s - "$work/told" && return
         stop
@@ -88,13 +91,14 @@ start "$(ulimit -n)" --workers 2
 run fixture --port "$port"
 wants "a port that is taken" 2 'moo-server: port\n'
 
-# Two lines, cut and ended in several ways, options and "are you there". The client has half-closed when its output comes.
+# Three lines, cut and ended in several ways, options and "are you there". The client has half-closed when its output comes.
 printf 'loo' >"$work/lines"
 printf 'ks\r\ncount\r\n\377\375\001\377\366LOOKS\n' >>"$work/lines"
-printf "\377\374\001[Yes]\r\nI couldn't understand that.\r\nI couldn't understand that.\r\n" | sort >"$work/wanted"
+# Nobody has logged in on the link, so its opening and each of its lines are answered by how to log in.
+printf '[Yes]\r\nType connect #n\r\nType connect #n\r\nType connect #n\r\nType connect #n\r\n' | sort >"$work/wanted"
 if command -v nc >/dev/null 2>&1; then
     for client in "nc -N" "nc"; do
-        (cat "$work/lines"; [ "$client" = "nc -N" ] || sleep 1) | timeout 5 $client 127.0.0.1 "$port" 2>/dev/null | sort >"$work/got"
+        (cat "$work/lines"; [ "$client" = "nc -N" ] || sleep 1) | timeout 5 $client 127.0.0.1 "$port" 2>/dev/null | tr -d '\377\374\001' | sort >"$work/got"
         # Other netcats have no -N.
         [ -s "$work/got" ] || [ "$client" = nc ] || continue
         cmp -s "$work/wanted" "$work/got" || fail "$client: got $(cat "$work/got")"
@@ -106,6 +110,20 @@ fi
 kill -0 "$pid" 2>/dev/null || fail "the server has ended: $(cat "$work/told")"
 [ "$(wc -l <"$work/told")" -eq 1 ] && [ ! -s "$work/out" ] || fail "told $(cat "$work/told"), printed $(head -c 200 "$work/out")"
 stop
+
+# A wizard's verb ends it.
+if command -v python3 >/dev/null 2>&1; then
+    start "$(ulimit -n)" --workers 2
+    if timeout 60 python3 "$root/tests/clients.py" "$port" "$pid" shutdown; then
+        wait "$pid"
+        status=$?
+        pid=
+        [ "$status" -eq 0 ] && [ "$(wc -l <"$work/told")" -eq 1 ] && [ ! -s "$work/out" ] || fail "shutdown: status $status, told $(cat "$work/told")"
+    else
+        fail "the client that ends the server"
+        stop
+    fi
+fi
 
 # No descriptor is left, and then there are some again.
 if command -v python3 >/dev/null 2>&1; then

@@ -1,11 +1,9 @@
--- Where a world's objects agree, the functions that change properties and verbs leave them so.
+-- Where a world stands, the functions that change properties and verbs leave it so.
 use Rattle.std.proofs.Common.{◌≡◌, ℕ, ℤ, ◌&&◌, ◌++◌, List, [], ◌∷◌, refl}
 use Rattle.std.specs.Prelude.{codes}
 use Rattle.spec_value.specs.Datum.{Datum, object, text, list, no_data, item, property_not_found, verb_not_found, invalid_argument}
 use Rattle.spec_world.specs.World.{World, Verb, object_at}
 use Rattle.spec_world.specs.Inherit.{slot_at}
-use Rattle.spec_world.specs.Agreeing.{ObjectsAgree}
-use Rattle.spec_world.proofs.ObjectsKept.{attributes_keep, content_keeps}
 use Rattle.spec_world.specs.Permissions.{in_place, change_members, change_owner, write_slot, write_verb, may}
 use Rattle.spec_world.specs.Members.{verb_added, verb_deleted, verb_changed, with_verb, without_verb}
 use Rattle.spec_moo.specs.Scene.{Scene}
@@ -13,7 +11,9 @@ use Rattle.spec_moo.specs.NativeEffect.{NativeEffect}
 use Rattle.spec_moo.specs.Natives.Rows.{is_valid}
 use Rattle.spec_moo.specs.Natives.Properties.{are_bits, with_slot_bits, set_property_info_row}
 use Rattle.spec_moo.specs.Natives.Verbs.{verb_place, if_verb, with_info, info_fits, set_verb_info_row, specifier, with_specifier, set_verb_args_row, new_verb, add_verb_row, delete_verb_row}
-use Rattle.inherit.proofs.Keeping.{filled_slot}
+use Rattle.rules.specs.Standing.{IsStanding}
+use Rattle.rules.proofs.Keeping.{filled_slot}
+use Rattle.rules.proofs.InheritStanding.{attributes_stand, content_stands}
 use Rattle.builtins_world.proofs.Keeping.{LeavesWell, Keeping, tested, there}
 
 -- ---- properties
@@ -24,27 +24,27 @@ set_property_info_keeps (object o ∷ text p ∷ list (item (object owner) (item
     tested (may s.world c.call.programmer (write_slot o p)) _ _ h (λ k1.
     tested (may s.world c.call.programmer (change_owner t.owner owner)) _ _ h (λ k2.
     tested (are_bits (codes "rwc") b && is_valid s owner) _ _ h (λ k3.
-    content_keeps s.world o p t (with_slot_bits t owner b) h d (λ y is k. filled_slot s.world o p y t h is d k))))))
+    content_stands s.world o p t (with_slot_bits t owner b) h d (λ y is k. filled_slot s.world o p y t h.objects is d k))))))
 set_property_info_keeps _ s c h = h
 
 -- ---- verbs
 
-pub changed_verb : (w : World) (o : ℤ) (n : ℕ) (f : Verb → Verb) → ObjectsAgree w → ObjectsAgree (verb_changed w o n f)
+pub changed_verb : (w : World) (o : ℤ) (n : ℕ) (f : Verb → Verb) → IsStanding w → IsStanding (verb_changed w o n f)
 unfolding verb_changed
 changed_verb w o n f h =
-    attributes_keep w o (λ x. record x { verbs = with_verb x.verbs n f }) h (λ x. record { parent = refl; location = refl; children = refl; contents = refl; defines = refl; slots = refl })
+    attributes_stand w o (λ x. record x { verbs = with_verb x.verbs n f }) h (λ x. record { parent = refl; location = refl; children = refl; contents = refl; defines = refl; slots = refl }) (λ x. refl)
 
-added_verb : (w : World) (o : ℤ) (v : Verb) → ObjectsAgree w → ObjectsAgree (verb_added w o v)
+added_verb : (w : World) (o : ℤ) (v : Verb) → IsStanding w → IsStanding (verb_added w o v)
 unfolding verb_added
 added_verb w o v h =
-    attributes_keep w o (λ x. record x { verbs = x.verbs ++ v ∷ [] }) h (λ x. record { parent = refl; location = refl; children = refl; contents = refl; defines = refl; slots = refl })
+    attributes_stand w o (λ x. record x { verbs = x.verbs ++ v ∷ [] }) h (λ x. record { parent = refl; location = refl; children = refl; contents = refl; defines = refl; slots = refl }) (λ x. refl)
 
-deleted_verb : (w : World) (o : ℤ) (n : ℕ) → ObjectsAgree w → ObjectsAgree (verb_deleted w o n)
+deleted_verb : (w : World) (o : ℤ) (n : ℕ) → IsStanding w → IsStanding (verb_deleted w o n)
 unfolding verb_deleted
 deleted_verb w o n h =
-    attributes_keep w o (λ x. record x { verbs = without_verb x.verbs n }) h (λ x. record { parent = refl; location = refl; children = refl; contents = refl; defines = refl; slots = refl })
+    attributes_stand w o (λ x. record x { verbs = without_verb x.verbs n }) h (λ x. record { parent = refl; location = refl; children = refl; contents = refl; defines = refl; slots = refl }) (λ x. refl)
 
-pub verb_there : (s : Scene) (o : ℤ) (d : Datum) (f : ℕ → Verb → NativeEffect) → ObjectsAgree s.world → ((n : ℕ) (v : Verb) → LeavesWell (f n v)) → LeavesWell (if_verb s o d f)
+pub verb_there : (s : Scene) (o : ℤ) (d : Datum) (f : ℕ → Verb → NativeEffect) → IsStanding s.world → ((n : ℕ) (v : Verb) → LeavesWell (f n v)) → LeavesWell (if_verb s o d f)
 verb_there s o d f h more =
     there s invalid_argument (object_at s.world o) _ h (λ x e. there s verb_not_found (verb_place x.verbs d) _ h (λ n k. there s verb_not_found (in_place x.verbs n) (f n) h (λ v l. more n v)))
 

@@ -1,15 +1,13 @@
--- What a built-in function leaves of a world whose objects agree.
+-- What a built-in function leaves of a world that stands.
 use Rattle.std.proofs.Common.{◌≡◌, ℤ, Bool, true, false, not, List, [], ◌∷◌, Option, Some, None, Result, Ok, Err, OnOk, refl, sym, ap, ◌∙◌, subst, IsTrue, zero, if◌then◌else◌}
 use Rattle.std.specs.Prelude.{IfOk, pos}
 use Rattle.spec_value.specs.Datum.{Datum, object, text, Text, property_not_found, invalid_argument, ErrorCode}
 use Rattle.spec_value.specs.Answer.{Answer}
 use Rattle.spec_world.specs.World.{World, Object, object_at}
 use Rattle.spec_world.specs.Inherit.{slot_at}
-use Rattle.spec_world.specs.Agreeing.{ObjectsAgree}
 use Rattle.spec_world.specs.Permissions.{may, write_slot}
 use Rattle.spec_world.specs.ObjectLaws.{Defines}
 use Rattle.spec_world.proofs.Trees.{some_same}
-use Rattle.spec_world.proofs.ObjectsKept.{content_keeps}
 use Rattle.spec_moo.specs.Scene.{Scene, in_world}
 use Rattle.spec_moo.specs.NativeEffect.{Caller, NativeEffect, answers, complains, begins, waits, dies, becomes}
 use Rattle.spec_moo.specs.Natives.Rows.{if_there}
@@ -17,7 +15,9 @@ use Rattle.spec_moo.specs.Natives.Properties.{defines_it, clear_property_row}
 use Rattle.moo_value.specs.Answers.{answer_of}
 use Rattle.moo_value.specs.declared.error.MooError.{MooError}
 use Rattle.world.specs.Law.{Goes}
-use Rattle.inherit.specs.Lines.{AreAgreeing}
+use Rattle.rules.specs.Lines.{AreAgreeing}
+use Rattle.rules.specs.Standing.{IsStanding}
+use Rattle.rules.proofs.InheritStanding.{content_stands}
 use Rattle.builtins_world.specs.Said.{Does, with_programmer}
 
 -- ---- effects
@@ -31,23 +31,23 @@ world_left (dies s) = s.world
 world_left (becomes s who) = s.world
 
 abbrev pub LeavesWell : NativeEffect → Type 0
-LeavesWell e = ObjectsAgree (world_left e)
+LeavesWell e = IsStanding (world_left e)
 
 -- where a test fails, nothing has changed
 pub tested : (b : Bool) (e f : NativeEffect) → LeavesWell f → (b ≡ true → LeavesWell e) → LeavesWell (if b then e else f)
 tested true e f h more = more refl
 tested false e f h more = h
 
-pub there : {X : Type 0} (s : Scene) (err : ErrorCode) (o : Option X) (f : X → NativeEffect) → ObjectsAgree s.world
+pub there : {X : Type 0} (s : Scene) (err : ErrorCode) (o : Option X) (f : X → NativeEffect) → IsStanding s.world
     → ((x : X) → o ≡ Some x → LeavesWell (f x)) → LeavesWell (if_there s err o f)
 there s err None f h more = h
 there s err (Some x) f h more = more x refl
 
 -- ---- calls
 
--- where a world's objects agree, a row leaves them so
+-- where a world stands, a row leaves it so
 abbrev pub Keeping : (Scene → Caller → NativeEffect) → Type 0
-Keeping row = (s : Scene) (c : Caller) → ObjectsAgree s.world → LeavesWell (row s c)
+Keeping row = (s : Scene) (c : Caller) → IsStanding s.world → LeavesWell (row s c)
 
 -- some scene of a world, and some caller
 some_scene : World → Scene
@@ -77,9 +77,9 @@ some_caller =
       callers = [];
     }
 
-does_well : (row : Scene → Caller → NativeEffect) (w u : World) (who : ℤ) (a : Answer) → Keeping row → Does row w u who a → ObjectsAgree w → ObjectsAgree u
+does_well : (row : Scene → Caller → NativeEffect) (w u : World) (who : ℤ) (a : Answer) → Keeping row → Does row w u who a → IsStanding w → IsStanding u
 does_well row w u who a keeps does h =
-    subst ObjectsAgree (ap world_left (does (some_scene w) some_caller)) (keeps (in_world (some_scene w) w) (with_programmer some_caller who) h)
+    subst IsStanding (ap world_left (does (some_scene w) some_caller)) (keeps (in_world (some_scene w) w) (with_programmer some_caller who) h)
 
 -- the worlds that a view allows after a call of that row
 pub goes_well : {V : Type 0} (holds : V → World → Type 0) (now : V → World → World) (old new : V) (row : Scene → Caller → NativeEffect) (who : ℤ) (a : Answer)
@@ -102,7 +102,7 @@ clear_property_keeps (object o ∷ text p ∷ []) s c h =
     there s invalid_argument (object_at s.world o) _ h (λ y e. there s property_not_found (slot_at s.world o p) _ h (λ t d.
     there s invalid_argument (object_at s.world o) _ h (λ x e.
     tested (may s.world c.call.programmer (write_slot o p)) _ _ h (λ k1.
-    tested (not (defines_it x p)) _ _ h (λ k2. content_keeps s.world o p t (record t { content = None }) h d (λ z is k. never x z e is (not_so _ k2) k))))))
+    tested (not (defines_it x p)) _ _ h (λ k2. content_stands s.world o p t (record t { content = None }) h d (λ z is k. never x z e is (not_so _ k2) k))))))
   where
     never : (x z : Object) → object_at s.world o ≡ Some x → object_at s.world o ≡ Some z → defines_it x p ≡ false → Defines z p → IsTrue false
     never x z e is known k = let same : x ≡ z = some_same (sym e ∙ is) in let clash : defines_it z p ≡ false = subst (λ y. defines_it y p ≡ false) same known in absurd (cc (clash, k))

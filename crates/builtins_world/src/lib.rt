@@ -7,5 +7,5 @@ pub mod objects;
 pub mod own_verb;
 pub mod properties;
 mod specifier;
-mod values;
+pub mod values;
 pub mod verbs;

@@ -5,10 +5,10 @@ ghost use Rattle.spec_moo.specs.Natives.Verbs.{verb_place, place_of_word as plac
 
 use moo_arith::index::natural;
 use moo_value::value::{Shown, Value};
-use verb_match::names::matches;
+use rules::verb_match::names::matches;
 use world::verb::Verb;
 
-#[tactic(auto, using(permissions::proofs::Places::stands_there, crate::proofs::Places::placed_there, crate::proofs::Places::placed_nowhere))]
+#[tactic(auto, using(rules::proofs::Places::stands_there, crate::proofs::Places::placed_there, crate::proofs::Places::placed_nowhere))]
 /// A verb with its place from 0, by a word that one of its names spells, or by its place from 1.
 pub fn own_verb<'a>(verbs: &'a [Verb], which: &Value) -> Option<(usize, &'a Verb)>
     ensures { MatchOption result (verb_place verbs.now which.now ≡ None) (λ f. (verb_place verbs.now which.now ≡ Some f.0) × (in_place verbs.now f.0 ≡ Some f.1.now)) }
@@ -23,7 +23,7 @@ pub fn own_verb<'a>(verbs: &'a [Verb], which: &Value) -> Option<(usize, &'a Verb
     }
 }
 
-#[tactic(auto, using(permissions::proofs::Places::stands_there, permissions::proofs::Places::stands_none))]
+#[tactic(auto, using(rules::proofs::Places::stands_there, rules::proofs::Places::stands_none))]
 fn at_place(verbs: &[Verb], place: usize) -> Option<(usize, &Verb)>
     ensures { MatchOption result (in_place verbs.now place ≡ None) (λ f. (f.0 ≡ place) × (in_place verbs.now place ≡ Some f.1.now)) }
 {

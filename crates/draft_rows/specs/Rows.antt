@@ -5,7 +5,7 @@ use Rattle.spec_value.specs.Operators.{plus}
 use Rattle.spec_program.specs.Tree.{Expr, literal, variable, own_length, binary, listing, call, verb_call, index, caught, assignment, scatter, argument, splice, no_arguments, any_code, codes_in, the_code, instead, to_variable, to_index, no_items, required, remaining, defaulted, Statement, give_zero, give, branch, for_each, repeat, fork, guarded, finished, next_turn, the_end, no_branches, on, else_do, no_arms, except}
 use Rattle.spec_moo.specs.Held.{before_list, listed, spliced}
 use Rattle.spec_moo.specs.Effects.Handlers.{all_codes, no_codes}
-use Rattle.spec_moo_rows.specs.Programs.{number, word, object_number, one_given, only}
+use Rattle.spec_fixture.specs.Programs.{number, word, object_number, one_given, only}
 use Rattle.moo_code.specs.Instruction as code
 use Rattle.moo_code.specs.Instruction.{Operation, push, load, length_of, two, make_list, call_verb, take_item, caught_value, call_function, store, scatter_on, store_default, return_top, return_zero, finish, finish_body, test, test_loop, first_item, next_item, start_fork, continue_loops, end_finally, begin_part, as_value, never, in_variable, in_index, operand_at, target_at, Slot, one_value, other_values, with_default, Sign, in_loop, with_finally, with_handlers, with_code, with_instead}
 use Rattle.moo_code.specs.Layout.{outermost, straight, received, expr_layout, statement_layout}

@@ -1,7 +1,7 @@
-//! Hostile texts of 10 MB: programs and literals that are long, deep or wrong at their end. Each is read once, and what was read is dropped.
+//! Hostile texts of 1 MB: programs and literals that are long, deep or wrong at their end. Each is read once, and what was read is dropped.
 use bench_report::report::{Mode, Subject, since, tell};
 use moo_compiler::program::Program;
-use moo_syntax::parse::parse;
+use moo_parse::parse::parse;
 use moo_value::read::from_literal;
 use std::alloc::{AllocError, Global};
 use std::io;
@@ -9,7 +9,7 @@ use std::rt::Clock;
 use std::time::Instant;
 
 /// How many bytes each text has, and a few more.
-const BYTES: usize = 10_000_000;
+const BYTES: usize = 1_000_000;
 
 /// What reads a text.
 #[derive(Clone, Copy)]
@@ -29,7 +29,7 @@ type Hostile = (
 
 use Reader::{Literal, Program as Source};
 
-const TEXTS: [Hostile; 33] = [
+const TEXTS: [Hostile; 47] = [
     ("open parentheses", Source, "(", "", ""),
     ("parentheses", Source, "(", "1", ");"),
     ("closed parentheses", Source, "", "", ")"),
@@ -53,6 +53,20 @@ const TEXTS: [Hostile; 33] = [
     ("spaces", Source, " ", "1;", " "),
     ("line ends", Source, "\n", "?", "\n"),
     ("characters that are none", Source, "\u{7f}", "", ""),
+    ("open brackets", Source, "a[", "", ""),
+    ("brackets", Source, "a[", "1", "]"),
+    ("lists", Source, "{", "", "}"),
+    ("open scatterings", Source, "{a, ", "", ""),
+    ("a list", Source, "{", "1", ", 1"),
+    ("calls", Source, "f(", "", ")"),
+    ("calls of verbs", Source, "a:b(", "", ")"),
+    ("conditions", Source, "1 ? 2 | ", "3;", ""),
+    ("catches", Source, "`", "1", " ! ANY'"),
+    ("branches", Source, "if (1) ", "", " endif"),
+    ("a chain of branches", Source, "if (1) ", "", " elseif (1)"),
+    ("loops without an end", Source, "while (1) ", "", ""),
+    ("forks", Source, "fork (0) ", "", " endfork"),
+    ("leavings of no loop", Source, "break;", "", ""),
     ("open braces", Literal, "{", "", ""),
     ("braces", Literal, "{", "", "}"),
     ("closed braces", Literal, "}", "", ""),

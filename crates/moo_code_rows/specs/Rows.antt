@@ -3,7 +3,7 @@ use Rattle.std.specs.Prelude.{◌≡◌, pos, [], ◌∷◌, Some, None, codes}
 use Rattle.spec_value.specs.Datum.{integer, error, zero_division}
 use Rattle.spec_value.specs.Operators.{plus, divided_by}
 use Rattle.spec_program.specs.Tree.{variable, own_length, binary, listing, index, argument, splice, no_arguments, codes_in, Program, the_end, seq, for_range, repeat, leave_loop, finished, guarded, except, no_arms, literal}
-use Rattle.spec_moo_rows.specs.Programs.{number, returning, setting, only, one_given}
+use Rattle.spec_fixture.specs.Programs.{number, returning, setting, only, one_given}
 use Rattle.spec_moo_rows.specs.Trying.{wizards, value_of, came_to, tried}
 use Rattle.moo_code_rows.specs.Running.{machine_tried}
 

@@ -12,7 +12,7 @@ ghost use Rattle.moo_program.specs.Gathering.{forks_in};
 ghost use Rattle.moo_program.specs.Meaning.{some_name_at, body_at};
 ghost use Rattle.moo_machine.specs.Shown.{Around, performs_of};
 ghost use Rattle.moo_task.specs.Performing.{HasNames};
-ghost use Rattle.moo_forks.specs.Forking.{forks, fork_shown, in_scene, request_shown, HasId, IsNoInteger, StaysAt};
+ghost use Rattle.moo_forks.specs.Forking.{forks, fork_shown, in_scene, request_shown, HasId, IsNoInteger, ReadsNowhere, StaysAt};
 
 use crate::body::forked;
 use crate::queue::{enqueue, moment_after, next_id};
@@ -59,6 +59,7 @@ pub fn start_fork(
     ensures shown { IfOk result (λ f. (w : World)
         → forks (some_name_at (names_of task.old.frame.program) variable) (body_at (forks_in (code_of task.old.frame.program)) number) deeds.old w task.old
         ≡ fork_shown f deeds.new w task.new) }
+    ensures quiet { IfOk result ReadsNowhere }
     ensures player { task.new.player ≡ task.old.player }
 {
     let names = task.frame.names();

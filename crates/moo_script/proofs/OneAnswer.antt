@@ -1,12 +1,12 @@
 -- A line has one answer.
-use Rattle.std.proofs.Common.{◌≡◌, ℕ, true, false, ◌==◌, IsTrue, List, ◌∷◌, ◌++◌, length, take, drop, get_or, position, unwrap_or, refl, sym, ap, ◌∙◌}
+use Rattle.std.proofs.Common.{◌≡◌, ℕ, true, false, ◌==◌, IsTrue, List, ◌∷◌, ◌++◌, length, take, drop, position, unwrap_or, refl, sym, ap, ◌∙◌}
 use Rattle.std.proofs.lemmas.List.{take_at, drop_at}
 use Rattle.moo_script.specs.declared.fault.LineFault.{LineFault}
 use Rattle.moo_script.specs.declared.fault.LineFault.TheVariants as fault
 use Rattle.moo_script.specs.declared.script.Command.{Command}
-use Rattle.moo_script.specs.Numbers.{is_number}
-use Rattle.moo_script.specs.Lines.{Line, moment, input, is_field, is_short_text, number_of, text_of, meaning, IsLine, Says, IsFaulty}
+use Rattle.moo_script.specs.Lines.{Line, numbered, input, is_field, is_short_text, number_fits, text_of, meaning, IsLine, Says, IsFaulty}
 use Rattle.moo_script.proofs.Spaces.{after_field}
+use Rattle.moo_script.proofs.Forms.{one_word, no_input}
 
 one_split : (c t d u : List ℕ) → IsTrue (is_field c) → IsTrue (is_field d) → c ++ 32 ∷ t ≡ d ++ 32 ∷ u → (c ≡ d) × (t ≡ u)
 one_split c t d u h k e =
@@ -16,9 +16,9 @@ one_split c t d u h k e =
     )
 
 one_line : (bs : List ℕ) (l m : Line) → IsLine bs l → IsLine bs m → l ≡ m
-one_line bs (moment n) (moment p) h k = ap moment (ap (drop 7) (sym h.0 ∙ k.0))
-one_line bs (moment n) (input d u) h k = let x : true ≡ false = ap (λ b. get_or b 0 0 == 109) (sym h.0 ∙ k.0) in cc
-one_line bs (input c t) (moment p) h k = let x : true ≡ false = ap (λ b. get_or b 0 0 == 108) (sym h.0 ∙ k.0) in cc
+one_line bs (numbered v n) (numbered w p) h k = let s = one_word v w n p (sym h.0 ∙ k.0) in ap (λ u. numbered u n) s.0 ∙ ap (numbered w) s.1
+one_line bs (numbered v n) (input d u) h k = absurd (no_input v n (d ++ 32 ∷ u) (sym h.0 ∙ k.0))
+one_line bs (input c t) (numbered w p) h k = absurd (no_input w p (c ++ 32 ∷ t) (sym k.0 ∙ h.0))
 one_line bs (input c t) (input d u) h k =
     let p = one_split c t d u h.1 k.1 (ap (drop 5) (sym h.0 ∙ k.0)) in
     ap (λ x. input x t) p.0 ∙ ap (λ y. input d y) p.1
@@ -26,8 +26,8 @@ one_line bs (input c t) (input d u) h k =
 pub one_command : (bs : List ℕ) (c d : Command) → Says bs c → Says bs d → c ≡ d
 one_command bs c d h k = h.4 ∙ ap meaning (one_line bs h.0 k.0 h.1 k.1) ∙ sym k.4
 
-number_test : (bs : List ℕ) (l m : Line) → IsLine bs l → IsLine bs m → is_number (number_of l) ≡ is_number (number_of m)
-number_test bs l m h k = ap (λ x. is_number (number_of x)) (one_line bs l m h k)
+number_test : (bs : List ℕ) (l m : Line) → IsLine bs l → IsLine bs m → number_fits l ≡ number_fits m
+number_test bs l m h k = ap number_fits (one_line bs l m h k)
 
 text_test : (bs : List ℕ) (l m : Line) → IsLine bs l → IsLine bs m → is_short_text (text_of l) ≡ is_short_text (text_of m)
 text_test bs l m h k = ap (λ x. is_short_text (text_of x)) (one_line bs l m h k)

@@ -1,7 +1,9 @@
 //! Reading a script.
 ghost use Rattle.std.specs.Prelude.{◌≡◌, ◌++◌, ◌∷◌, ◌==◌, ℕ, List, length, codes, position, IfSome, IfOk, IfErr, IsTrue, IsFalse, MatchOption};
 ghost use Rattle.spec_value.specs.Datum.{is_text};
-ghost use Rattle.moo_script.specs.Lines.{Says, IsRefused};
+ghost use Rattle.moo_script.specs.Lines.{Says, IsRefused, letters, word_meaning, numbered, number_fits};
+ghost use Rattle.moo_script.specs.declared.script.Word.{Word as Meant};
+ghost use Rattle.moo_script.specs.Numbers.{is_number, number_value};
 ghost use Rattle.moo_script.specs.Scripts.{is_one_line, GivesKey, GiveSteps, IsScript, IsBodyFault, Fault, IsFault};
 
 use crate::fault::{LineFault, ScriptFault};
@@ -10,6 +12,18 @@ use crate::number::{read_key, read_number};
 use moo_value::text::Text;
 use std::alloc::{AllocError, Global};
 use task_step::step::{Event, LONGEST_LINE, Step};
+
+/// What stands before a number that is alone in its line.
+#[derive(Clone, Copy)]
+enum Word {
+    Moment,
+    Open,
+    Close,
+    Ready,
+}
+
+/// The greatest number of a task in a script.
+const GREATEST_TASK: u32 = 2_147_483_647;
 
 /// What a line says.
 #[derive(Drop)]
@@ -26,7 +40,7 @@ enum Refusal {
 }
 
 /// The steps of a script, numbered on from the first number given. Each line of a script ends with a line end. The first is `key H`, then come
-/// `moment N` and `line C TEXT` in any order; the moment begins at 0. The earliest faulty line decides, in it the first kind of fault.
+/// `moment N`, `open C`, `line C TEXT`, `close C` and `ready ID` in any order; the moment begins at 0. The earliest faulty line decides, in it the first kind of fault.
 pub fn read_script(
     alloc: Global,
     script: &[u8],
@@ -141,27 +155,69 @@ fn read_line(alloc: Global, line: &[u8]) -> Result<Command, Refusal>
     ensures says { IfOk result (λ c. Says line.now c) }
     ensures refused { IfErr result (λ r. IsRefused line.now r) }
 {
-    if let Some(field) = line.strip_prefix(b"moment ".as_slice()) {
-        return read_moment(field);
-    }
     if let Some(rest) = line.strip_prefix(b"line ".as_slice()) {
         return read_input(alloc, rest);
     }
-    Err(Refusal::Fault(LineFault::Word))
+    match split_word(line) {
+        Some((word, field)) => read_numbered(word, field),
+        None => Err(Refusal::Fault(LineFault::Word)),
+    }
 }
 
-#[tactic(auto, using(crate::proofs::Forms::moment_says, crate::proofs::Forms::moment_number, crate::proofs::Forms::moment_word))]
-fn read_moment(field: &[u8]) -> Result<Command, Refusal>
-    ensures says { IfOk result (λ c. Says (codes "moment " ++ field.now) c) }
-    ensures refused { IfErr result (λ r. IsRefused (codes "moment " ++ field.now) r) }
+// The word that a line begins with, and what stands behind it.
+#[tactic(auto, using(crate::proofs::Forms::begins, crate::proofs::Forms::no_word))]
+fn split_word(line: &[u8]) -> Option<(Word, &[u8])>
+    ensures { MatchOption result ((w : Meant) (f : List ℕ) → line.now ≡ letters w ++ f → ⊥) (λ p. line.now ≡ letters p.0 ++ p.1.now) }
+{
+    if let Some(field) = line.strip_prefix(b"moment ".as_slice()) {
+        return Some((Word::Moment, field));
+    }
+    if let Some(field) = line.strip_prefix(b"open ".as_slice()) {
+        return Some((Word::Open, field));
+    }
+    if let Some(field) = line.strip_prefix(b"close ".as_slice()) {
+        return Some((Word::Close, field));
+    }
+    if let Some(field) = line.strip_prefix(b"ready ".as_slice()) {
+        return Some((Word::Ready, field));
+    }
+    None
+}
+
+// A word and its number.
+#[tactic(auto, using(crate::proofs::Forms::numbered_says, crate::proofs::Forms::numbered_number, crate::proofs::Forms::no_number, crate::proofs::Forms::numbered_word))]
+fn read_numbered(word: Word, field: &[u8]) -> Result<Command, Refusal>
+    ensures says { IfOk result (λ c. Says (letters word ++ field.now) c) }
+    ensures refused { IfErr result (λ r. IsRefused (letters word ++ field.now) r) }
 {
     if !is_field(field) {
         return Err(Refusal::Fault(LineFault::Word));
     }
-    let Some(moment) = read_number(field) else {
+    let Some(number) = read_number(field) else {
         return Err(Refusal::Fault(LineFault::Number));
     };
-    Ok(Command::Moment(moment))
+    match command_of(word, number) {
+        Some(command) => Ok(command),
+        None => Err(Refusal::Fault(LineFault::Number)),
+    }
+}
+
+// What a word means with its number, if a task can have that one.
+#[tactic(auto, using(crate::proofs::Forms::too_great, crate::proofs::Forms::in_bounds))]
+fn command_of(word: Word, number: u32) -> Option<Command>
+    ensures { (f : List ℕ) → IsTrue (is_number f) → number ≡ number_value f → MatchOption result (IsFalse (number_fits (numbered word f))) (λ c. IsTrue (number_fits (numbered word f)) × (c ≡ word_meaning word (number_value f))) }
+{
+    match word {
+        Word::Moment => Some(Command::Moment(number)),
+        Word::Open => Some(Command::Event(Event::Open(number))),
+        Word::Close => Some(Command::Event(Event::Close(number))),
+        Word::Ready => {
+            if number > GREATEST_TASK {
+                return None;
+            }
+            Some(Command::Event(Event::Ready(number as i32)))
+        }
+    }
 }
 
 #[tactic(auto, using(crate::proofs::Forms::input_says, crate::proofs::Forms::input_number, crate::proofs::Forms::input_long, crate::proofs::Forms::input_text, crate::proofs::Forms::input_word))]

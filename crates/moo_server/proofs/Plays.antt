@@ -1,15 +1,17 @@
 -- A list that is played a part after the other.
-use Rattle.std.proofs.Common.{◌≡◌, ℕ, zero, suc, ◌+◌, ◌-◌, ◌<◌, ◌≤◌, ◌==◌, ◌⊎◌, inl, inr, true, IsTrue, List, [], ◌∷◌, ◌++◌, length, take, drop, slice_range, Option, refl, sym, ap, ◌∙◌, subst, arith, take-append-drop, length-take, append_assoc}
-use Rattle.std.specs.List.{list_all}
+use Rattle.std.proofs.Common.{◌≡◌, ℕ, zero, suc, ◌+◌, ◌-◌, ◌<◌, ◌≤◌, ◌⊎◌, inl, inr, IsTrue, List, [], ◌∷◌, ◌++◌, length, take, drop, slice_range, Option, refl, sym, ap, ◌∙◌, subst, arith, length-take, append_assoc}
 use Rattle.std.specs.Io.KnownBytes.{Appends}
 use Rattle.std.proofs.Math.Seq.{take-length}
 use Rattle.std.proofs.lemmas.Bool.{and_parts, and_from, eqb-true}
 use Rattle.std.specs.Prelude.{max}
 use Rattle.spec_world.specs.World.{World}
-use Rattle.spec_step.specs.Step.{Step, in_range, runs_on, RunsOn, AllInRange}
+use Rattle.spec_step.specs.Step.{Step, runs_on, RunsOn, AllInRange}
 use Rattle.spec_step.specs.Outcome.{Outcome}
-use Rattle.spec_task.specs.Step.{play1, play}
-use Rattle.spec_task.proofs.Steps.{next_follows, play_goes_on}
+use Rattle.spec_moo.specs.Steps.{play1, play}
+use Rattle.spec_moo.proofs.StepWorlds.{next_follows, play_goes_on}
+use Rattle.spec_world.proofs.WorldsKept.{agrees_of}
+use Rattle.world.specs.Sound.{IsSound}
+use Rattle.world.proofs.SoundKeeps.{sound_step}
 use Rattle.moo_server.specs.Printed.{outcome_lines, printed}
 use Rattle.task_step.specs.declared.partial.Partial.{Partial}
 use Rattle.task_step.specs.declared.partial.Refusal.{Refusal}
@@ -44,24 +46,25 @@ later_range (suc k) [] h = refl
 later_range (suc k) (s ∷ ss) h = later_range k ss (and_parts _ _ h).1
 
 -- the next number after steps that run on
-next_after : (w : World) (ss : List Step) → RunsOn w ss → ((play w ss).0).next ≡ w.next + length ss
+next_after : (w : World) (ss : List Step) → IsSound w → AllInRange ss → RunsOn w ss → ((play w ss).0).next ≡ w.next + length ss
 unfolding play
-next_after w [] h = omega arith
-next_after w (s ∷ ss) h =
+next_after w [] sound all h = omega arith
+next_after w (s ∷ ss) sound all h =
     let p = and_parts _ _ h in
+    let q = and_parts _ _ all in
     let number : s.number ≡ w.next = eqb-true s.number w.next p.0 in
     let u = (play1 w s).0 in
-    let follows : u.next ≡ max (suc s.number) w.next = next_follows w s in
+    let follows : u.next ≡ max (suc s.number) w.next = next_follows w s (agrees_of w sound.well_formed) q.0 in
     let e : suc w.next ≡ u.next = omega (arith, number, follows) in
     let P : ℕ → Type 0 = λ n. IsTrue (runs_on n ss) in
-    let rest = next_after u ss (subst P e p.1) in omega (arith, rest, e)
+    let rest = next_after u ss (sound_step w s sound q.0) q.1 (subst P e p.1) in omega (arith, rest, e)
 
 -- what is left runs on too
-pub part_runs_on : (w u : World) (ss : List Step) (os : List Outcome) (first end : ℕ) → first ≤ length ss → RunsOn w ss → AllInRange ss → play w (take first ss) ≡ (u, os)
+pub part_runs_on : (w u : World) (ss : List Step) (os : List Outcome) (first end : ℕ) → IsSound w → first ≤ length ss → RunsOn w ss → AllInRange ss → play w (take first ss) ≡ (u, os)
     → RunsOn u (slice_range ss first end) × AllInRange (slice_range ss first end)
-part_runs_on w u ss os first end inside h all e =
+part_runs_on w u ss os first end sound inside h all e =
     let long : length (take first ss) ≡ first = omega (arith, length-take first ss) in
-    let next : w.next + first ≡ u.next = sym (ap (λ n. w.next + n) long) ∙ sym (next_after w (take first ss) (taken_numbers w.next first ss h)) ∙ ap (λ r. (r.0).next) e in
+    let next : w.next + first ≡ u.next = sym (ap (λ n. w.next + n) long) ∙ sym (next_after w (take first ss) sound (taken_range first ss all) (taken_numbers w.next first ss h)) ∙ ap (λ r. (r.0).next) e in
     let P : ℕ → Type 0 = λ n. IsTrue (runs_on n (drop first ss)) in
     (taken_numbers u.next (end - first) (drop first ss) (subst P next (later_numbers w.next first ss h)), taken_range (end - first) (drop first ss) (later_range first ss all))
 

@@ -4,7 +4,7 @@ use Rattle.std.specs.Io.KnownBytes.{Appends}
 use Rattle.spec_world.specs.World.{World}
 use Rattle.spec_step.specs.Step.{Step}
 use Rattle.spec_step.specs.Outcome.{Outcome}
-use Rattle.spec_task.specs.Step.{play}
+use Rattle.spec_moo.specs.Steps.{play}
 use Rattle.world.specs.Counted.{Counted}
 use Rattle.task_step.specs.declared.partial.Partial.{Partial}
 use Rattle.moo_script.specs.Scripts.{IsScript}

@@ -1,6 +1,6 @@
 //! The small world that `moo-play` calls `fixture`.
 ghost use Rattle.std.specs.Prelude.{◌≡◌, IfOk};
-ghost use Rattle.spec_rows.specs.Fixture.{fixture as fixture_meant};
+ghost use Rattle.spec_fixture.specs.Fixture.{fixture as fixture_meant};
 
 use std::alloc::{AllocError, Global};
 use world::worlds::World;

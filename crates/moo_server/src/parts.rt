@@ -44,6 +44,7 @@ pub(crate) fn play_steps<G: Gate, R: Threads + Wait + Sync, W: Write>(
     requires numbers { RunsOn world.plain steps.now × AllInRange steps.now }
     ensures { IsPlayed world.plain steps.now (W.contents out.old) (W.contents out.new) result }
 {
+    world.know();
     let mut first = 0;
     'part: while first < steps.len() {
         let end = end_of_part(first, steps.len());

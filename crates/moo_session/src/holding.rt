@@ -2,7 +2,7 @@
 ghost use Rattle.std.specs.Prelude.{◌≡◌, ◌<◌, ◌≤◌, ◌⊎◌, ◌↔◌, ◌≢◌, ℕ, List, map, length, false, IfOk, IfErr, IsOk};
 ghost use Rattle.spec_step.specs.Step.{RunsOn, AllInRange};
 ghost use Rattle.spec_step.specs.Outcome.{Outcome as Came};
-ghost use Rattle.spec_task.specs.Step.{play};
+ghost use Rattle.spec_moo.specs.Steps.{play};
 ghost use Rattle.telnet_line.specs.Telnet.{Event as Heard};
 ghost use Rattle.streams.specs.Reads.{EachSpells, Rises};
 ghost use Rattle.streams.specs.Writes.{EachWritten};

@@ -9,7 +9,7 @@ ghost use Rattle.moo_code.specs.Stands.{AllWait};
 ghost use Rattle.moo_task.specs.Effects.{waiting_of};
 ghost use Rattle.moo_task.specs.Frames.{kept_of};
 ghost use Rattle.moo_task.specs.Outcomes.{running_kept, ticks_of};
-ghost use Rattle.moo_task.specs.Keeping.{HasStopped, IsKept, forked_task};
+ghost use Rattle.moo_task.specs.Keeping.{HasStopped, IsKept, forked_task, task_of};
 ghost use Rattle.moo_task.specs.UnderWay.{GoesOn, IsUnderWay};
 ghost use Rattle.moo_task.specs.Waits.{due_at, read_on};
 
@@ -103,6 +103,14 @@ impl Task {
         ensures { waiting_of result.now ≡ self.now.waiting }
     {
         &self.waiting
+    }
+
+    /// What is under way, with the innermost last.
+    pub fn verbs(&self) -> &Outers
+        ensures kept { IsKept self.now.waiting result.now }
+        ensures task { self.now ≡ task_of self.now.player self.now.waiting result.now }
+    {
+        &self.verbs
     }
 
     /// The connection that it reads on, if it waits for a line.

@@ -77,7 +77,7 @@ const KEYLESS: [Script; 12] = [
 ];
 
 // Faulty lines, each with another fault in a later line or in the same one.
-const FAULTY: [Script; 31] = [
+const FAULTY: [Script; 40] = [
     // Words.
     (KEY, b"lin 1 count\nline 01 count\n", WORD_FAULT),
     (KEY, b"LINE 1 count\nmoment 01\n", WORD_FAULT),
@@ -91,9 +91,13 @@ const FAULTY: [Script; 31] = [
     (KEY, b"moment\nmoment 00\n", WORD_FAULT),
     (KEY, b"moment 5 \nmoment 00\n", WORD_FAULT),
     (KEY, b"moment 05 6\nmoment 00\n", WORD_FAULT),
-    (KEY, b"open 1\nmoment 00\n", WORD_FAULT),
-    (KEY, b"close 1\nmoment 00\n", WORD_FAULT),
-    (KEY, b"ready 1\nmoment 00\n", WORD_FAULT),
+    (KEY, b"open\nmoment 00\n", WORD_FAULT),
+    (KEY, b"open \nmoment 00\n", WORD_FAULT),
+    (KEY, b"open 1 \nmoment 00\n", WORD_FAULT),
+    (KEY, b"opens 1\nmoment 00\n", WORD_FAULT),
+    (KEY, b"close  1\nmoment 00\n", WORD_FAULT),
+    (KEY, b"close 01 2\nmoment 00\n", WORD_FAULT),
+    (KEY, b"ready\t1\nmoment 00\n", WORD_FAULT),
     // A second key.
     (
         KEY,
@@ -120,6 +124,11 @@ const FAULTY: [Script; 31] = [
     (KEY, b"line x \x01\nlin\n", NUMBER_FAULT),
     (KEY, b"moment 007\nlin\n", NUMBER_FAULT),
     (KEY, b"moment +7\nlin\n", NUMBER_FAULT),
+    (KEY, b"open 01\nlin\n", NUMBER_FAULT),
+    (KEY, b"close x\nlin\n", NUMBER_FAULT),
+    (KEY, b"ready -1\nlin\n", NUMBER_FAULT),
+    (KEY, b"ready 2147483648\nlin\n", NUMBER_FAULT),
+    (KEY, b"ready 99999999999999999999\nlin\n", NUMBER_FAULT),
     // Texts.
     (KEY, b"line 1 \x01\nlin\n", TEXT_FAULT),
     (KEY, b"line 1 caf\xc3\xa9\nmoment 00\n", TEXT_FAULT),
@@ -134,9 +143,12 @@ const FAULTY: [Script; 31] = [
 ];
 
 // Scripts that can be read, with a number out of its range.
-const OUT_OF_RANGE: [Script; 6] = [
+const OUT_OF_RANGE: [Script; 9] = [
     (KEY, b"line 0 count\n", NUMBERS),
     (KEY, b"line 1000000 count\n", NUMBERS),
+    (KEY, b"open 0\n", NUMBERS),
+    (KEY, b"line 1 count\nclose 1000000\n", NUMBERS),
+    (KEY, b"moment 2147483648\nready 1\n", NUMBERS),
     (KEY, b"line 1 count\nline 4294967296 count\n", NUMBERS),
     (
         KEY,

@@ -2,7 +2,11 @@
 #![tactic(auto)]
 
 #[cfg(test)]
+mod commands;
+#[cfg(test)]
 mod faults;
+#[cfg(test)]
+mod links;
 #[cfg(test)]
 mod long;
 #[cfg(test)]
@@ -10,7 +14,13 @@ mod meetings;
 #[cfg(test)]
 mod played;
 #[cfg(test)]
+mod programs;
+#[cfg(test)]
 mod row;
+#[cfg(test)]
+mod storms;
+#[cfg(test)]
+mod tasks;
 #[cfg(test)]
 mod words;
 #[cfg(test)]

@@ -1,12 +1,6 @@
 //! Scripts that run to their end.
-use crate::row::{KEY, Row, TWO_COUNTED, TWO_COUNTS, others};
-use std::alloc::AllocError;
-use std::sync::Wait;
+use crate::row::{Script, TWO_COUNTED, TWO_COUNTS, others_of};
 use std::test::Fail;
-use std::thread::Threads;
-
-/// Lines, how many workers, what is printed, and the next step of the world at the end.
-type Script = (&'static [u8], &'static str, &'static str, u64);
 
 const PLAYED: [Script; 15] = [
     // The key line alone.
@@ -61,27 +55,6 @@ const PLAYED: [Script; 15] = [
         3,
     ),
 ];
-
-// What some scripts print or answer otherwise.
-fn others_of<R: Threads + Wait + Sync + AllocGlobal>(
-    rt: &R,
-    scripts: &[Script],
-) -> Result<String, AllocError> {
-    let mut text = String::new(rt.alloc());
-    for (lines, workers, out, next) in scripts {
-        let row = Row {
-            key: KEY,
-            lines,
-            workers,
-            out,
-            errors: "",
-            status: 0,
-            next: Some(*next),
-        };
-        text.push_str(others(rt, &row)?.as_str())?;
-    }
-    Ok(text)
-}
 
 #[test]
 fn scripts(rt: HostRuntime) -> Result<(), Fail> {

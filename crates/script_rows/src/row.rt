@@ -99,6 +99,14 @@ impl Played {
         Ok(text)
     }
 
+    /// Whether another run printed and answered the same.
+    pub fn same_as(&self, other: &Played) -> bool {
+        self.out.as_slice() == other.out.as_slice()
+            && self.errors.as_slice() == other.errors.as_slice()
+            && self.status == other.status
+            && self.next() == other.next()
+    }
+
     /// The next step of the world at the end.
     pub fn next(&self) -> Option<u64> {
         Some(self.world.as_ref()?.next())
@@ -129,6 +137,30 @@ pub(super) fn others<R: Threads + Wait + Sync + AllocGlobal>(
     if !text.is_empty() {
         text.push_str("for ")?;
         text.push_str(text_of(row.lines))?;
+    }
+    Ok(text)
+}
+
+/// Lines, how many workers, what is printed, and the next step of the world at the end.
+pub(super) type Script = (&'static [u8], &'static str, &'static str, u64);
+
+/// What some scripts print or answer otherwise.
+pub(super) fn others_of<R: Threads + Wait + Sync + AllocGlobal>(
+    rt: &R,
+    scripts: &[Script],
+) -> Result<String, AllocError> {
+    let mut text = String::new(rt.alloc());
+    for (lines, workers, out, next) in scripts {
+        let row = Row {
+            key: KEY,
+            lines,
+            workers,
+            out,
+            errors: "",
+            status: 0,
+            next: Some(*next),
+        };
+        text.push_str(others(rt, &row)?.as_str())?;
     }
     Ok(text)
 }

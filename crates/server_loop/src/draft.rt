@@ -31,6 +31,11 @@ impl Draft {
         })
     }
 
+    /// The moment of its steps, in seconds since 1970.
+    pub fn moment(&self) -> u32 {
+        self.moment
+    }
+
     /// Whether no step can be added.
     pub fn is_full(&self) -> bool {
         self.steps.len() >= LONGEST_LIST || self.next > GREATEST_NUMBER

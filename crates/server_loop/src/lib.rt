@@ -1,8 +1,11 @@
-//! The loop of `moo-server`: what its links send becomes lists of steps, which are run, and what they tell goes out.
+//! The loop of `moo-server`: what its links send and the tasks that are due become lists of steps, which are run, and what they tell goes out.
 #![tactic(auto)]
 
 mod draft;
+mod due;
 mod gather;
+mod left;
 mod pace;
+mod playing;
 pub mod serving;
 mod turn;

@@ -1,18 +1,25 @@
 //! The loop.
 ghost use Rattle.std.specs.Prelude.{◌≡◌, ◌⊎◌};
 
+use crate::left::close_left;
 use crate::pace::Pace;
-use crate::turn::{Edge, End, Plan, run_turn};
+use crate::playing::{End, Plan};
+use crate::turn::{Edge, run_turn};
 use connections::door::Door;
-use connections::links::Links;
+use connections::links::{Links, MOST_LINKS};
 use speculate::gate::Gate;
 use std::alloc::Global;
 use std::io::Write;
 use std::net::TcpListener;
 use std::rt::Clock;
 use std::sync::{Arc, Wait};
+use std::thread;
 use std::thread::{Parker, Threads};
+use std::time::Duration;
 use world::worlds::World;
+
+/// The status of a server that a task ended.
+pub const ASKED: u8 = 0;
 
 /// The status of a server whose steps' numbers are used up.
 pub const FAULT: u8 = 2;
@@ -20,8 +27,12 @@ pub const FAULT: u8 = 2;
 /// The status of a server that memory stopped.
 pub const STOPPED: u8 = 3;
 
-/// Serves the sockets of a listener over a world: each is a link, what its client sends is run in lists of steps, and their output goes back. The moments of
-/// steps are the clock's. Ends where memory or the numbers of steps run out, with a line that says so, and gives the status.
+/// How long links may write their last lines, in milliseconds.
+const LAST_LINES: u64 = 300;
+
+/// Serves the sockets of a listener over a world, whose own links are closed first: each socket is a link, what its client sends is run in lists of steps,
+/// with the tasks that are due, and their output goes back. The moments of steps are the clock's. Ends where a task asks for it, and where memory or the
+/// numbers of steps run out, with a line that says so, and gives the status.
 pub fn serve<G: Gate, R: Threads + Wait + Clock + Copy + Send + Sync + 'static, C: Clock, E: Write>(
     rt: R,
     alloc: Global,
@@ -33,7 +44,7 @@ pub fn serve<G: Gate, R: Threads + Wait + Clock + Copy + Send + Sync + 'static, 
     workers: usize,
     errors: &mut E,
 ) -> u8
-    ensures { (result ≡ 2) ⊎ (result ≡ 3) }
+    ensures { (result ≡ 0) ⊎ (result ≡ 2) ⊎ (result ≡ 3) }
 {
     let Some(mut edge) = start(rt, alloc, listener) else {
         return say(errors, End::Memory(0));
@@ -49,7 +60,7 @@ pub fn serve<G: Gate, R: Threads + Wait + Clock + Copy + Send + Sync + 'static, 
     );
     let Edge { door, links, .. } = edge;
     door.shut(&rt);
-    links.end(&rt);
+    end_links(rt, links, end);
     say(errors, end)
 }
 
@@ -65,6 +76,17 @@ fn start<R: Threads + Wait + Clock + Copy + Send + 'static>(
     Some(Edge { door, links, bell })
 }
 
+// Ends the links; where a task asked for the end, once they had time for their last lines.
+fn end_links<R: Threads + Clock + Copy>(rt: R, mut links: Links, end: End) {
+    if end == End::Asked {
+        'number: for number in 1..=MOST_LINKS as u32 {
+            let _ = links.release(&rt, number);
+        }
+        thread::sleep(&rt, Duration::from_millis(LAST_LINES));
+    }
+    links.end(&rt);
+}
+
 // Turns until the server does not go on.
 fn run_turns<G: Gate, R: Threads + Wait + Copy + Send + Sync + 'static, C: Clock>(
     rt: R,
@@ -72,10 +94,14 @@ fn run_turns<G: Gate, R: Threads + Wait + Copy + Send + Sync + 'static, C: Clock
     gate: &G,
     clock: &C,
     plan: Plan,
-    mut world: World,
+    world: World,
     edge: &mut Edge,
 ) -> End {
     let mut pace = Pace::new();
+    let mut world = match close_left(&rt, alloc, gate, clock, plan, world) {
+        Ok(world) => world,
+        Err(end) => return end,
+    };
     'turn: for _ in rt.forever() {
         match run_turn(rt, alloc, gate, clock, plan, world, &mut pace, edge) {
             Ok(after) => world = after,
@@ -87,9 +113,10 @@ fn run_turns<G: Gate, R: Threads + Wait + Copy + Send + Sync + 'static, C: Clock
 
 // Says why the server has ended.
 fn say<E: Write>(errors: &mut E, end: End) -> u8
-    ensures { (result ≡ 2) ⊎ (result ≡ 3) }
+    ensures { (result ≡ 0) ⊎ (result ≡ 2) ⊎ (result ≡ 3) }
 {
     match end {
+        End::Asked => ASKED,
         End::Numbers => {
             let _ = writeln!(errors, "moo-server: numbers");
             FAULT

@@ -1,29 +1,22 @@
 //! One turn of the loop.
 use crate::draft::Draft;
+use crate::due::add_due;
 use crate::gather::gather;
 use crate::pace::Pace;
+use crate::playing::{End, Plan, Played, moment, next_number, play, unless_ending};
 use connections::door::Door;
 use connections::links::Links;
 use speculate::gate::Gate;
-use speculate::list::run_list;
-use std::alloc::Global;
+use std::alloc::{AllocError, Global};
 use std::rt::Clock;
 use std::sync::{Arc, Wait};
 use std::thread::{Parker, Threads};
-use task_run::list::play_list;
+use std::time::Duration;
 use task_step::outcome::Outcome;
-use task_step::partial::{Partial, Refusal};
-use task_step::step::{GREATEST_MOMENT, GREATEST_NUMBER, Step};
 use world::worlds::World;
 
-/// How a server runs its lists.
-#[derive(Clone, Copy, Debug)]
-pub struct Plan {
-    /// The key of every step.
-    pub key: [u8; 32],
-    /// How many workers run a long list.
-    pub workers: usize,
-}
+/// The longest wait for the next task, in seconds.
+const LONGEST_WAIT: u32 = 60;
 
 /// Where a server's bytes come from and go to.
 #[derive(Drop)]
@@ -34,16 +27,7 @@ pub struct Edge {
     pub bell: Arc<Parker, Global>,
 }
 
-/// Why a server does not go on.
-#[derive(Clone, Copy, PartialEq, Eq, Debug)]
-pub enum End {
-    /// The numbers of steps are used up.
-    Numbers,
-    /// Memory ran out after so many steps of a list.
-    Memory(usize),
-}
-
-/// Runs what has come, and tells what that tells. Where nothing has come, waits until something does.
+/// Runs what has come and what is due, and tells what that tells. Where there is nothing, waits until something comes or is due.
 pub fn run_turn<G: Gate, R: Threads + Wait + Copy + Send + Sync + 'static, C: Clock>(
     rt: R,
     alloc: Global,
@@ -54,19 +38,20 @@ pub fn run_turn<G: Gate, R: Threads + Wait + Copy + Send + Sync + 'static, C: Cl
     pace: &mut Pace,
     edge: &mut Edge,
 ) -> Result<World, End> {
-    let Some(next) = next_number(&world) else {
-        return Err(End::Numbers);
-    };
+    let next = next_number(&world)?;
     let Ok(mut draft) = Draft::new(alloc, next, moment(clock), plan.key) else {
         return Err(End::Memory(0));
     };
     let Edge { door, links, bell } = edge;
+    let Ok(next_due) = add_due(alloc, &mut draft, &world) else {
+        return Err(End::Memory(0));
+    };
     if gather(rt, alloc, &mut draft, door, links, bell).is_err() {
         return Err(End::Memory(0));
     }
     links.sweep(&rt);
     if draft.steps.is_empty() {
-        bell.park(&rt);
+        wait(&rt, bell, next_due, draft.moment());
         return Ok(world);
     }
     let workers = if pace.is_long(draft.steps.len()) {
@@ -74,72 +59,54 @@ pub fn run_turn<G: Gate, R: Threads + Wait + Copy + Send + Sync + 'static, C: Cl
     } else {
         1
     };
-    let (world, end) = match run(&rt, alloc, gate, world, draft.steps.as_slice(), workers) {
-        Ok((world, outcomes)) => {
-            pace.learn(outcomes.as_slice());
-            tell_all(links, outcomes);
-            (world, None)
-        }
-        Err(partial) => {
-            let end = match partial.refusal {
-                Refusal::Memory => End::Memory(partial.count),
-                Refusal::Numbers | Refusal::Workers => End::Numbers,
-            };
-            tell_all(links, partial.outcomes);
-            (partial.world, Some(end))
-        }
-    };
+    let Played {
+        world,
+        outcomes,
+        end,
+    } = play(&rt, alloc, gate, world, draft.steps.as_slice(), workers);
+    if end.is_none() {
+        pace.learn(outcomes.as_slice());
+    }
+    if tell_all(&rt, links, outcomes).is_err() {
+        return Err(End::Memory(0));
+    }
     'closed: for number in &draft.closed {
         if links.release(&rt, *number).is_err() {
             return Err(End::Memory(0));
         }
     }
     match end {
-        None => Ok(world),
+        None => unless_ending(world),
         Some(end) => Err(end),
     }
 }
 
-// The number of the next step, if there is one.
-fn next_number(world: &World) -> Option<u32> {
-    let next = world.next();
-    if next > u64::from(GREATEST_NUMBER) {
-        return None;
-    }
-    Some(next as u32)
-}
-
-// The seconds since 1970, or 0 where the clock cannot be read.
-fn moment<C: Clock>(clock: &C) -> u32 {
-    match clock.since_1970() {
-        Ok(since) => since.as_secs().min(u64::from(GREATEST_MOMENT)) as u32,
-        Err(_) => 0,
+// Until something comes, or a task may be due.
+fn wait<R: Wait>(rt: &R, bell: &Parker, next_due: Option<u32>, now: u32) {
+    match next_due {
+        None => bell.park(rt),
+        Some(due) => {
+            let seconds = due.saturating_sub(now).min(LONGEST_WAIT);
+            bell.park_timeout(rt, Duration::from_secs(u64::from(seconds)));
+        }
     }
 }
 
-// Runs the steps: on this thread, where one worker is enough.
-fn run<G: Gate, R: Threads + Wait + Sync>(
+// Tells each line to its link, in order, and takes out the links that the steps closed.
+fn tell_all<R: Threads>(
     rt: &R,
-    alloc: Global,
-    gate: &G,
-    world: World,
-    steps: &[Step],
-    workers: usize,
-) -> Result<(World, Vec<Outcome>), Partial> {
-    if workers <= 1 {
-        return play_list(alloc, world, steps);
-    }
-    let report = run_list(rt, alloc, gate, world, steps, workers)?;
-    Ok((report.world, report.outcomes))
-}
-
-// Tells each line to its link, in order.
-fn tell_all(links: &mut Links, outcomes: Vec<Outcome>) {
+    links: &mut Links,
+    outcomes: Vec<Outcome>,
+) -> Result<(), AllocError> {
     'outcome: for outcome in outcomes {
-        let Outcome { output, .. } = outcome;
+        let Outcome { output, closed, .. } = outcome;
         'line: for line in output {
             links.tell(line.connection, line.text);
         }
+        'closed: for number in closed {
+            links.release(rt, number)?;
+        }
     }
     links.flush();
+    Ok(())
 }

@@ -1,5 +1,3 @@
-pub mod Programs
-pub mod Fixture
 pub mod Trying
 pub mod StepRows
 pub mod Tried

@@ -2,8 +2,7 @@
 use Rattle.std.specs.Prelude.{◌≡◌, ℕ, zero, suc, ℤ, pos, neg_ℤ, List, [], ◌∷◌, ◌++◌, length, take, drop, replicate, true, false, codes}
 use Rattle.std.specs.Fmt.{decimal}
 use Rattle.spec_value.specs.Datum.{Text}
-use Rattle.spec_program.specs.Tree.{Program, the_end}
-use Rattle.spec_program.specs.ReadPrograms.{Parsed, program, faulty, parsed}
+use Rattle.spec_program.specs.ReadPrograms.{parsed}
 use Rattle.spec_world.specs.World.{World, Verb, Object}
 use Rattle.spec_world.specs.Checkpoint.{each_task, world_lines, checkpoint_text}
 use Rattle.spec_world.specs.Families.{change_object}
@@ -12,7 +11,8 @@ use Rattle.spec_moo.specs.Steps.{play}
 use Rattle.spec_step.specs.Step.{Event, open_link, close_link, line_of, ready_task, Step}
 use Rattle.spec_step.specs.Outcome.{Outcome}
 use Rattle.spec_moo.specs.Steps.Printing.{outcome_lines}
-use Rattle.spec_moo_rows.specs.Fixture.{fixture, plain_verb}
+use Rattle.spec_fixture.specs.Fixture.{fixture, plain_verb}
+use Rattle.spec_fixture.specs.Texts.{program_of}
 
 -- ---- a script and what it prints
 
@@ -34,10 +34,6 @@ abbrev pub line : ℤ → Text → Event
 line c t = line_of c t
 
 -- ---- the fixture with further verbs of the room
-
-abbrev pub program_of : Parsed → Program
-program_of (program p) = p
-program_of (faulty f) = the_end
 
 abbrev pub with_verb : World → Text → Text → World
 with_verb w names code = verb_added w (pos 3) (plain_verb names (program_of (parsed code)))

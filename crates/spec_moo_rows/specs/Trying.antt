@@ -9,7 +9,7 @@ use Rattle.spec_moo.specs.Calling.{nowhere, starting}
 use Rattle.spec_moo.specs.Pending.{Pending, begin, Stop, done, raised, out_of_ticks, waiting, killed}
 use Rattle.spec_moo.specs.Segment.{Ended, segment}
 use Rattle.spec_moo.specs.Telling.{stop_lines}
-use Rattle.spec_moo_rows.specs.Fixture.{plain_verb, room_verbs, fixture_with}
+use Rattle.spec_fixture.specs.Fixture.{plain_verb, room_verbs, fixture_with}
 
 -- `debug` is the bit d; each verb has the bit x and is for a command of one word
 pub record Written : Type 0 where

@@ -29,13 +29,8 @@ use Rattle.spec_moo.proofs.SegmentWorlds.{segments_keep}
 use Rattle.spec_ready.specs.Ready.{IsReady, OpensReady, TicksAside, LinksOpen, LinksClose, TasksLeave, ValuesLeaveReady, relinked, PlayersLogIn, GoingOnStands}
 use Rattle.spec_ready.proofs.GoingOn.{GoesOn, waiting_goes_on}
 
--- what waits in a ready scene holds what belongs there
-waiting_holds : (w : World) → IsWellFormed w → OfEachTask w frames_hold
-waiting_holds w h = (well_formed_agrees w h).1
-
-ready_of : (k : ℕ) (s : Scene) → SceneAgrees k s → OfEachTask s.world frames_hold → IsReady s
-ready_of k s h holds =
-    record { well_formed = agrees_is_well_formed s.world h.world holds; agrees = subst (λ n. SceneAgrees n s) (sym h.next) h }
+ready_of : (k : ℕ) (s : Scene) → SceneAgrees k s → IsReady s
+ready_of k s h = record { agrees = subst (λ n. SceneAgrees n s) (sym h.next) h }
 
 -- ---- at the beginning
 
@@ -68,12 +63,12 @@ opens_ready w s t h r =
     let limit : w.next ≤ 33554432 = leb-true w.next 33554432 (second_holds (nat_le 1 w.next) _ agrees.queue.next_in_range) in
     let raised : Agrees (numbered s.number w) = next_raised w (max (suc s.number) w.next) (omega arith) (omega arith) agrees in
     ready_of (max (suc s.number) w.next) (opening_scene (numbered s.number w) s t)
-    (record { world = raised; number = one; before = omega arith; moment = n.moment; ids = omega arith; own = tt; next = refl }) (waiting_holds w h)
+    (record { world = raised; number = one; before = omega arith; moment = n.moment; ids = omega arith; own = tt; next = refl })
 
 pub ticks_aside : TicksAside
 ticks_aside s t h =
     let a = h.agrees in
-    record { well_formed = h.well_formed; agrees = record { world = a.world; number = a.number; before = a.before; moment = a.moment; ids = a.ids; own = a.own; next = a.next } }
+    record { agrees = record { world = a.world; number = a.number; before = a.before; moment = a.moment; ids = a.ids; own = a.own; next = a.next } }
 
 -- ---- links
 
@@ -121,11 +116,7 @@ links_open s c h ranged none =
     let there : Agrees (open_link s.world c k) =
     link_put s.world c k h.agrees.world (both_hold (is_connection c) _ ranged (first_of (int_eq (connection_object c) (neg_ℤ (pos 3) -ℤ c)) _ (integer_itself (connection_object c))))
     (inl (unknown_person s.world c h.agrees.world none ranged)) in
-    ready_of s.world.next (in_world s (open_link s.world c k)) (in_agreeing s.world.next s (open_link s.world c k) h.agrees there refl) (waiting_holds s.world h.well_formed)
-
-closed_holds : (w : World) (c : ℤ) → IsWellFormed w → OfEachTask (close_link w c) frames_hold
-unfolding close_link
-closed_holds w c h i t e = waiting_holds w h i t (at_left (λ (m : ℤ × Task). not (reads_on c (m.1).waiting)) w.tasks h.tasks_in_order i t e).0
+    ready_of s.world.next (in_world s (open_link s.world c k)) (in_agreeing s.world.next s (open_link s.world c k) h.agrees there refl)
 
 closed_next : (w : World) (c : ℤ) → (close_link w c).next ≡ w.next
 unfolding close_link
@@ -134,7 +125,6 @@ closed_next w c = refl
 pub links_close : LinksClose
 links_close s c h =
     ready_of s.world.next (in_world s (close_link s.world c)) (in_agreeing s.world.next s (close_link s.world c) h.agrees (link_closed_keeps s.world c h.agrees.world) (closed_next s.world c))
-    (closed_holds s.world c h.well_formed)
 
 -- ---- a task that leaves the queue
 
@@ -151,7 +141,6 @@ tasks_leave s i t e h =
       own = a.world.queue.task_ids i t e;
       next = a.next;
     })
-    (λ j u f. waiting_holds s.world h.well_formed j u (at_left (λ (m : ℤ × Task). not (int_eq i m.0)) s.world.tasks h.well_formed.tasks_in_order j u f).0)
 
 -- ---- after a task that gave a value
 
@@ -164,10 +153,10 @@ value_agrees k player s why v is h =
     subst (λ (x : Stop). SceneAgrees k (after_stop player s x)) (sym is) (told_agrees k s (connection_of s.world player) [] (subst (StopKeeps k s) is h))
 
 pub values_leave_ready : ValuesLeaveReady
-values_leave_ready s p v h under is whole =
+values_leave_ready s p v h under is =
     let e = segment s.ticks_left s p in
     let a : SceneAgrees s.world.next (run s p).scene = value_agrees s.world.next p.player e.scene e.stop v is (segments_keep s.world.next s.ticks_left s p h.agrees under) in
-    record { well_formed = whole; agrees = subst (λ n. SceneAgrees n (run s p).scene) (sym a.next) a }
+    ready_of s.world.next (run s p).scene a
 
 -- ---- after a login
 
@@ -185,13 +174,6 @@ closed_free s who h = go (connection_of s.world who) refl
     go : (m : Option ℤ) → connection_of s.world who ≡ m → lists (map (λ e. (e.1).person) (connection_closed s m).world.links) who ≡ false
     go None e = none_among s.world.links who e
     go (Some c) e = closed_is_free s.world c who h e
-
-closed_waiting : (s : Scene) (who : ℤ) → IsWellFormed s.world → OfEachTask (link_closed s who).world frames_hold
-closed_waiting s who h = go (connection_of s.world who)
-  where
-    go : (m : Option ℤ) → OfEachTask (connection_closed s m).world frames_hold
-    go None = waiting_holds s.world h
-    go (Some c) = closed_holds s.world c h
 
 as_player : (m : Option Object) → is_player m ≡ passes m (λ x. x.header.is_player)
 as_player None = refl
@@ -215,7 +197,6 @@ players_log_in s c who h may =
     let fits = both_hold (is_connection c) _ (login_ranged s c who h may) (second_of (int_eq who (neg_ℤ (pos 3) -ℤ c)) _ passing) in
     let there : SceneAgrees s.world.next (in_world t (open_link t.world c k)) = in_agreeing s.world.next t (open_link t.world c k) a (link_put t.world c k a.world fits (inl (closed_free s who h.agrees.world))) refl in
     ready_of s.world.next (relinked s c who) (told_agrees s.world.next (in_world t (open_link t.world c k)) (Some c) (codes "*** Connected ***" ∷ []) there)
-    (closed_waiting s who h.well_formed)
 
 -- ---- a task that goes on
 

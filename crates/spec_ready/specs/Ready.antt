@@ -1,4 +1,4 @@
--- When a step may run a task: its world is well formed, and its scene agrees with it.
+-- When a step may run a task: the parts of its world agree, and its scene agrees with them.
 use Rattle.std.specs.Prelude.{◌≡◌, ℕ, ℤ, true, [], ◌∷◌, Some, None, IsTrue, codes}
 use Rattle.spec_value.specs.Datum.{Datum, Data, Text}
 use Rattle.spec_value.specs.Table.{at}
@@ -17,7 +17,6 @@ use Rattle.spec_moo.specs.Steps.Running.{run, told_on, begun, gone_on}
 use Rattle.spec_moo.specs.Steps.Events.{with_own_task, may_log_in}
 
 pub record IsReady (s : Scene) : Type 0 where
-  pub well_formed : IsWellFormed s.world
   pub agrees : SceneAgrees s.world.next s
 
 -- ---- before any task, and with other ticks
@@ -45,7 +44,7 @@ TasksLeave = (s : Scene) (i : ℤ) (t : Task) → at s.world.tasks i ≡ Some t 
 
 abbrev pub ValuesLeaveReady : Type 0
 ValuesLeaveReady =
-    (s : Scene) (p : Pending) (v : Datum) → IsReady s → IsUnderWay p → (run s p).stop ≡ done v → IsWellFormed (run s p).scene.world → IsReady (run s p).scene
+    (s : Scene) (p : Pending) (v : Datum) → IsReady s → IsUnderWay p → (run s p).stop ≡ done v → IsReady (run s p).scene
 
 -- the player has the link, and any older one is closed
 abbrev pub relinked : Scene → ℤ → ℤ → Scene

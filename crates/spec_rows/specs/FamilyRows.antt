@@ -8,7 +8,7 @@ use Rattle.spec_world.specs.Families.{child_of, created, reparented, clashes, re
 use Rattle.spec_world.specs.Whereabouts.{is_inside, moved}
 use Rattle.spec_world.specs.Members.{property_added, property_deleted, verb_added, verb_deleted}
 use Rattle.spec_world.specs.Naming.{contents_of, location_of}
-use Rattle.spec_rows.specs.Fixture.{fixture, box, count_verb, box_look, n_slot}
+use Rattle.spec_fixture.specs.Fixture.{fixture, box, count_verb, box_look_verb, put_verb, n_slot}
 
 abbrev pub children_of : World → ℤ → Option (List ℤ)
 children_of w o = of (object_at w o)
@@ -112,4 +112,4 @@ Inside =
 abbrev pub VerbsComeAndGo : Type 0
 VerbsComeAndGo =
     let w : World = verb_added fixture (pos 6) count_verb in
-    (object_at w (pos 6) ≡ Some (record box { verbs = box_look ∷ count_verb ∷ [] })) × (verb_deleted w (pos 6) 1 ≡ fixture)
+    (object_at w (pos 6) ≡ Some (record box { verbs = box_look_verb ∷ put_verb ∷ count_verb ∷ [] })) × (verb_deleted w (pos 6) 2 ≡ fixture)

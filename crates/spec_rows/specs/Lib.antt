@@ -1,7 +1,6 @@
-pub mod Fixture
 pub mod Opened
 pub mod PlaceRows
-pub mod Rows
+pub mod RangeRows
 pub mod LineRows
 pub mod PermissionRows
 pub mod FamilyRows

@@ -8,7 +8,7 @@ use Rattle.spec_world.specs.Words.{words, after_first, expanded}
 use Rattle.spec_world.specs.Prepositions.{find_preposition}
 use Rattle.spec_world.specs.Naming.{name_object}
 use Rattle.spec_world.specs.CommandLines.{Parts, line_parts, Command, nothing_said, programming, calls_verb, not_understood, other_form, program_verb, command_said}
-use Rattle.spec_rows.specs.Fixture.{fixture, room_look, box_look, box, room}
+use Rattle.spec_fixture.specs.Fixture.{fixture, look_verb, box_look_verb, box, room, room_verbs}
 
 -- ---- words
 
@@ -111,7 +111,7 @@ boxer = record box { header = record (box.header) { name = codes "boxer" }; verb
 
 abbrev pub with_boxer : World
 with_boxer = record fixture {
-  objects = with (with fixture.objects (pos 8) boxer) (pos 3) (record (room (pos 0)) { contents = pos 4 ∷ pos 5 ∷ pos 6 ∷ pos 8 ∷ [] });
+  objects = with (with fixture.objects (pos 8) boxer) (pos 3) (record (room (pos 0) room_verbs) { contents = pos 4 ∷ pos 5 ∷ pos 6 ∷ pos 8 ∷ [] });
   greatest = pos 8;
 }
 
@@ -158,7 +158,7 @@ abbrev pub RoomsLook : Type 0
 RoomsLook =
     said (codes "loo")
     ≡ calls_verb (record no_parts { verb = codes "loo" }) (record { direct = neg_ℤ (pos 1); preposition = None; indirect = neg_ℤ (pos 1) })
-    (record { this = pos 3; sought = record { definer = pos 3; verb = room_look } })
+    (record { this = pos 3; sought = record { definer = pos 3; verb = look_verb } })
 
 -- the room's verb wants no object, so the box's is meant
 abbrev pub BoxesLook : Type 0
@@ -174,7 +174,7 @@ BoxesLook =
       iobjstr = codes "box";
     })
     (record { direct = neg_ℤ (pos 1); preposition = Some 2; indirect = pos 6 })
-    (record { this = pos 6; sought = record { definer = pos 6; verb = box_look } })
+    (record { this = pos 6; sought = record { definer = pos 6; verb = box_look_verb } })
 
 abbrev pub NotUnderstood : Type 0
 NotUnderstood = (said (codes "looks") ≡ not_understood) × (said (codes "look box") ≡ not_understood) × (said (codes "accept") ≡ not_understood) × (said (codes "  ") ≡ nothing_said)

@@ -18,11 +18,7 @@ use Rattle.spec_world.specs.Whereabouts.{in_within, moved}
 use Rattle.spec_world.specs.Members.{property_added, property_deleted, verb_added, verb_deleted, verb_changed}
 use Rattle.spec_world.specs.Links.{close_link}
 use Rattle.spec_world.specs.CommandLines.{line_parts, command_said}
-use Rattle.spec_task.specs.Turn.{read, write, begun, operated, received, part_ended, left, turn}
-use Rattle.spec_task.specs.Segment.{size, stages, settle, through, segment, after}
-use Rattle.spec_task.specs.Commands.{unspaced, verb_named}
-use Rattle.spec_task.specs.Step.{play1, play}
 
 unfoldable pub opened : Unit {0}
-unfolding digits int_wrap same line ancestors first_value property_value with_slot looked_up tokens_from some_arguments steps items_from operators expression branches arms block parsed may spells names_in words without_spaces after_first expanded find_preposition name_object first_on find_verb find_command_verb line_parts command_said created reparented clashes recycled in_within moved property_added property_deleted verb_added verb_deleted verb_changed close_link once comes_out defined_on names_once links_read read write begun operated received part_ended left turn size stages settle through segment after unspaced verb_named play1 play
+unfolding digits int_wrap same line ancestors first_value property_value with_slot looked_up tokens_from some_arguments steps items_from operators expression branches arms block parsed may spells names_in words without_spaces after_first expanded find_preposition name_object first_on find_verb find_command_verb line_parts command_said created reparented clashes recycled in_within moved property_added property_deleted verb_added verb_deleted verb_changed close_link once comes_out defined_on names_once links_read
 opened = tt

@@ -3,7 +3,7 @@ use Rattle.std.specs.Prelude.{◌≡◌, pos, neg_ℤ, [], ◌∷◌, Bool, true
 use Rattle.spec_value.specs.Table.{with}
 use Rattle.spec_world.specs.World.{World, Object}
 use Rattle.spec_world.specs.Permissions.{Act, read_slot, write_slot, write_name, write_bits, write_standing, write_place, list_members, change_members, change_owner, read_verb, write_verb, program_verb, evaluate, have_child, change_object, act_as, control_task, administer, may}
-use Rattle.spec_rows.specs.Fixture.{fixture, box, count_verb, n_slot, person}
+use Rattle.spec_fixture.specs.Fixture.{fixture, box, count_verb, n_slot, person}
 
 -- the box is Ann's, with a verb of Ann's and a slot of Ann's that others may neither read nor write
 abbrev pub hers : Object

@@ -1,15 +1,18 @@
 -- Worked rows, true by computation: changed fixtures that are well formed and that are not, clause by clause.
 use Rattle.std.specs.Prelude.{◌≡◌, ℕ, ℤ, pos, neg_ℤ, List, [], ◌∷◌, Some, None, Bool, true, false, replicate, codes}
-use Rattle.spec_value.specs.Datum.{Datum, integer, object, text, no_data, Text}
+use Rattle.spec_value.specs.Datum.{Datum, integer, object, text, list, no_data, Text}
 use Rattle.spec_value.specs.Table.{is_numbered, is_named}
 use Rattle.spec_program.specs.Tree.{call, no_arguments, evaluate, Program, the_end, seq}
 use Rattle.spec_program.specs.Construct.{of_statement, of_program, Piece}
-use Rattle.spec_world.specs.World.{World, Object, Slot, Call, Frame, move_native, create_native, recycle_native, eval_native, Entry, frame_entry, native_entry, Task, Waiting, forked, timed, idle, reading_on, with_object}
+use Rattle.spec_world.specs.World.{World, Object, Slot, Call, Start, Frame, move_native, create_native, recycle_native, eval_native, Entry, frame_entry, native_entry, Task, Waiting, forked, timed, idle, reading_on, with_object}
 use Rattle.spec_world.specs.Inherit.{ancestors, property_value}
 use Rattle.spec_world.specs.WellFormed.{once, number_fits, has_no_cycle, is_in_no_cycle, children_agree, parent_agrees, contents_agree, location_agrees, line_names_once, slots_in_order, slots_agree, definers_filled, link_fits, frame_fits, native_fits, id_fits, entries_fit, wait_fits, links_read}
-use Rattle.spec_task.specs.Commands.{nowhere, one_word, starting}
-use Rattle.spec_rows.specs.Fixture.{fixture, fixture_at, n_slot, room, person, box, thing}
+use Rattle.spec_world.specs.Families.{nowhere}
+use Rattle.spec_fixture.specs.Fixture.{fixture, n_slot, room_verbs, room as room_with, person, box, thing}
 use Rattle.spec_rows.specs.Told.{AllPass, NonePasses}
+
+abbrev pub room : ℤ → Object
+room n = room_with n room_verbs
 
 -- the fixture with other objects
 abbrev pub with_one : ℤ → Object → World
@@ -120,12 +123,15 @@ Links =
 abbrev pub a_call : Call
 a_call = record { this = pos 3; caller = pos 4; definer = pos 3; programmer = pos 2; verb = codes "v"; debug = true }
 
+abbrev pub without_words : Start
+without_words = record { argstr = []; dobj = nowhere; dobjstr = []; prepstr = []; iobj = nowhere; iobjstr = [] }
+
 -- f();
 abbrev pub waiting_program : Program
 waiting_program = seq (evaluate (call (codes "f") no_arguments)) the_end
 
 abbrev pub frame_of : List (Text × Datum) → List Piece → Frame
-frame_of variables pieces = record { call = a_call; start = one_word; program = waiting_program; variables = variables; pieces = pieces }
+frame_of variables pieces = record { call = a_call; start = without_words; program = waiting_program; variables = variables; pieces = pieces }
 
 abbrev pub at_its_call : List Piece
 at_its_call =
@@ -133,7 +139,7 @@ at_its_call =
 
 -- a verb that waits at its call, one at its beginning, and a built-in
 abbrev pub waiting_frame : Entry
-waiting_frame = frame_entry (frame_of (starting (pos 4) a_call one_word no_data) at_its_call)
+waiting_frame = frame_entry (frame_of ((codes "args", list no_data) ∷ (codes "this", object (pos 3)) ∷ []) at_its_call)
 
 abbrev pub first_frame : Entry
 first_frame = frame_entry (frame_of [] [])
@@ -145,7 +151,7 @@ abbrev pub task_of : Waiting → List Entry → Task
 task_of waiting entries = record { player = pos 4; waiting = waiting; entries = entries }
 
 abbrev pub numbered_before : ℕ → ℤ → Bool
-numbered_before next id = id_fits (fixture_at (pos 0) next) id (task_of idle (waiting_frame ∷ []))
+numbered_before next id = id_fits (record fixture { next = next }) id (task_of idle (waiting_frame ∷ []))
 
 abbrev pub has_entries : List Entry → Bool
 has_entries entries = entries_fit fixture (pos 1) (task_of idle entries)

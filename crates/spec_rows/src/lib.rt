@@ -2,10 +2,9 @@
 #![tactic(auto)]
 
 pub mod families;
-pub mod fixture;
 pub mod lines;
 pub mod permissions;
 pub mod places;
-pub mod rows;
+pub mod ranges;
 pub mod texts;
 pub mod worlds;

@@ -6,7 +6,7 @@ use Rattle.spec_world.specs.World.{World}
 use Rattle.spec_view.specs.Questions.{Agrees}
 use Rattle.spec_step.specs.Step.{Step, RunsOn, AllInRange, in_range}
 use Rattle.spec_step.specs.Outcome.{Outcome}
-use Rattle.spec_task.specs.Step.{play1, play}
+use Rattle.spec_moo.specs.Steps.{play1, play}
 use Rattle.world.specs.Counted.{Counted}
 use Rattle.world.specs.Sound.{IsSound}
 use Rattle.speculate.specs.declared.held.Held.{Held}

@@ -5,8 +5,8 @@ use Rattle.std.specs.List.{list_all}
 use Rattle.spec_world.specs.World.{World}
 use Rattle.spec_step.specs.Step.{Step, in_range, runs_on, RunsOn, AllInRange}
 use Rattle.spec_step.specs.Outcome.{Outcome}
-use Rattle.spec_task.specs.Step.{play1, play}
-use Rattle.spec_task.proofs.StepKeeps.{number_small}
+use Rattle.spec_moo.specs.Steps.{play1, play}
+use Rattle.world.proofs.Renumbered.{number_small}
 use Rattle.spec_value.proofs.Entries.{first_holds, second_holds}
 use Rattle.world.specs.Counted.{Counted}
 

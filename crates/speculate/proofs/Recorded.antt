@@ -4,7 +4,7 @@ use Rattle.spec_world.specs.World.{World}
 use Rattle.spec_view.specs.Questions.{Read, Change}
 use Rattle.spec_step.specs.Step.{Step}
 use Rattle.spec_step.specs.Outcome.{Outcome}
-use Rattle.spec_task.specs.Step.{play1}
+use Rattle.spec_moo.specs.Steps.{play1}
 use Rattle.world.specs.Law.{Goes}
 use Rattle.world.specs.Trace.{Trace, IsStart, world_now}
 use Rattle.task_run.specs.Performed.{StepsTo}

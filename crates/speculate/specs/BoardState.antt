@@ -2,7 +2,7 @@
 use Rattle.std.specs.Prelude.{◌≡◌, ℕ, suc, ◌+◌, ◌≤◌, List, [], ◌∷◌, length, take, replicate, Some, slice_get, slice_set}
 use Rattle.spec_step.specs.Step.{Step, RunsOn, AllInRange}
 use Rattle.spec_step.specs.Outcome.{Outcome}
-use Rattle.spec_task.specs.Step.{play}
+use Rattle.spec_moo.specs.Steps.{play}
 use Rattle.world.specs.Counted.{Counted}
 use Rattle.world.specs.Sound.{IsSound}
 use Rattle.speculate.specs.Right.{IsRight}

@@ -3,7 +3,7 @@ use Rattle.std.specs.Prelude.{◌≡◌, ◌≢◌, ℕ, zero, suc, ◌+◌, ◌
 use Rattle.spec_view.specs.Questions.{Agrees}
 use Rattle.spec_step.specs.Step.{Step}
 use Rattle.spec_step.specs.Outcome.{Outcome}
-use Rattle.spec_task.specs.Step.{play1}
+use Rattle.spec_moo.specs.Steps.{play1}
 use Rattle.world.specs.Counted.{Counted}
 use Rattle.speculate.specs.Right.{after_guess}
 use Rattle.speculate.specs.BoardState.{BoardState}

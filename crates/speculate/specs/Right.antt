@@ -5,7 +5,7 @@ use Rattle.spec_world.specs.World.{World}
 use Rattle.spec_view.specs.Questions.{Read, Change, Agrees, apply_all}
 use Rattle.spec_step.specs.Step.{Step}
 use Rattle.spec_step.specs.Outcome.{Outcome}
-use Rattle.spec_task.specs.Step.{play1}
+use Rattle.spec_moo.specs.Steps.{play1}
 use Rattle.spec_step.specs.StepCode.{step_code, outcome_code}
 use Rattle.world.specs.QuestionCode.{read_code, change_code}
 use Rattle.world.specs.Sound.{IsSound}

@@ -2,7 +2,7 @@
 ghost use Rattle.std.specs.Prelude.{◌≡◌, ◌≤◌, ◌<◌, ◌+◌, All, length, take, vec_len, IfOk, IfErr, IfSome};
 ghost use Rattle.round_claims.specs.Claimed.{fresh_seat};
 ghost use Rattle.spec_step.specs.Step.{AllInRange};
-ghost use Rattle.spec_task.specs.Step.{play};
+ghost use Rattle.spec_moo.specs.Steps.{play};
 ghost use Rattle.speculate.specs.BoardState.{runs};
 ghost use denote.Param.Send.{IsSend, IsSync};
 

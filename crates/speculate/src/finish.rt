@@ -1,6 +1,6 @@
 //! The end of a list.
 ghost use Rattle.std.specs.Prelude.{◌≡◌, ◌≤◌, ◌+◌, length, take, IfOk, IfErr, OnOk};
-ghost use Rattle.spec_task.specs.Step.{play};
+ghost use Rattle.spec_moo.specs.Steps.{play};
 ghost use Rattle.speculate.specs.BoardState.{IsHonest, runs};
 
 use crate::board::Board;

@@ -1,7 +1,7 @@
 //! A list of steps.
 ghost use Rattle.std.specs.Prelude.{◌≡◌, ◌≢◌, ◌≤◌, ◌<◌, ◌↔◌, ◌⊎◌, ◌+◌, length, take, IfOk, IfErr, IsOk};
 ghost use Rattle.spec_step.specs.Step.{RunsOn, AllInRange};
-ghost use Rattle.spec_task.specs.Step.{play};
+ghost use Rattle.spec_moo.specs.Steps.{play};
 ghost use Rattle.speculate.specs.BoardState.{runs};
 
 use crate::board::Board;

@@ -6,19 +6,19 @@ use Rattle.spec_value.specs.Table.{Numbered, at, without, is_numbered}
 use Rattle.spec_value.proofs.Entries.{first_holds, second_holds}
 use Rattle.spec_value.proofs.Same.{same_integer, integer_itself}
 use Rattle.spec_world.specs.World.{World, Task, Waiting, forked, timed, idle, reading_on}
-use Rattle.spec_world.specs.WellFormed.{lists, once, read_by, links_read, IsWellFormed}
+use Rattle.spec_world.specs.WellFormed.{lists, once, read_by, links_read}
 use Rattle.spec_world.specs.Links.{connection_of, reads_on, reader_among, reader_of, close_link}
 use Rattle.spec_world.proofs.Trees.{same_or_not, some_same}
 use Rattle.spec_world.proofs.Recycling.{below_none}
-use Rattle.spec_world.proofs.TablesKept.{at_left}
-use Rattle.spec_world.proofs.WorldsKept.{link_closed_keeps, well_formed_agrees, agrees_is_well_formed}
 use Rattle.spec_view.specs.Laws.{first}
 use Rattle.spec_view.specs.Questions.{apply, new_task, new_link}
 use Rattle.spec_moo.specs.Linking.{connection_closed, link_closed}
 use Rattle.moo_task.specs.Deeds.{scene_of}
 use Rattle.moo_task.specs.declared.deeds.Deeds.{Deeds}
 use Rattle.world.specs.Law.{Goes, Tells}
-use Rattle.inherit.specs.Lines.{AreWellFormed}
+use Rattle.rules.specs.Lines.{AreAgreeing}
+use Rattle.rules.specs.Standing.{IsStanding}
+use Rattle.rules.proofs.InheritStanding.{closed_stands}
 use Rattle.step_deeds.specs.Closing.{without_readers}
 
 pub first_is_got : (ns : List ℤ) → slice_get ns 0 ≡ first ns
@@ -127,39 +127,33 @@ one_goes (e ∷ ts) c i h k is = go (one_goes ts c i (second_holds _ _ h)) (e.1)
 nobody_read : (w : World) (c : ℤ) → reader_of w c ≡ None → w ≡ without_readers w c
 nobody_read w c h = ap (λ (ts : Numbered Task). record w { tasks = ts }) (sym (none_goes w.tasks c h))
 
-reader_gone : (w : World) (c i : ℤ) → IsWellFormed w → reader_of w c ≡ Some i → apply (new_task i None) w ≡ without_readers w c
+reader_gone : (w : World) (c i : ℤ) → IsStanding w → reader_of w c ≡ Some i → apply (new_task i None) w ≡ without_readers w c
 reader_gone w c i h is = ap (λ (ts : Numbered Task). record w { tasks = ts }) (sym (one_goes w.tasks c i h.tasks_in_order h.readers is))
 
 link_gone : (w : World) (c : ℤ) → apply (new_link c None) (without_readers w c) ≡ close_link w c
 unfolding close_link
 link_gone w c = refl
 
-close_keeps : (w : World) (c : ℤ) → IsWellFormed w → IsWellFormed (close_link w c)
-unfolding close_link
-close_keeps w c h =
-    let parts = well_formed_agrees w h in
-    agrees_is_well_formed (close_link w c) (link_closed_keeps w c parts.0) (λ i t e. parts.1 i t (at_left (λ (m : ℤ × Task). not (reads_on c (m.1).waiting)) w.tasks h.tasks_in_order i t e).0)
-
 -- ---- views
 
 module _ {V : Type 0} (holds : V → World → Type 0) (now : V → World → World) where
   -- the reader goes, if there is one
-  pub none_dropped : (a b : V) (c : ℤ) → Tells holds now a b (λ w. reader_of w c ≡ None) → Goes holds now a b (λ before after. IsWellFormed before → after ≡ without_readers before c)
+  pub none_dropped : (a b : V) (c : ℤ) → Tells holds now a b (λ w. reader_of w c ≡ None) → Goes holds now a b (λ before after. IsStanding before → after ≡ without_readers before c)
   none_dropped a b c told w left = let t = told w left in (t.0, λ h. t.1.0 ∙ nobody_read (now a w) c t.1.1)
 
   pub one_dropped : (a b d : V) (c i : ℤ) → Tells holds now a b (λ w. reader_of w c ≡ Some i) → Goes holds now b d (λ before after. after ≡ apply (new_task i None) before)
-      → Goes holds now a d (λ before after. IsWellFormed before → after ≡ without_readers before c)
+      → Goes holds now a d (λ before after. IsStanding before → after ≡ without_readers before c)
   one_dropped a b d c i told gone w left =
       let u = gone w left in let t = told w u.0 in (t.0, λ h. u.1 ∙ ap (apply (new_task i None)) t.1.0 ∙ reader_gone (now a w) c i h t.1.1)
 
   -- and then the link
-  pub closed : (a b d : V) (c : ℤ) → AreWellFormed holds now a → Goes holds now a b (λ before after. IsWellFormed before → after ≡ without_readers before c)
+  pub closed : (a b d : V) (c : ℤ) → AreAgreeing holds now a → Goes holds now a b (λ before after. IsStanding before → after ≡ without_readers before c)
       → Goes holds now b d (λ before after. after ≡ apply (new_link c None) before) → Goes holds now a d (λ before after. after ≡ close_link before c)
   closed a b d c known dropped gone w left =
       let u = gone w left in let t = dropped w u.0 in (t.0, u.1 ∙ ap (apply (new_link c None)) (t.1 (known w t.0)) ∙ link_gone (now a w) c)
 
-  pub closed_well : (a d : V) (c : ℤ) → AreWellFormed holds now a → Goes holds now a d (λ before after. after ≡ close_link before c) → AreWellFormed holds now d
-  closed_well a d c known told w left = let t = told w left in subst IsWellFormed (sym t.1) (close_keeps (now a w) c (known w t.0))
+  pub closed_well : (a d : V) (c : ℤ) → AreAgreeing holds now a → Goes holds now a d (λ before after. after ≡ close_link before c) → AreAgreeing holds now d
+  closed_well a d c known told w left = let t = told w left in subst IsStanding (sym t.1) (closed_stands (now a w) c (known w t.0))
 
   -- the link of an object that has none
   pub none_closed : (a b : V) (d : Deeds) (o : ℤ) → Tells holds now a b (λ w. connection_of w o ≡ None)

@@ -1,13 +1,13 @@
 //! Links of objects.
 ghost use Rattle.std.specs.Prelude.{◌≡◌, ℕ, IfOk, OnOk};
-ghost use Rattle.spec_world.specs.WellFormed.{IsWellFormed};
 ghost use Rattle.spec_world.specs.Links.{connection_of, reader_of};
 ghost use Rattle.spec_world.specs.Links.{close_link as close_link_of};
 ghost use Rattle.spec_view.specs.Laws.{first as first_of};
 ghost use Rattle.spec_moo.specs.Linking.{link_closed};
 ghost use Rattle.moo_task.specs.Deeds.{scene_of};
 ghost use Rattle.world.specs.Law.{Goes, Lasts, Tells};
-ghost use Rattle.inherit.specs.Lines.{AreWellFormed};
+ghost use Rattle.rules.specs.Lines.{AreAgreeing};
+ghost use Rattle.rules.specs.Standing.{IsStanding};
 ghost use Rattle.step_deeds.specs.Closing.{without_readers};
 
 use moo_task::deeds::Deeds;
@@ -38,10 +38,10 @@ pub fn reader<V: View>(view: &mut V, connection: i32) -> Result<Option<i32>, All
 /// A link goes, and a task that reads on it goes with it.
 pub fn close_link<V: View>(view: &mut V, connection: i32) -> Result<(), AllocError>
     requires home { V.holds view.old (V.home view.old) }
-    requires well_formed { AreWellFormed V.holds V.now view.old }
+    requires well_formed { AreAgreeing V.holds V.now view.old }
     ensures lasts { Lasts V.holds V.home V.anchor view.old view.new result }
     ensures left { OnOk result (Goes V.holds V.now view.old view.new (λ before after. after ≡ close_link_of before connection)) }
-    ensures well_formed { OnOk result (AreWellFormed V.holds V.now view.new) }
+    ensures well_formed { OnOk result (AreAgreeing V.holds V.now view.new) }
 {
     drop_reader(view, connection)?;
     write_link(view, connection, None)?;
@@ -55,11 +55,11 @@ pub fn close_connection_of<V: View>(
     object: i32,
 ) -> Result<(), AllocError>
     requires home { V.holds view.old (V.home view.old) }
-    requires well_formed { AreWellFormed V.holds V.now view.old }
+    requires well_formed { AreAgreeing V.holds V.now view.old }
     ensures lasts { Lasts V.holds V.home V.anchor view.old view.new result }
     ensures left { OnOk result (Goes V.holds V.now view.old view.new
         (λ before after. (t : ℕ) → scene_of deeds.new after t ≡ link_closed (scene_of deeds.old before t) object)) }
-    ensures well_formed { OnOk result (AreWellFormed V.holds V.now view.new) }
+    ensures well_formed { OnOk result (AreAgreeing V.holds V.now view.new) }
 {
     let Some(link) = connection(view, object)? else {
         return Ok(());
@@ -73,7 +73,7 @@ pub fn close_connection_of<V: View>(
 fn drop_reader<V: View>(view: &mut V, connection: i32) -> Result<(), AllocError>
     ensures lasts { Lasts V.holds V.home V.anchor view.old view.new result }
     ensures left { OnOk result (Goes V.holds V.now view.old view.new
-        (λ before after. IsWellFormed before → after ≡ without_readers before connection)) }
+        (λ before after. IsStanding before → after ≡ without_readers before connection)) }
 {
     let Some(task) = reader(view, connection)? else {
         return Ok(());

@@ -1,12 +1,24 @@
-use moo_syntax::parse::parse;
+use moo_parse::parse::parse;
 use moo_tree::expression::{Expression, ExpressionNode, TargetNode};
 use moo_tree::statement::StatementNode;
+use moo_value::operator::BinaryOperator;
 use moo_value::value::Shown;
 use std::alloc::{AllocError, Global};
 use std::test::Fail;
 use syntax_fault::fault::FaultKind;
 
-// Each expression in brackets: a sum as (a + b), a property as [o p], an assignment as {o p = e}.
+// The signs of the operators that the rows have.
+fn sign_of(operator: BinaryOperator) -> &'static str {
+    match operator {
+        BinaryOperator::Plus => " + ",
+        BinaryOperator::Times => " * ",
+        BinaryOperator::ToThe => " ^ ",
+        BinaryOperator::Equals => " == ",
+        _ => " other ",
+    }
+}
+
+// Each expression in brackets: a sum as (a + b), a property as [o p], an assignment as {o p = e} or {v = e}.
 fn show(alloc: Global, out: &mut String, expression: &Expression) -> Result<(), AllocError> {
     match &expression.node {
         ExpressionNode::Literal(value) => match value.shown() {
@@ -17,10 +29,10 @@ fn show(alloc: Global, out: &mut String, expression: &Expression) -> Result<(), 
             Shown::List(_) => out.push_str("list")?,
         },
         ExpressionNode::Variable(name) => out.push_str(name.as_str())?,
-        ExpressionNode::Binary(_, left, right) => {
+        ExpressionNode::Binary(operator, left, right) => {
             out.push_str("(")?;
             show(alloc, out, left)?;
-            out.push_str(" + ")?;
+            out.push_str(sign_of(*operator))?;
             show(alloc, out, right)?;
             out.push_str(")")?;
         }
@@ -33,10 +45,14 @@ fn show(alloc: Global, out: &mut String, expression: &Expression) -> Result<(), 
         }
         ExpressionNode::Assignment(target, value) => {
             out.push_str("{")?;
-            if let TargetNode::Property(object, name) = &target.node {
-                show(alloc, out, object)?;
-                out.push_str(" ")?;
-                show(alloc, out, name)?;
+            match &target.node {
+                TargetNode::Variable(name) => out.push_str(name.as_str())?,
+                TargetNode::Property(object, name) => {
+                    show(alloc, out, object)?;
+                    out.push_str(" ")?;
+                    show(alloc, out, name)?;
+                }
+                _ => out.push_str("other")?,
             }
             out.push_str(" = ")?;
             show(alloc, out, value)?;
@@ -69,7 +85,7 @@ fn answer_of(alloc: Global, text: &str) -> Result<String, AllocError> {
     Ok(out)
 }
 
-const ANSWERS: [(&str, &str); 100] = [
+const ANSWERS: [(&str, &str); 119] = [
     // nothing, blanks, empty statements
     ("", ""),
     (" \t\n", ""),
@@ -120,6 +136,12 @@ const ANSWERS: [(&str, &str); 100] = [
     ("1 .p;", "[1 'p'];"),
     ("(a+b).c;", "[(a + b) 'c'];"),
     ("a+b.c;", "(a + [b 'c']);"),
+    // operators
+    ("1+2*3;", "(1 + (2 * 3));"),
+    ("1*2+3;", "((1 * 2) + 3);"),
+    ("2^3^4;", "(2 ^ (3 ^ 4));"),
+    ("a==1+2;", "(a == (1 + 2));"),
+    ("o.p==1;", "([o 'p'] == 1);"),
     ("\"s\".length;", "['s' 'length'];"),
     // assignments
     ("o.p=1;", "{o 'p' = 1};"),
@@ -130,12 +152,29 @@ const ANSWERS: [(&str, &str); 100] = [
     ("(o.p=1)+2;", "({o 'p' = 1} + 2);"),
     ("1+(o.p=2);", "(1 + {o 'p' = 2});"),
     ("o.(o.p=1);", "[o {o 'p' = 1}];"),
+    ("a=1;", "{a = 1};"),
+    ("A=b=1;", "{a = {b = 1}};"),
+    ("a[1]=2;{b,?c,@d}=e;", "{other = 2};other;"),
     // return
     ("return;", "return;"),
     ("RETURN 1;", "return 1;"),
     ("return o.p=1;", "return {o 'p' = 1};"),
     ("return(1);2;", "return 1;2;"),
     ("1;2;;3;", "1;2;3;"),
+    // other statements
+    ("if (1) endif", "other;"),
+    ("while (1) break; endwhile", "other;"),
+    (
+        "fork (0) while x (1) continue x; endwhile endfork",
+        "other;",
+    ),
+    // a loop that is none, or has another name, or is that of another task
+    ("1;\nbreak;", "LoopName 2"),
+    ("while (1) break foo; endwhile", "LoopName 1"),
+    (
+        "while x (1) fork (0)\nbreak x; endfork endwhile",
+        "LoopName 2",
+    ),
     // a token with which no program goes on
     ("1", "Token 1"),
     ("1\n\n", "Token 1"),
@@ -148,12 +187,18 @@ const ANSWERS: [(&str, &str); 100] = [
     ("(1;", "Token 1"),
     ("1);", "Token 1"),
     ("();", "Token 1"),
-    ("a=1;", "Token 1"),
     ("(o.p)=1;", "Token 1"),
     ("1+o.p=1;", "Token 1"),
     ("o.p+1=2;", "Token 1"),
-    ("o.p==1;", "Token 1"),
     ("o.p=\n=1;", "Token 2"),
+    ("x = ;", "Token 1"),
+    ("{a,@b,@c}=1;", "Token 1"),
+    ("{}=1;", "Token 1"),
+    ("if (1) else elseif (2) endif", "Token 1"),
+    ("try 1; endtry", "Token 1"),
+    ("retrun 8;", "Token 1"),
+    ("f(1;", "Token 1"),
+    ("`a ! ANY;", "Token 1"),
     ("o.;", "Token 1"),
     ("o.\nif;", "Token 2"),
     ("o.1;", "Token 1"),
@@ -162,7 +207,6 @@ const ANSWERS: [(&str, &str); 100] = [
     ("$;", "Token 1"),
     ("$1;", "Token 1"),
     ("return return;", "Token 1"),
-    ("if (1) endif", "Token 1"),
     (")2147483649;", "Token 1"),
     ("1 2147483649;", "Number 1"),
     // what is no token

@@ -1,5 +1,5 @@
+use moo_parse::parse::parse;
 use moo_printer::print::print;
-use moo_syntax::parse::parse;
 use moo_tree::statement::Tree;
 use std::alloc::{AllocError, Global};
 use std::test::Fail;
@@ -30,6 +30,34 @@ fn read_and_spelled(rt: HostRuntime) -> Result<(), Fail> {
         ("((a.b)).c=(d.e=1);", "a.b.c = d.e = 1;\n"),
         ("(a+b).c;", "(a + b).c;\n"),
         ("2147483648;", "2147483648;\n"),
+        (
+            "if(1)return{1,2};endif",
+            "if (1)\n  return {1, 2};\nendif\n",
+        ),
+        (
+            "IF (a) ELSEIF (b) ; ELSE x; ENDIF",
+            "if (a)\nelseif (b)\nelse\n  x;\nendif\n",
+        ),
+        (
+            "for Foo in(l)while(1)continue FOO;endwhile endfor for i in[1..2]break;endfor",
+            "for foo in (l)\n  while (1)\n    continue foo;\n  endwhile\nendfor\nfor i in [1..2]\n  break;\nendfor\n",
+        ),
+        (
+            "fork b(0)notify(player,\"B\");endfork",
+            "fork b (0)\n  notify(player, \"B\");\nendfork\n",
+        ),
+        (
+            "try while(1)endwhile finally f(@a,-b)[1..$-1];endtry",
+            "try\n  while (1)\n  endwhile\nfinally\n  f(@a, -b)[1..$ - 1];\nendtry\n",
+        ),
+        (
+            "return`#6:hum()!e_verbnf=>\"none\"';",
+            "return `#6:hum() ! E_VERBNF => \"none\"';\n",
+        ),
+        (
+            "{a,?b=1,@c}=d;a?b|c;!a&&b;",
+            "{a, ?b = 1, @c} = d;\na ? b | c;\n!a && b;\n",
+        ),
     ];
     for (text, expected) in rows.iter() {
         let tree = parse(alloc, text.as_bytes())?;

@@ -1,9 +1,1 @@
-pub mod Callers
-pub mod LineRules
-pub mod Played
 pub mod Playing
-pub mod SoundSteps
-pub mod SoundTasks
-pub mod Stepping
-pub mod Verbs
-pub mod Words

@@ -1,11 +1,13 @@
 -- A step on a world, and steps one after another.
-use Rattle.std.proofs.Common.{◌≡◌, ℕ, ◌+◌, ◌<◌, ◌≤◌, List, [], ◌∷◌, ◌++◌, length, get_or, take, sym, ap, ◌∙◌, arith, add-one}
+use Rattle.std.proofs.Common.{IfOk, Result, Ok, Err, ◌≡◌, ℕ, ◌+◌, ◌<◌, ◌≤◌, List, [], ◌∷◌, ◌++◌, length, get_or, take, sym, ap, ◌∙◌, arith, add-one}
 use Rattle.std.proofs.Math.Seq.{take-suc, take-length}
 use Rattle.spec_world.specs.World.{World}
 use Rattle.spec_step.specs.Step.{Step}
 use Rattle.spec_step.specs.Outcome.{Outcome}
-use Rattle.spec_task.specs.Step.{play1, play}
-use Rattle.spec_task.proofs.Steps.{play_goes_on}
+use Rattle.spec_moo.specs.Steps.{play1, play}
+use Rattle.spec_moo.proofs.StepWorlds.{play_goes_on}
+use Rattle.world.specs.Law.{Goes}
+use Rattle.steps.specs.Performed as performed
 use Rattle.task_run.specs.Performed.{StepsTo}
 
 -- what a step left and gave is what it plays
@@ -35,3 +37,13 @@ first_played w u v ss i n os h count same l = (ap (λ k. play w (take k ss)) cou
 -- the whole
 pub all_played : (w u : World) (ss : List Step) (i : ℕ) (os : List Outcome) → play w (take i ss) ≡ (u, os) → i ≡ length ss → play w ss ≡ (u, os)
 all_played w u ss i os h e = sym (ap (play w) (ap (λ k. take k ss) e ∙ take-length ss)) ∙ h
+
+-- what a step plays over a view is what it left and gave
+pub stepped : {V : Type 0} (holds : V → World → Type 0) (now : V → World → World) (a b : V) (f : World → World × Outcome) (o : Outcome)
+    → Goes holds now a b (λ before after. performed.StepsTo (f before) after o) → Goes holds now a b (λ before after. StepsTo (f before) after o)
+stepped holds now a b f o goes w left = let g = goes w left in (g.0, (ap (λ p. p.0) (sym g.1), ap (λ p. p.1) g.1))
+
+pub answer_stepped : {V E : Type 0} (holds : V → World → Type 0) (now : V → World → World) (a b : V) (f : World → World × Outcome) (r : Result Outcome E)
+    → IfOk r (λ o. Goes holds now a b (λ before after. performed.StepsTo (f before) after o)) → IfOk r (λ o. Goes holds now a b (λ before after. StepsTo (f before) after o))
+answer_stepped holds now a b f (Ok o) goes = stepped holds now a b f o goes
+answer_stepped holds now a b f (Err e) goes = tt

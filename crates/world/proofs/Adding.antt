@@ -7,15 +7,15 @@ use Rattle.std.specs.Cmp.{int_cmp_total}
 use Rattle.std.specs.FinMap.{int_cmp-IsAntisymmetric}
 use Rattle.std.specs.FinMap.Entries.{find-put}
 use Rattle.spec_value.specs.Datum.{Text}
-use Rattle.spec_task.specs.Commands.{nowhere}
-use Rattle.spec_world.specs.World.{World, Object, Verb, Link, object_at}
+use Rattle.spec_world.specs.Families.{nowhere}
+use Rattle.spec_world.specs.World.{World, Object, Link, object_at}
 use Rattle.spec_world.specs.Inherit.{line, line_onto, line_bound, ancestors, slot_of, content_of}
 use Rattle.spec_world.specs.WellFormed.{IsWellFormed, OfEachObject, comes_out, ends_above, is_nowhere, lists, passes, on_object, number_fits, children_agree, parent_agrees, contents_agree, location_agrees, folded_names, defined_on, has_name, names_once, slot_names, line_names_once, slots_agree, slots_in_order, definers_filled, is_connection, link_fits, once}
-use Rattle.spec_task.specs.Turn.{is_wizard, wizardly}
 use Rattle.spec_value.proofs.Entries.{first_holds, second_holds, both_hold}
 use Rattle.spec_value.proofs.Keys.{still_sorted}
 use Rattle.spec_world.proofs.SlotChanges.{find-put_same, find-put_other}
-use Rattle.world.specs.Sound.{IsSimple, IsSound, verb_covered, verbs_covered, slots_own, is_covered}
+use Rattle.spec_holding.specs.Whole.{TextsSpell, programs_spelled}
+use Rattle.world.specs.Sound.{IsSound}
 use Rattle.world.specs.Objects.{next_object, with_next_object, alone, AddingKeeps}
 
 -- ---- tests
@@ -277,22 +277,10 @@ module _ (w : World) (x : Object) (h : IsWellFormed w) where
         readers = h.readers;
       }
 
-  -- a verb stays the wizard's
-  covered_still : (v : Verb) → IsTrue (verb_covered w v) → IsTrue (verb_covered after v)
-  covered_still v t =
-      let owned = first_holds (int_eq v.owner (pos 2) && is_wizard w (pos 2)) (is_covered v.program) t in
-      both_hold (int_eq v.owner (pos 2) && is_wizard after (pos 2)) (is_covered v.program)
-      (both_hold (int_eq v.owner (pos 2)) (is_wizard after (pos 2)) (first_holds (int_eq v.owner (pos 2)) (is_wizard w (pos 2)) owned) (still wizardly refl (pos 2) (second_holds (int_eq v.owner (pos 2)) (is_wizard w (pos 2)) owned)))
-      (second_holds (int_eq v.owner (pos 2) && is_wizard w (pos 2)) (is_covered v.program) t)
-
-  simple : IsSimple w → IsSimple after
-  simple k =
-      record {
-        verbs = each verbs_covered (λ q y is t. all_more (verb_covered w) (verb_covered after) covered_still y.verbs t) refl k.verbs;
-        slots = each slots_own (λ q y is t. t) refl k.slots;
-      }
+  spelled : TextsSpell w → TextsSpell after
+  spelled k = (each programs_spelled (λ q y is t. t) refl k.0, k.1)
 
 pub adding_keeps : AddingKeeps
 adding_keeps w x h room stands =
     subst (λ y. IsSound (with_next_object w y)) (sym stands)
-    (record { well_formed = fits w x h.well_formed room; simple = simple w x h.well_formed h.simple })
+    (record { well_formed = fits w x h.well_formed room; spelled = spelled w x h.well_formed h.spelled })

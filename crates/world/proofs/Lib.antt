@@ -13,6 +13,7 @@ pub mod Maps
 pub mod Applied
 pub mod Settled
 pub mod Changed
+pub mod Renumbered
 pub mod SoundKeeps
 pub mod Walks
 pub mod Adding

@@ -48,6 +48,12 @@ pub known_readers : (c : ℤ) (es : List (ℕ × Task)) (rs : List (ℕ × ℤ))
     → chosen (λ k d. cond (int_eq c d) (Some (signed_key k)) None) rs ≡ map (λ e. e.0) (filter (λ e. reads_on c (e.1).waiting) (signed es))
 known_readers c es rs h = ap (λ (ds : List (ℕ × ℤ)). chosen (λ k d. cond (int_eq c d) (Some (signed_key k)) None) ds) h.readers ∙ readers_of c es
 
+-- ---- numbers
+
+pub all_numbers : {X : Type 0} (es : List (ℕ × X)) → chosen (λ k _. Some (pos k)) es ≡ map (λ e. e.0) (numbered es)
+all_numbers [] = refl
+all_numbers (e ∷ es) = ap (λ ns. pos e.0 ∷ ns) (all_numbers es)
+
 -- ---- links
 
 pub links_of : (o : ℤ) (es : List (ℕ × Link)) → chosen (λ k l. cond (int_eq l.person o) (Some (pos k)) None) es ≡ map (λ e. e.0) (filter (λ e. int_eq (e.1).person o) (numbered es))

@@ -39,7 +39,7 @@ empty_is_well_formed = record {
 }
 
 pub empty_is_sound : IsSound empty_world
-empty_is_sound = record { well_formed = empty_is_well_formed; simple = record { verbs = λ o x e. cc; slots = λ o x e. cc } }
+empty_is_sound = record { well_formed = empty_is_well_formed; spelled = (λ o x e. cc, λ i t e. cc) }
 
 -- ---- another ending flag
 
@@ -104,4 +104,4 @@ settled_is_well_formed w b h = record {
     slots_of names x = list_all (has_name names) (slot_names x) && list_all (has_name (slot_names x)) names
 
 pub settled_is_sound : (w : World) (b : Bool) → IsSound w → IsSound (settled w b)
-settled_is_sound w b h = record { well_formed = settled_is_well_formed w b h.well_formed; simple = record { verbs = h.simple.verbs; slots = h.simple.slots } }
+settled_is_sound w b h = record { well_formed = settled_is_well_formed w b h.well_formed; spelled = (h.spelled.0, h.spelled.1) }

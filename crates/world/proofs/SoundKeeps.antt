@@ -1,57 +1,37 @@
 -- A slot that is there takes another value, and the world stays as it has to be.
-use Rattle.std.proofs.Common.{◌≡◌, ◌≢◌, ℕ, ℤ, Bool, true, false, List, [], ◌∷◌, map, Option, Some, None, refl, sym, ap, ◌∙◌, subst, IsTrue, is_some, ◌&&◌, int_cmp, is_eq, arith, if◌then◌else◌, Ordering, Less, Equal, Greater}
-use Rattle.std.specs.Prelude.{option_map, pos, max, min}
-use Rattle.std.specs.List.{list_all}
+use Rattle.std.proofs.Common.{◌≡◌, ◌≢◌, ℕ, ℤ, true, [], Option, Some, None, refl, sym, ap, ◌∙◌, subst, IsTrue, is_some, int_cmp, is_eq, arith, Ordering, Less, Equal, Greater}
+use Rattle.std.specs.Prelude.{option_map, max, min}
 use Rattle.std.specs.FinMap.{int_cmp-IsAntisymmetric}
 use Rattle.spec_value.specs.Datum.{Datum, Text, fold_case}
-use Rattle.spec_value.specs.Table.{named, with_name}
-use Rattle.spec_world.specs.World.{World, Object, Slot, Verb, object_at}
+use Rattle.spec_value.specs.Table.{at, named, with_name}
+use Rattle.spec_world.specs.World.{World, Object, Slot, object_at}
 use Rattle.spec_world.specs.Inherit.{slot_of, slot_at, with_slot}
-use Rattle.spec_world.specs.WellFormed.{IsWellFormed, has_name}
-use Rattle.spec_task.specs.Turn.{is_wizard, wizardly}
-use Rattle.spec_task.specs.Turn.{Pending}
-use Rattle.spec_task.specs.Segment.{segment}
-use Rattle.spec_step.specs.Step.{Event, Step, in_range}
-use Rattle.spec_step.specs.Outcome.{Outcome, ended}
-use Rattle.spec_task.specs.Step.{plain, run_event, numbered, performed, play1}
+use Rattle.spec_world.specs.WellFormed.{IsWellFormed, OfEachObject}
 use Rattle.spec_view.specs.Questions.{new_value, new_next, put_value, apply}
-use Rattle.spec_task.proofs.StepKeeps.{segment_holds, event_holds, renumbered, next_small, numbered_keeps}
-use Rattle.spec_world.proofs.SlotChanges.{itself, names_total, object_stays, other_objects_stay}
+use Rattle.world.proofs.Renumbered.{renumbered, next_small}
+use Rattle.spec_step.specs.Step.{Step, in_range}
+use Rattle.spec_moo.specs.Steps.{play1}
+use Rattle.spec_holding.specs.UnderWay.{are_programmed}
+use Rattle.spec_holding.specs.Whole.{TextsSpell, programs_spelled}
+use Rattle.spec_holding.proofs.WholeWorlds.{stays_whole_once}
+use Rattle.spec_world.proofs.SlotChanges.{itself, names_total, object_stays, other_objects_stay, world_stays}
 use Rattle.spec_world.proofs.SlotKeeps.{slot_keeps}
 use Rattle.spec_value.proofs.Keys.{keys_put}
-use Rattle.spec_world.proofs.Shapes.{Shape, shape, Alike, carried, by_shape}
-use Rattle.world.specs.Sound.{IsSimple, IsSound, verbs_covered, is_covered}
-use Rattle.std.specs.Ordering.{int_eq}
+use Rattle.spec_world.proofs.Shapes.{shape, Alike, carried}
+use Rattle.world.specs.Sound.{IsSound}
 use Rattle.std.specs.Cmp.{int_cmp_total}
 
--- ---- the language so far looks at no slot's content
+-- ---- what texts spell is looked at in no slot
 
-module _ (w u : World) (alike : Alike w u) where
-  wizard_same : (o : ℤ) → is_wizard w o ≡ is_wizard u o
-  wizard_same o = by_shape w u alike wizardly of_shape same o
-    where
-      of_shape : Option Shape → Bool
-      of_shape None = false
-      of_shape (Some z) = (z.0).header.is_wizard
+programs_alike : (w u : World) → Alike w u → OfEachObject w programs_spelled → OfEachObject u programs_spelled
+programs_alike w u alike h = λ q y is. carried w u alike q y is (λ z. are_programmed z.0) (λ z. are_programmed z.0) (λ z. refl) (λ x e. h q x e)
 
-      same : (x : Option Object) → wizardly x ≡ of_shape (option_map shape x)
-      same None = refl
-      same (Some x) = refl
+tasks_stay : (w : World) (o : ℤ) (p : Text) (t : Slot) → (with_slot w o p t).tasks ≡ w.tasks
+tasks_stay w o p t = ap (λ (u : World). u.tasks) (world_stays w o p t)
 
-  covered_same : (q : ℤ) (x : Object) → verbs_covered w q x ≡ verbs_covered u q x
-  covered_same q x = ap (λ b. list_all (λ v. verb_covered_by b v) x.verbs) (wizard_same (pos 2))
-    where
-      verb_covered_by : Bool → Verb → Bool
-      verb_covered_by b v = int_eq v.owner (pos 2) && b && is_covered v.program
-
-  simple_alike : IsSimple w → IsSimple u
-  simple_alike h =
-      record {
-        verbs = λ q y is. carried w u alike q y is (λ z. verbs_covered w q z.0) (λ z. verbs_covered u q z.0) (λ z. covered_same q z.0) (λ x e. h.verbs q x e);
-        slots = λ q y is.
-            carried w u alike q y is (λ z. list_all (has_name (map fold_case (z.0).defines)) z.1) (λ z. list_all (has_name (map fold_case (z.0).defines)) z.1) (λ z. refl)
-            (λ x e. h.slots q x e);
-      }
+spelled_slot : (w : World) (o : ℤ) (p : Text) (t : Slot) → Alike w (with_slot w o p t) → TextsSpell w → TextsSpell (with_slot w o p t)
+spelled_slot w o p t alike h =
+    (programs_alike w (with_slot w o p t) alike h.0, λ i x is. h.1 i x (subst (λ ts. at ts i ≡ Some x) (tasks_stay w o p t) is))
 
 -- ---- one slot
 
@@ -91,10 +71,11 @@ pub sound_slot : (w : World) (o : ℤ) (p : Text) (s : Slot) (v : Datum) → IsS
 sound_slot w o p s v h found =
     record {
       well_formed = slot_keeps w o p s (record s { content = Some v }) h.well_formed found refl;
-      simple = simple_alike w (with_slot w o p (record s { content = Some v })) (alike_after w o p s (record s { content = Some v }) h.well_formed found) h.simple;
+      spelled =
+          spelled_slot w o p (record s { content = Some v }) (alike_after w o p s (record s { content = Some v }) h.well_formed found) h.spelled;
     }
 
--- ---- changes, writes, segments and steps
+-- ---- changes
 
 -- another value in a slot, or a next number that is no less
 pub sound_valued : (o : ℤ) (p : Text) (v : Datum) (w : World) → IsSound w → IsSound (apply (new_value o p v) w)
@@ -108,24 +89,10 @@ pub sound_raised : (n : ℕ) (w : World) → IsSound w → IsSound (apply (new_n
 sound_raised n w h =
     record {
       well_formed = renumbered w (max (min n 33554432) w.next) (omega arith) (omega (arith, next_small w h.well_formed)) h.well_formed;
-      simple = record { verbs = h.simple.verbs; slots = h.simple.slots };
+      spelled = (h.spelled.0, h.spelled.1);
     }
 
-pub sound_segment : (t : ℕ) (w : World) (p : Pending) → IsSound w → IsSound (segment t w p).world
-sound_segment = segment_holds IsSound (λ w o p s v e h. sound_slot w o p s v h e)
-
-pub sound_event : (w : World) (e : Event) → IsSound w → IsSound (run_event w e).0
-sound_event = event_holds IsSound (λ w o p s v e h. sound_slot w o p s v h e)
-
-pub sound_performed : (w : World) (e : Event) → IsSound w → IsSound (performed w e).0
-sound_performed w e h = go w.ending
-  where
-    go : (b : Bool) → (let r : World × Outcome = if b then (w, plain ended []) else run_event w e in IsSound (r.0))
-    go true = h
-    go false = sound_event w e h
+-- ---- steps
 
 pub sound_step : (w : World) (s : Step) → IsSound w → IsTrue (in_range s) → IsSound (play1 w s).0
-unfolding play1
-sound_step w s h is =
-    sound_performed (numbered s.number w) s.event
-    (record { well_formed = numbered_keeps w s h.well_formed is; simple = record { verbs = h.simple.verbs; slots = h.simple.slots } })
+sound_step w s h is = let k = stays_whole_once w s h.well_formed h.spelled is in record { well_formed = k.0; spelled = k.1 }

@@ -1,7 +1,7 @@
 -- Worlds with one object more.
 use Rattle.std.specs.Prelude.{◌≡◌, ℤ, pos, ◌+ℤ◌, int_le, [], IsTrue}
 use Rattle.spec_world.specs.World.{World, Object, with_object}
-use Rattle.spec_task.specs.Commands.{nowhere}
+use Rattle.spec_world.specs.Families.{nowhere}
 use Rattle.world.specs.Sound.{IsSound}
 
 -- the number after the greatest

@@ -39,6 +39,20 @@ impl Choice<Task, i32> for AllIds {
     }
 }
 
+/// The numbers of all objects, or of all links.
+#[derive(Clone, Copy)]
+pub(crate) struct AllNumbers;
+
+impl<R> Choice<R, i32> for AllNumbers {
+    ghost bound = { λ _. 1048576 };
+
+    ghost picks = { λ _ k _. Some (pos k) };
+
+    fn choose(&self, key: u64, _found: &R) -> Option<i32> {
+        Some(key as i32)
+    }
+}
+
 /// The ids of the tasks that read on a connection, of the connections by the ids of their readers.
 #[derive(Clone, Copy)]
 pub(crate) struct ReadersOf {

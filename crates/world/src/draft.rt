@@ -1,5 +1,5 @@
 //! A world between two changes.
-ghost use Rattle.std.specs.Prelude.{◌≡◌, ◌↔◌, ◌<◌, ℕ, ℤ, pos, negsuc, false, [], max, IfOk, OnOk, OnErr, IsTrue, is_some, option_map, MatchOption};
+ghost use Rattle.std.specs.Prelude.{◌≡◌, ◌↔◌, ◌<◌, ℕ, ℤ, pos, negsuc, false, [], max, IfOk, OnOk, OnErr, IsTrue, is_some, map, option_map, MatchOption};
 ghost use Rattle.spec_value.specs.Table.{at, with};
 ghost use Rattle.spec_world.specs.World.{object_at, with_object};
 ghost use Rattle.spec_view.specs.Listings.{waiting_ids, readers_on, connections_of, connected};
@@ -8,7 +8,7 @@ ghost use Rattle.world.specs.Meanings.{question_of, answer_of, part_of, change_o
 ghost use Rattle.world.specs.Numbered.{numbered};
 
 use crate::change::Change;
-use crate::choice::{LinksOf, LoggedIn, gather, is_gathered};
+use crate::choice::{AllNumbers, LinksOf, LoggedIn, gather, is_gathered};
 use crate::header::Header;
 use crate::link::Link;
 use crate::lists::{Names, Numbers, Objects, Players};
@@ -158,8 +158,49 @@ impl Draft {
         })
     }
 
+    /// The greatest number of objects that was ever given, -1 if none was.
+    pub fn greatest(&self) -> i32
+        ensures { result ≡ self.now.greatest }
+    {
+        self.greatest
+    }
+
+    /// The number of the next step.
+    pub fn next(&self) -> u64
+        ensures { result ≡ self.now.next }
+    {
+        self.next
+    }
+
+    /// Whether the server is to end.
+    pub fn is_ending(&self) -> bool
+        ensures { result ≡ self.now.ending }
+    {
+        self.ending
+    }
+
+    /// The numbers of the objects, in order.
+    pub fn object_numbers(&self) -> Result<Numbers, AllocError>
+        ensures { IfOk result (λ numbers. numbers ≡ map (λ e. e.0) self.now.objects) }
+    {
+        let _within = self.objects.len();
+        let found = gather(self.alloc, &self.objects, &AllNumbers)?;
+        let numbers = Numbers::new(self.alloc, found)?;
+        Ok(numbers)
+    }
+
+    /// The numbers of the links, in order.
+    pub fn link_numbers(&self) -> Result<Numbers, AllocError>
+        ensures { IfOk result (λ numbers. numbers ≡ map (λ e. e.0) self.now.links) }
+    {
+        let _within = self.links.len();
+        let found = gather(self.alloc, &self.links, &AllNumbers)?;
+        let numbers = Numbers::new(self.alloc, found)?;
+        Ok(numbers)
+    }
+
     /// What an object is.
-    fn object(&self, number: i32) -> Option<&Object>
+    pub fn object(&self, number: i32) -> Option<&Object>
         ensures { option_map (λ x. x.now) result ≡ object_at self.now number }
     {
         record_at(&self.objects, number)
@@ -201,14 +242,22 @@ impl Draft {
         Some(self.object(number)?.verbs())
     }
 
-    fn link(&self, number: i32) -> Option<&Link>
+    /// What a link is.
+    pub fn link(&self, number: i32) -> Option<&Link>
         ensures { option_map (λ k. k.now) result ≡ at self.now.links number }
     {
         record_at(&self.links, number)
     }
 
-    // The ids of the tasks that wait.
-    fn waiting(&self) -> Result<Numbers, AllocError>
+    /// The task of an id, if it waits.
+    pub fn task(&self, id: i32) -> Option<&Task>
+        ensures { option_map (λ t. t.now) result ≡ at self.now.tasks id }
+    {
+        self.tasks.get(id)
+    }
+
+    /// The ids of the tasks that wait, in order.
+    pub fn waiting(&self) -> Result<Numbers, AllocError>
         ensures { IfOk result (λ ids. ids ≡ waiting_ids self.now) }
     {
         let found = self.tasks.ids(self.alloc)?;

@@ -2,7 +2,7 @@
 ghost use Rattle.std.specs.Prelude.{◌≡◌, ◌<◌, ◌≤◌, ◌↔◌, IfOk, IfErr, OnOk, OnErr, IsTrue, Some, None, [], ◌∷◌, option_map, MatchOption, ℕ, slice_index_or, slice_set, insert, remove, length, vec_len};
 ghost use Rattle.spec_value.specs.Datum.{Text as Characters, fold_case};
 ghost use Rattle.spec_world.specs.World.{Slot as SlotOf};
-ghost use Rattle.spec_value.specs.Table.{named, with_name, without_name};
+ghost use Rattle.spec_value.specs.Table.{named, is_named, with_name, without_name};
 
 use crate::slot::Slot;
 use moo_value::text::Text;
@@ -49,6 +49,14 @@ impl Slots {
         let mut entries = Vec::with_capacity(alloc, 1)?;
         entries.push((name, slot))?;
         Ok(Slots { entries })
+    }
+
+    /// The slots with their properties' names in lower case, in rising order of names.
+    pub fn as_slice(&self) -> &[(Text, Slot)]
+        ensures slots { result.now ≡ self.now }
+        ensures sorted { IsTrue (is_named self.now) }
+    {
+        self.entries.as_slice()
     }
 
     /// The slot of a property. Case is ignored.

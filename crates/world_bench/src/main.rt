@@ -1,10 +1,9 @@
-//! `world_bench`: measures what views, programs and lists of steps cost. The command `bench/run` runs it, and says what its lines mean.
+//! `world_bench`: measures what views and lists of steps cost. The command `bench/run` runs it, and says what its lines mean.
 #![tactic(auto)]
 
 mod jobs;
 mod lists;
 mod memory;
-mod programs;
 mod views;
 
 use bench_report::command::{first_word, status};
@@ -17,7 +16,7 @@ use std::thread::Threads;
 
 /// The words that the program knows.
 const WORDS: &str =
-    "world_bench WORD: machine, steps, view, snapshot-memory, change-memory; or check: all of these at a thousandth of their size and without times";
+    "world_bench WORD: steps, view, snapshot-memory, change-memory; or check: all of these at a thousandth of their size and without times";
 
 fn main(rt: HostRuntime) -> ExitCode {
     status(&rt, "world_bench", WORDS, run(&rt))
@@ -42,7 +41,6 @@ fn part<R: Print + Clock + AllocGlobal + Files + Threads + Wait + Sync>(
     word: &str,
 ) -> io::Result<bool> {
     match word {
-        "machine" => programs::run(rt, mode)?,
         "steps" => lists::run(rt, mode)?,
         "view" => views::run(rt, mode)?,
         "snapshot-memory" => memory::of_snapshots(rt, mode)?,
@@ -53,13 +51,7 @@ fn part<R: Print + Clock + AllocGlobal + Files + Threads + Wait + Sync>(
 }
 
 fn check<R: Print + Clock + AllocGlobal + Files + Threads + Wait + Sync>(rt: &R) -> io::Result<()> {
-    for word in [
-        "machine",
-        "steps",
-        "view",
-        "snapshot-memory",
-        "change-memory",
-    ] {
+    for word in ["steps", "view", "snapshot-memory", "change-memory"] {
         part(rt, Mode::Checked, word)?;
     }
     Ok(())

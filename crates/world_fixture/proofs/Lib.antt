@@ -1,4 +1,4 @@
-mod FixtureIsSimple
+mod FixtureIsSound
 mod Adding
 mod RoomsAreSound
 mod ObjectsAreSound

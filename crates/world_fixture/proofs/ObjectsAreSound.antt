@@ -2,12 +2,12 @@
 use Rattle.std.proofs.Common.{◌≡◌, ℕ, zero, suc, ◌+◌, ◌≤◌, pos, refl, sym, ap, subst, arith, IsTrue, le-leb}
 use Rattle.std.specs.Prelude.{int_le}
 use Rattle.spec_world.specs.World.{with_object}
-use Rattle.spec_rows.specs.Fixture.{fixture}
+use Rattle.spec_fixture.specs.Fixture.{fixture}
 use Rattle.world.specs.Sound.{IsSound}
 use Rattle.world.specs.Objects.{next_object}
 use Rattle.world_fixture.specs.Objects.{lone_thing, with_objects}
 use Rattle.world.proofs.Adding.{adding_keeps}
-use Rattle.world_fixture.proofs.FixtureIsSimple.{fixture_is_sound}
+use Rattle.world_fixture.proofs.FixtureIsSound.{fixture_is_sound}
 
 greatest_of : (n : ℕ) → next_object (with_objects n fixture) ≡ pos (8 + n)
 unfolding with_objects

@@ -1,8 +1,8 @@
 -- The fixture with more objects.
 use Rattle.std.specs.Prelude.{ℕ, zero, suc, ◌+◌, pos, codes}
 use Rattle.spec_world.specs.World.{World, Object, with_object}
-use Rattle.spec_task.specs.Commands.{nowhere}
-use Rattle.spec_rows.specs.Fixture.{plain_header, bare}
+use Rattle.spec_world.specs.Families.{nowhere}
+use Rattle.spec_fixture.specs.Fixture.{plain_header, bare}
 
 abbrev pub lone_thing : Object
 lone_thing = bare (record (plain_header (codes "Thing")) { parent = nowhere })

@@ -2,11 +2,12 @@
 use Rattle.std.specs.Prelude.{ℕ, zero, suc, ◌+◌, ◌*◌, ℤ, pos, List, [], ◌∷◌, true, None, codes}
 use Rattle.spec_value.specs.Table.{with}
 use Rattle.spec_world.specs.World.{World, Object, Verb, with_object}
-use Rattle.spec_task.specs.Commands.{nowhere}
+use Rattle.spec_world.specs.Families.{nowhere}
 use Rattle.spec_value.specs.Datum.{integer}
 use Rattle.spec_program.specs.Tree.{Expr, literal, binary, evaluate, Program, seq}
 use Rattle.spec_value.specs.Operators.{plus}
-use Rattle.spec_rows.specs.Fixture.{plain_header, bare, plain_verb, room, returning, count_verb}
+use Rattle.spec_fixture.specs.Fixture.{plain_header, bare, plain_verb, room, count_verb}
+use Rattle.spec_fixture.specs.Programs.{returning}
 
 abbrev pub one : Expr
 one = literal (integer (pos 1))
@@ -20,13 +21,16 @@ adding (suc n) = seq (evaluate (binary plus one one)) (adding n)
 abbrev pub total_verb : Verb
 total_verb = plain_verb (codes "total") (adding 999)
 
+abbrev pub counting_verbs : List Verb
+counting_verbs = count_verb ∷ total_verb ∷ []
+
 -- one for which a command's 30,000 ticks do not suffice
 abbrev pub endless_verb : Verb
 endless_verb = plain_verb (codes "endless") (adding 30000)
 
 -- a room with a counter as that of the fixture, which has no parent, with one player in it and these verbs
 abbrev pub lone_room : ℤ → List Verb → Object
-lone_room player verbs = record (room (pos 0)) { header = record (plain_header (codes "Room")) { parent = nowhere }; contents = player ∷ []; verbs = verbs }
+lone_room player verbs = record (room (pos 0) verbs) { header = record (plain_header (codes "Room")) { parent = nowhere }; contents = player ∷ [] }
 
 abbrev pub guest : ℤ → Object
 guest place = bare (record (plain_header (codes "Guest")) { parent = nowhere; is_player = true; location = place })
@@ -40,7 +44,7 @@ with_room verbs n w = record (with_object (with_object w (pos (8 + 2 * n)) (lone
 
 unfoldable pub with_rooms : ℕ → World → World
 with_rooms zero w = w
-with_rooms (suc n) w = with_room (count_verb ∷ total_verb ∷ []) n (with_rooms n w)
+with_rooms (suc n) w = with_room counting_verbs n (with_rooms n w)
 
 abbrev pub with_endless_verb : World → World
 with_endless_verb w = with_room (endless_verb ∷ []) 0 w

@@ -1,9 +1,9 @@
 //! The small world that worked rows begin with.
 ghost use Rattle.std.specs.Prelude.{◌≡◌, pos, negsuc, false, [], ◌∷◌, IfOk, IsTrue, codes};
 ghost use Rattle.spec_value.specs.Datum.{is_text};
-ghost use Rattle.spec_rows.specs.Fixture as meant;
+ghost use Rattle.spec_fixture.specs.Fixture as meant;
 
-use crate::fixture_verbs::{box_verbs, room_verbs};
+use crate::fixture_verbs::{box_verbs, room_verbs, system_verbs};
 use moo_value::text::Text;
 use moo_value::value::Value;
 use std::alloc::{AllocError, Global};
@@ -57,7 +57,8 @@ fn objects(alloc: Global) -> Result<Draft, AllocError>
 fn system(alloc: Global) -> Result<Object, AllocError>
     ensures { IfOk result (λ x. x ≡ meant.system) }
 {
-    plain(alloc, header(alloc, "System")?, &[], &[])
+    let header = header(alloc, "System")?;
+    with_verbs(alloc, header, &[], &[], system_verbs(alloc)?)
 }
 
 fn root(alloc: Global) -> Result<Object, AllocError>
@@ -79,7 +80,7 @@ fn wizard(alloc: Global) -> Result<Object, AllocError>
 }
 
 fn room(alloc: Global) -> Result<Object, AllocError>
-    ensures { IfOk result (λ x. x ≡ meant.room (pos 0)) }
+    ensures { IfOk result (λ x. x ≡ meant.room (pos 0) meant.room_verbs) }
 {
     let header = header(alloc, "Room")?;
     room_of(alloc, header, &[4, 5, 6], room_verbs(alloc)?)

@@ -1,174 +1,123 @@
-//! The verbs of the fixture.
-ghost use Rattle.std.specs.Prelude.{◌≡◌, pos, [], ◌∷◌, IfOk, IsTrue, codes};
-ghost use Rattle.spec_value.specs.Datum.{is_text, integer, text as characters};
-ghost use Rattle.spec_program.specs.Tree.{literal, variable};
-ghost use Rattle.spec_rows.specs.Fixture as meant;
+//! The verbs of the fixture: of its system object, of its room and of its box.
+ghost use Rattle.std.specs.Prelude.{◌≡◌, [], ◌∷◌, ◌++◌, IfOk, OnOk};
+ghost use Rattle.spec_fixture.specs.Fixture as meant;
 
-use crate::fixture::WIZARD;
-use moo_compiler::program::Program;
-use moo_tree::expression::{Expression, ExpressionNode, Target, TargetNode};
-use moo_tree::statement::{Statement, StatementNode, Tree};
-use moo_value::operator::BinaryOperator;
-use moo_value::text::Text;
-use moo_value::value::Value;
+use crate::room_commands;
+use crate::verbs::{command, single};
 use std::alloc::{AllocError, Global};
 use world::verb::{ObjectPart, PrepositionPart, Verb, Verbs};
 
-// The verbs of the room.
-pub(crate) fn room_verbs(alloc: Global) -> Result<Verbs, AllocError>
-    ensures { IfOk result (λ vs. vs ≡ meant.accept_verb ∷ meant.count_verb ∷ meant.room_look ∷ []) }
+// The verbs of the system object.
+pub(crate) fn system_verbs(alloc: Global) -> Result<Verbs, AllocError>
+    ensures { IfOk result (λ vs. vs ≡ meant.system.verbs) }
 {
-    let mut verbs = Vec::with_capacity(alloc, 3)?;
-    verbs.push(accept(alloc)?)?;
-    verbs.push(count(alloc)?)?;
-    verbs.push(room_look(alloc)?)?;
-    Verbs::new(alloc, verbs)
+    single(alloc, login(alloc)?)
 }
 
-// The verbs of the box.
-pub(crate) fn box_verbs(alloc: Global) -> Result<Verbs, AllocError>
-    ensures { IfOk result (λ vs. vs ≡ meant.box_look ∷ []) }
+#[tactic(auto, unfolding(spec_fixture::specs::Opened::opened))]
+fn login(alloc: Global) -> Result<Verb, AllocError>
+    ensures { IfOk result (λ v. v ≡ meant.login_verb) }
 {
-    single(alloc, box_look(alloc)?)
-}
-
-fn single(alloc: Global, verb: Verb) -> Result<Verbs, AllocError>
-    ensures { IfOk result (λ vs. vs ≡ verb ∷ []) }
-{
-    let mut verbs = Vec::with_capacity(alloc, 1)?;
-    verbs.push(verb)?;
-    Verbs::new(alloc, verbs)
-}
-
-fn accept(alloc: Global) -> Result<Verb, AllocError>
-    ensures { IfOk result (λ v. v ≡ meant.accept_verb) }
-{
-    let mut verb = plain_verb(alloc, "accept", returning(alloc, one())?)?;
+    let text =
+        "if (length(args) == 2 && args[1] == \"connect\") return toobj(args[2]); endif notify(player, \"Type connect #n\");";
+    let mut verb = command(alloc, "do_login_command", text)?;
     verb.direct = ObjectPart::This;
     verb.indirect = ObjectPart::This;
     Ok(verb)
 }
 
-pub(crate) fn count(alloc: Global) -> Result<Verb, AllocError>
-    ensures { IfOk result (λ v. v ≡ meant.count_verb) }
+// The verbs of the room.
+pub(crate) fn room_verbs(alloc: Global) -> Result<Verbs, AllocError>
+    ensures { IfOk result (λ vs. vs ≡ meant.room_verbs) }
 {
-    plain_verb(alloc, "count", count_tree(alloc)?)
+    let mut verbs = Vec::with_capacity(alloc, 14)?;
+    verbs.push(accept(alloc)?)?;
+    push_counting(alloc, &mut verbs)?;
+    push_queueing(alloc, &mut verbs)?;
+    verbs.push(room_commands::look(alloc)?)?;
+    push_waiting(alloc, &mut verbs)?;
+    verbs.push(eval(alloc)?)?;
+    Verbs::new(alloc, verbs)
 }
 
-fn room_look(alloc: Global) -> Result<Verb, AllocError>
-    ensures { IfOk result (λ v. v ≡ meant.room_look) }
+fn push_counting(alloc: Global, verbs: &mut Vec<Verb>) -> Result<(), AllocError>
+    ensures { OnOk result (verbs.new.items ≡ verbs.old.items ++ (meant.count_verb ∷ meant.grow_verb ∷ meant.call_verb ∷ [])) }
 {
-    let tree = returning(alloc, named(alloc, "verb")?)?;
-    plain_verb(alloc, "l*ook", tree)
+    verbs.push(room_commands::count(alloc)?)?;
+    verbs.push(room_commands::grow(alloc)?)?;
+    verbs.push(room_commands::call(alloc)?)?;
+    Ok(())
 }
 
+fn push_queueing(alloc: Global, verbs: &mut Vec<Verb>) -> Result<(), AllocError>
+    ensures { OnOk result (verbs.new.items ≡ verbs.old.items ++ (meant.plot_verb ∷ meant.dice_verb ∷ meant.sum_verb ∷ meant.spin_verb ∷ [])) }
+{
+    verbs.push(room_commands::plot(alloc)?)?;
+    verbs.push(room_commands::dice(alloc)?)?;
+    verbs.push(room_commands::sum(alloc)?)?;
+    verbs.push(room_commands::spin(alloc)?)?;
+    Ok(())
+}
+
+fn push_waiting(alloc: Global, verbs: &mut Vec<Verb>) -> Result<(), AllocError>
+    ensures { OnOk result (verbs.new.items ≡ verbs.old.items ++ (meant.hold_verb ∷ meant.wake_verb ∷ meant.storm_verb ∷ meant.tell_verb ∷ [])) }
+{
+    verbs.push(room_commands::hold(alloc)?)?;
+    verbs.push(room_commands::wake(alloc)?)?;
+    verbs.push(room_commands::storm(alloc)?)?;
+    verbs.push(room_commands::tell(alloc)?)?;
+    Ok(())
+}
+
+#[tactic(auto, unfolding(spec_fixture::specs::Opened::opened))]
+fn accept(alloc: Global) -> Result<Verb, AllocError>
+    ensures { IfOk result (λ v. v ≡ meant.accept_verb) }
+{
+    let mut verb = command(alloc, "accept", "return 1;")?;
+    verb.direct = ObjectPart::This;
+    verb.indirect = ObjectPart::This;
+    Ok(verb)
+}
+
+#[tactic(auto, unfolding(spec_fixture::specs::Opened::opened))]
+fn eval(alloc: Global) -> Result<Verb, AllocError>
+    ensures { IfOk result (λ v. v ≡ meant.eval_verb) }
+{
+    let text = "return eval(\"return \" + argstr + \";\")[2];";
+    let mut verb = command(alloc, "eval", text)?;
+    verb.direct = ObjectPart::Any;
+    verb.preposition = PrepositionPart::Any;
+    verb.indirect = ObjectPart::Any;
+    Ok(verb)
+}
+
+// The verbs of the box.
+pub(crate) fn box_verbs(alloc: Global) -> Result<Verbs, AllocError>
+    ensures { IfOk result (λ vs. vs ≡ meant.box_verbs) }
+{
+    let mut verbs = Vec::with_capacity(alloc, 2)?;
+    verbs.push(box_look(alloc)?)?;
+    verbs.push(put(alloc)?)?;
+    Verbs::new(alloc, verbs)
+}
+
+#[tactic(auto, unfolding(spec_fixture::specs::Opened::opened))]
 fn box_look(alloc: Global) -> Result<Verb, AllocError>
-    ensures { IfOk result (λ v. v ≡ meant.box_look) }
+    ensures { IfOk result (λ v. v ≡ meant.box_look_verb) }
 {
-    let tree = returning(alloc, named(alloc, "prepstr")?)?;
-    let mut verb = plain_verb(alloc, "l*ook", tree)?;
+    let mut verb = command(alloc, "l*ook", "return prepstr;")?;
     verb.preposition = PrepositionPart::Set(2);
     verb.indirect = ObjectPart::This;
     Ok(verb)
 }
 
-// A verb for a command of one word, owned by the wizard.
-pub(crate) fn plain_verb(alloc: Global, names: &str, tree: Tree) -> Result<Verb, AllocError>
-    requires { IsTrue (is_text names.now) }
-    ensures { IfOk result (λ v. v ≡ meant.plain_verb names.now tree) }
+#[tactic(auto, unfolding(spec_fixture::specs::Opened::opened))]
+fn put(alloc: Global) -> Result<Verb, AllocError>
+    ensures { IfOk result (λ v. v ≡ meant.put_verb) }
 {
-    Ok(Verb {
-        names: Text::from_str(alloc, names)?,
-        owner: WIZARD,
-        readable: false,
-        writable: false,
-        callable: true,
-        debug: true,
-        direct: ObjectPart::Absent,
-        preposition: PrepositionPart::Absent,
-        indirect: ObjectPart::Absent,
-        program: Program::compile(alloc, tree)?,
-    })
-}
-
-// return value;
-pub(crate) fn returning(alloc: Global, value: Expression) -> Result<Tree, AllocError>
-    ensures { IfOk result (λ t. t ≡ meant.returning value) }
-{
-    let mut statements = Vec::with_capacity(alloc, 1)?;
-    statements.push(Statement {
-        node: StatementNode::Return(Some(value)),
-    })?;
-    Ok(Tree::new(statements))
-}
-
-// this.n = this.n + 1; return this.n;
-fn count_tree(alloc: Global) -> Result<Tree, AllocError>
-    ensures { IfOk result (λ t. t ≡ meant.count_program) }
-{
-    let sum = Expression {
-        node: ExpressionNode::Binary(
-            BinaryOperator::Plus,
-            Box::new(alloc, this_n(alloc)?)?,
-            Box::new(alloc, one())?,
-        ),
-    };
-    let target = Target {
-        node: TargetNode::Property(
-            Box::new(alloc, this(alloc)?)?,
-            Box::new(alloc, name_n(alloc)?)?,
-        ),
-    };
-    let assignment = Expression {
-        node: ExpressionNode::Assignment(target, Box::new(alloc, sum)?),
-    };
-    let mut statements = Vec::with_capacity(alloc, 2)?;
-    statements.push(Statement {
-        node: StatementNode::Evaluate(assignment),
-    })?;
-    statements.push(Statement {
-        node: StatementNode::Return(Some(this_n(alloc)?)),
-    })?;
-    Ok(Tree::new(statements))
-}
-
-fn this_n(alloc: Global) -> Result<Expression, AllocError>
-    ensures { IfOk result (λ e. e ≡ meant.this_n) }
-{
-    let object = Box::new(alloc, this(alloc)?)?;
-    let name = Box::new(alloc, name_n(alloc)?)?;
-    Ok(Expression {
-        node: ExpressionNode::Property(object, name),
-    })
-}
-
-fn this(alloc: Global) -> Result<Expression, AllocError>
-    ensures { IfOk result (λ e. e ≡ variable (codes "this")) }
-{
-    named(alloc, "this")
-}
-
-fn named(alloc: Global, name: &str) -> Result<Expression, AllocError>
-    requires { IsTrue (is_text name.now) }
-    ensures { IfOk result (λ e. e ≡ variable name.now) }
-{
-    Ok(Expression {
-        node: ExpressionNode::Variable(Text::from_str(alloc, name)?),
-    })
-}
-
-pub(crate) fn one() -> Expression
-    ensures { result ≡ literal (integer (pos 1)) }
-{
-    Expression {
-        node: ExpressionNode::Literal(Value::integer(1)),
-    }
-}
-
-fn name_n(alloc: Global) -> Result<Expression, AllocError>
-    ensures { IfOk result (λ e. e ≡ literal (characters (codes "n"))) }
-{
-    Ok(Expression {
-        node: ExpressionNode::Literal(Value::text(Text::from_str(alloc, "n")?)),
-    })
+    let mut verb = command(alloc, "put", "return {dobjstr, prepstr, iobj};")?;
+    verb.direct = ObjectPart::Any;
+    verb.preposition = PrepositionPart::Set(3);
+    verb.indirect = ObjectPart::This;
+    Ok(verb)
 }

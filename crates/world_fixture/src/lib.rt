@@ -4,5 +4,7 @@
 pub mod fixture;
 mod fixture_verbs;
 pub mod objects;
+mod room_commands;
 mod room_verbs;
 pub mod rooms;
+mod verbs;

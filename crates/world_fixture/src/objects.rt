@@ -1,6 +1,6 @@
 //! The fixture with more objects.
 ghost use Rattle.std.specs.Prelude.{◌≡◌, ◌<◌, ◌≤◌, ◌+◌, ℕ, pos, IfOk, OnOk};
-ghost use Rattle.spec_rows.specs.Fixture.{fixture};
+ghost use Rattle.spec_fixture.specs.Fixture.{fixture};
 ghost use Rattle.world_fixture.specs.Objects as meant;
 
 use crate::fixture::{NOWHERE, header, plain, records};

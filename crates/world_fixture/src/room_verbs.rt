@@ -1,15 +1,17 @@
 //! The verbs of the rooms in each of which a player is alone.
-ghost use Rattle.std.specs.Prelude.{◌≡◌, pos, [], ◌∷◌, replicate, IfOk, IsTrue};
+ghost use Rattle.std.specs.Prelude.{◌≡◌, [], ◌∷◌, replicate, IfOk, IsTrue};
 ghost use Rattle.spec_program.specs.Tree.{binary, evaluate};
 ghost use Rattle.spec_value.specs.Operators.{plus};
-ghost use Rattle.spec_rows.specs.Fixture.{count_verb, plain_verb as meant_verb};
+ghost use Rattle.spec_fixture.specs.Fixture.{plain_verb as meant_verb};
 ghost use Rattle.spec_value.specs.Datum.{is_text};
 ghost use Rattle.world_fixture.specs.Rooms as meant;
 
-use crate::fixture_verbs::{count, one, plain_verb};
+use crate::room_commands::count;
+use crate::verbs::{plain_verb, single};
 use moo_tree::expression::{Expression, ExpressionNode};
 use moo_tree::statement::{Statement, StatementNode, Tree};
 use moo_value::operator::BinaryOperator;
+use moo_value::value::Value;
 use std::alloc::{AllocError, Global};
 use world::verb::{Verb, Verbs};
 
@@ -21,7 +23,7 @@ const TOO_MANY: u32 = 30_000;
 
 // The verbs `count` and `total`.
 pub(crate) fn counting_verbs(alloc: Global) -> Result<Verbs, AllocError>
-    ensures { IfOk result (λ vs. vs ≡ count_verb ∷ meant.total_verb ∷ []) }
+    ensures { IfOk result (λ vs. vs ≡ meant.counting_verbs) }
 {
     let mut verbs = Vec::with_capacity(alloc, 2)?;
     verbs.push(count(alloc)?)?;
@@ -33,9 +35,7 @@ pub(crate) fn counting_verbs(alloc: Global) -> Result<Verbs, AllocError>
 pub(crate) fn endless_verbs(alloc: Global) -> Result<Verbs, AllocError>
     ensures { IfOk result (λ vs. vs ≡ meant.endless_verb ∷ []) }
 {
-    let mut verbs = Vec::with_capacity(alloc, 1)?;
-    verbs.push(adding_verb(alloc, "endless", TOO_MANY)?)?;
-    Verbs::new(alloc, verbs)
+    single(alloc, adding_verb(alloc, "endless", TOO_MANY)?)
 }
 
 fn adding_verb(alloc: Global, names: &str, additions: u32) -> Result<Verb, AllocError>
@@ -74,4 +74,12 @@ fn addition(alloc: Global) -> Result<Statement, AllocError>
     Ok(Statement {
         node: StatementNode::Evaluate(sum),
     })
+}
+
+fn one() -> Expression
+    ensures { result ≡ meant.one }
+{
+    Expression {
+        node: ExpressionNode::Literal(Value::integer(1)),
+    }
 }

@@ -1,7 +1,7 @@
 //! Who may do what in the fixture.
 use moo_value::text::Text;
-use permissions::act::Act;
-use permissions::may::may;
+use rules::permissions::act::Act;
+use rules::permissions::may::may;
 use std::alloc::{AllocError, Global};
 use std::test::Fail;
 use world::live::Live;

@@ -1,9 +1,9 @@
 //! Names of verbs with stars, and prepositions among words.
 use moo_value::text::Text;
+use rules::verb_match::names::matches;
+use rules::verb_match::prepositions::find_preposition;
 use std::alloc::{AllocError, Global};
 use std::test::Fail;
-use verb_match::names::matches;
-use verb_match::prepositions::find_preposition;
 
 // Start, size and set of the preposition among three words.
 fn found(

@@ -1,10 +1,10 @@
 //! What the objects of the fixture have from their ancestors.
-use inherit::line::ancestors;
-use inherit::property::find_property;
-use inherit::verb::{CommandParts, find_command_verb, find_verb};
 use moo_value::compare::equal;
 use moo_value::text::Text;
 use moo_value::value::Value;
+use rules::inherit::line::ancestors;
+use rules::inherit::property::find_property;
+use rules::inherit::verb::{CommandParts, find_command_verb, find_verb};
 use std::alloc::{AllocError, Global};
 use std::test::Fail;
 use world::live::Live;

@@ -3,7 +3,7 @@ use Rattle.std.specs.Prelude.{◌≡◌, pos, neg_ℤ, [], ◌∷◌, codes}
 use Rattle.spec_value.specs.Datum.{object, error, no_error, verb_not_found, invalid_indirection}
 use Rattle.spec_value.specs.Operators.{negation, to_the}
 use Rattle.spec_program.specs.Tree.{literal, variable, own_length, unary, binary, both, either, listing, property, verb_call, index, range, assignment, scatter, no_arguments, argument, splice, to_variable, to_property, to_index, no_items, required, optional, the_end}
-use Rattle.spec_moo_rows.specs.Programs.{number, word, object_number, one_given, two_given, three_given, returning, setting}
+use Rattle.spec_fixture.specs.Programs.{number, word, object_number, one_given, two_given, three_given, returning, setting}
 use Rattle.spec_moo_rows.specs.Trying.{wizards, raised_by, came_to, tried}
 
 -- try #2 xd: return #2:sum()[4..-$];

@@ -3,7 +3,7 @@ use Rattle.std.specs.Prelude.{◌≡◌, pos, neg_ℤ, [], ◌∷◌, Some, None
 use Rattle.spec_value.specs.Datum.{integer, object, error, type_mismatch, zero_division, property_not_found, verb_not_found, variable_not_found, recursive_move, too_many_calls, range_error, wrong_argument_count, move_refused, limit_exceeded, float_error}
 use Rattle.spec_value.specs.Operators.{negation, not_true, plus, minus, times, divided_by, remainder_by, differs, less, is_in}
 use Rattle.spec_program.specs.Tree.{literal, variable, own_length, unary, binary, both, either, conditional, listing, call, property, verb_call, index, range, caught, assignment, scatter, no_arguments, argument, splice, any_code, codes_in, the_code, instead, to_variable, to_property, to_range, no_items, required, optional, remaining, defaulted, give, give_zero, branch, for_range, repeat, guarded, finished, leave_loop, the_end, seq, no_branches, on, no_else, else_do, no_arms, except}
-use Rattle.spec_moo_rows.specs.Programs.{number, word, object_number, one_given, two_given, three_given, only, returning, doing, setting}
+use Rattle.spec_fixture.specs.Programs.{number, word, object_number, one_given, two_given, three_given, only, returning, doing, setting}
 use Rattle.spec_moo_rows.specs.Trying.{wizards, wizards_without_debug, anns, value_of, raised_by, came_to, tried}
 
 -- try #2 xd: a = 50; b = 4096; c = E_VARNF; l = {2}; try finally equal("#3" in l ? {a, c, @y, y} = {} | b, $owner = equal("tab\there", E_RANGE,

@@ -3,7 +3,7 @@ use Rattle.std.specs.Prelude.{◌≡◌, pos, neg_ℤ, [], ◌∷◌, Some, None
 use Rattle.spec_value.specs.Datum.{integer, object, error, no_error, type_mismatch, permission_denied, property_not_found, variable_not_found, invalid_indirection, range_error, float_error}
 use Rattle.spec_value.specs.Operators.{negation, plus, minus, divided_by, to_the, differs, less, is_in}
 use Rattle.spec_program.specs.Tree.{literal, variable, own_length, unary, binary, both, either, conditional, listing, call, property, index, range, caught, assignment, scatter, no_arguments, argument, splice, any_code, the_code, instead, to_variable, to_property, to_index, to_range, no_items, required, optional, remaining, defaulted, give, branch, for_each, for_range, repeat, leave_loop, next_turn, the_end, seq, no_branches, on, no_else}
-use Rattle.spec_moo_rows.specs.Programs.{number, word, object_number, one_given, two_given, three_given, only, returning, doing, setting}
+use Rattle.spec_fixture.specs.Programs.{number, word, object_number, one_given, two_given, three_given, only, returning, doing, setting}
 use Rattle.spec_moo_rows.specs.Trying.{wizards, wizards_without_debug, anns, value_of, raised_by, came_to, tried}
 
 -- try #2 xd: b = 4; c = E_VARNF; l = {"foo bar", #-1}; return l = t[4096 / 4][1][5 ^ 2147483648..3] = l in {4, "#3", 83}; #-1; c = `o ! ANY'; for outer

@@ -3,7 +3,7 @@ use Rattle.std.specs.Prelude.{◌≡◌, pos, neg_ℤ, [], ◌∷◌, codes}
 use Rattle.spec_value.specs.Datum.{integer, object, error, list, no_data, item, no_error, type_mismatch, zero_division, property_not_found, verb_not_found, variable_not_found, too_many_calls, range_error, wrong_argument_count, invalid_argument, limit_exceeded, float_error}
 use Rattle.spec_value.specs.Operators.{negation, not_true, plus, minus, times, to_the, equals, less, is_in}
 use Rattle.spec_program.specs.Tree.{literal, variable, own_length, unary, binary, both, either, conditional, listing, call, property, index, range, caught, assignment, scatter, no_arguments, argument, splice, any_code, codes_in, the_code, instead, to_variable, to_property, to_index, to_range, no_items, required, optional, remaining, defaulted, give, give_zero, branch, the_end, seq, no_branches, on, else_do}
-use Rattle.spec_moo_rows.specs.Programs.{number, word, object_number, one_given, two_given, three_given, only, returning, doing, setting}
+use Rattle.spec_fixture.specs.Programs.{number, word, object_number, one_given, two_given, three_given, only, returning, doing, setting}
 use Rattle.spec_moo_rows.specs.Trying.{wizards, wizards_without_debug, anns, value_of, raised_by, came_to, tried}
 
 -- try #2 xd: a = 1; t = 2; l = {#2, 65536, 0, "#4"}; o = #5; x = "foo bar"; return (({" -7 ", "-"} ? 0 | 4096) ? t - 2 | args[4]) + (o ? #2 |

@@ -3,10 +3,10 @@ use Rattle.std.proofs.lemmas.Int.{to_z-of_z}
 use Rattle.spec_value.specs.Datum.{object as object_of, text as text_value}
 use Rattle.spec_world.specs.Inherit.{slot_at}
 use Rattle.spec_world.specs.Permissions.{may, write_slot}
-use Rattle.spec_world.specs.Agreeing.{ObjectsAgree}
+use Rattle.rules.specs.Standing.{IsStanding}
 use Rattle.spec_moo.specs.Natives.Properties.{set_property_info_row}
 use Rattle.moo_value.specs.Answers.{answer_of}
-use Rattle.permissions.specs.Acts.{act_of}
+use Rattle.rules.specs.Acts.{act_of}
 use Rattle.builtins_world.specs.Said.{with_programmer}
 use Rattle.builtins_change.specs.Later.{slot_given}
 use Rattle.builtins_change.specs.Listed.{owner_and_bits}
@@ -41,10 +41,10 @@ pub returns-in_default-clause-well_formed : goal.returns-in_default-clause-well_
 returns-in_default-clause-well_formed g c = λ well w h.
     let t = c.in_ok-error.ensures.left w h in
     let u = c.in_ok-slot.ensures.left w t.0 in
-    subst ObjectsAgree (sym (t.1.0 ∙ u.1.0)) (well w u.0)
+    subst IsStanding (sym (t.1.0 ∙ u.1.0)) (well w u.0)
 
 pub returns-then-not-allowed-clause-well_formed : goal.returns-then-not-allowed-clause-well_formed
 returns-then-not-allowed-clause-well_formed g c = λ well w h.
     let t = c.in_ok-allowed.ensures.left w h in
     let u = c.in_ok-slot.ensures.left w t.0 in
-    subst ObjectsAgree (sym (t.1.0 ∙ u.1.0)) (well w u.0)
+    subst IsStanding (sym (t.1.0 ∙ u.1.0)) (well w u.0)

@@ -1,6 +1,8 @@
 use mir.Syntax.{w32}
 use mir.Val.{to_z, of_z}
 use Rattle.std.proofs.Common.{◌≡◌, ◌∙◌, ap, subst, arith, rules, refl}
+use Rattle.spec_world.specs.World.{Task}
+use Rattle.spec_world.specs.WellFormed.{read_by}
 use Rattle.moo_code.specs.Layout.{code_of}
 use Rattle.moo_code.specs.Names.{names_of}
 use Rattle.moo_program.specs.Gathering.{forks_in}
@@ -17,6 +19,9 @@ returns-in-Refused-clause-shown c w =
     let body = body_at (forks_in (code_of r.frame.program)) c.args.number in
     subst (λ q. forks x body c.args.deeds.now w r ≡ request_shown q (in_scene (around_in r c.args.deeds.now w) c.args.deeds.now w) r.frame.call x body c.requested.new.state)
     c.in-Refused.is (c.in_ok-request.ensures.shown (around_in r c.args.deeds.now w) w x body)
+
+pub returns-in_ok-enqueue-in-Granted-clause-quiet : goal.returns-in_ok-enqueue-in-Granted-clause-quiet
+returns-in_ok-enqueue-in-Granted-clause-quiet c = ap (λ (t : Task). read_by t.waiting) c.in_ok-started-in-Granted.ensures
 
 pub enqueue-requires : goal.enqueue-requires
 enqueue-requires c = subst (λ q. HasId q c.args.deeds.now) c.in-Granted.is c.in_ok-request.ensures.id

@@ -8,7 +8,7 @@ part-init g c = record { inside = omega arith; played = none_played c.args.world
 pub end_in_part-requires-clause-memory : goal.end_in_part-requires-clause-memory
 end_in_part-requires-clause-memory g c =
     let (outcomes, played, wrote) = c.part.invariant.played in
-    let runs = part_runs_on c.args.world.plain c.part.world.plain c.args.steps.now outcomes c.part.first c.end_of_part-end.result c.part.invariant.inside c.requires.numbers.0 c.requires.numbers.1 played in
+    let runs = part_runs_on c.args.world.plain c.part.world.plain c.args.steps.now outcomes c.part.first c.end_of_part-end.result c.know.ensures c.part.invariant.inside c.requires.numbers.0 c.requires.numbers.1 played in
     only_memory c.in-Err.partial.refusal c.args.workers _ c.requires.workers.0 c.requires.workers.1 runs c.in-Err.ensures.workers.0 c.in-Err.ensures.numbers.0
 
 pub returns-in-Err : goal.returns-in-Err

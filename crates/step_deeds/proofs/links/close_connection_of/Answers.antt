@@ -1,8 +1,8 @@
 use Rattle.std.proofs.Common.{◌≡◌, Some, None, rules, w32, to_z, of_z}
 use Rattle.std.proofs.lemmas.Int.{to_z-of_z}
 use Rattle.spec_world.specs.Links.{connection_of}
-use Rattle.spec_world.specs.WellFormed.{IsWellFormed}
-use Rattle.inherit.proofs.Tellings.{stays_known}
+use Rattle.rules.specs.Standing.{IsStanding}
+use Rattle.rules.proofs.Tellings.{stays_known}
 use Rattle.step_deeds.proofs.Closing.{none_closed, one_closed}
 use Rattle.step_deeds.proofs.links.close_connection_of.Goals as goal
 
@@ -15,12 +15,12 @@ returns-in_default-clause-left g c =
 pub returns-in_default-clause-well_formed : goal.returns-in_default-clause-well_formed
 returns-in_default-clause-well_formed g c =
     let object = to_z-of_z w32 c.args.object c.ranges.object in
-    stays_known g.V.View.holds g.V.View.now IsWellFormed c.args.view.now c.connection.new.view (λ w. connection_of w c.args.object ≡ c.in_ok-link.field-0) c.requires.well_formed (rw object at c.in_ok-link.ensures.left)
+    stays_known g.V.View.holds g.V.View.now IsStanding c.args.view.now c.connection.new.view (λ w. connection_of w c.args.object ≡ c.in_ok-link.field-0) c.requires.well_formed (rw object at c.in_ok-link.ensures.left)
 
 pub close_link-requires-clause-well_formed : goal.close_link-requires-clause-well_formed
 close_link-requires-clause-well_formed g c =
     let object = to_z-of_z w32 c.args.object c.ranges.object in
-    stays_known g.V.View.holds g.V.View.now IsWellFormed c.args.view.now c.connection.new.view (λ w. connection_of w c.args.object ≡ Some c.in-Some.link) c.requires.well_formed
+    stays_known g.V.View.holds g.V.View.now IsStanding c.args.view.now c.connection.new.view (λ w. connection_of w c.args.object ≡ Some c.in-Some.link) c.requires.well_formed
     (rw (object, c.in-Some.is) at c.in_ok-link.ensures.left)
 
 pub returns-clause-left : goal.returns-clause-left

@@ -1,5 +1,5 @@
 use Rattle.std.proofs.Common.{◌≡◌, ◌≤◌, length, take, vec_items, vec_len, vec_capacity}
-use Rattle.spec_task.specs.Step.{play}
+use Rattle.spec_moo.specs.Steps.{play}
 use Rattle.task_run.proofs.list.play_list.Given as goal
 
 abbrev pub invariant-loop-step : goal.invariant-loop-step

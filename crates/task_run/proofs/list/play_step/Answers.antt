@@ -1,6 +1,6 @@
 use Rattle.std.proofs.Common.{refl, subst, ◌∙◌, rules}
 use Rattle.spec_world.specs.World.{World}
-use Rattle.spec_task.specs.Step.{play1}
+use Rattle.spec_moo.specs.Steps.{play1}
 use Rattle.world.specs.Forks.{start_of, changed_in}
 use Rattle.task_run.specs.Performed.{StepsTo}
 use Rattle.task_run.proofs.Playing.{is_played}

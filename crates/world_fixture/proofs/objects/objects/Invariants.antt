@@ -1,5 +1,5 @@
 use Rattle.std.proofs.Common.{◌≡◌}
-use Rattle.spec_rows.specs.Fixture.{fixture}
+use Rattle.spec_fixture.specs.Fixture.{fixture}
 use Rattle.world_fixture.specs.Objects.{with_objects}
 use Rattle.world_fixture.proofs.objects.objects.Given as goal
 

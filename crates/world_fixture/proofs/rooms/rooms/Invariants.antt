@@ -1,5 +1,5 @@
 use Rattle.std.proofs.Common.{◌≡◌}
-use Rattle.spec_rows.specs.Fixture.{fixture}
+use Rattle.spec_fixture.specs.Fixture.{fixture}
 use Rattle.world_fixture.specs.Rooms.{with_rooms}
 use Rattle.world_fixture.proofs.rooms.rooms.Given as goal
 

@@ -1,4 +1,0 @@
-pub mod BuiltIn
-pub mod Reading
-pub mod Writing
-pub mod Calling

@@ -1,4 +1,0 @@
-pub mod OneChange
-pub mod Slots
-pub mod Chains
-pub mod RowsKeep

@@ -1,2 +1,0 @@
-pub mod Defining
-pub mod Slots

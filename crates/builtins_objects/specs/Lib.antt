@@ -1,4 +1,0 @@
-pub mod Verdict
-pub mod Parents
-pub mod Going
-pub mod Flags

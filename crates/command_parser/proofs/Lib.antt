@@ -1,4 +1,0 @@
-pub mod Requests
-pub mod VerbRules
-pub mod LineRules
-pub mod ProgramRules

@@ -1,3 +1,0 @@
-pub mod Walking
-pub mod Anyone
-pub mod OneByOne

@@ -1,3 +1,0 @@
-pub mod Below
-pub mod InTurn
-pub mod Losing

@@ -1,4 +1,0 @@
-pub mod Calls
-pub mod Scenes
-pub mod Steps
-pub mod Stopping

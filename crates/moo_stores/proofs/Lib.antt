@@ -1,4 +1,0 @@
-pub mod Puts
-pub mod Scattering
-pub mod Sharing
-pub mod Storing

@@ -1,3 +1,0 @@
-pub mod Offering
-pub mod Around
-pub mod Passing

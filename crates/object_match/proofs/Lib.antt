@@ -1,4 +1,0 @@
-pub mod Numbers
-pub mod Fits
-pub mod Tallies
-pub mod NamingRules

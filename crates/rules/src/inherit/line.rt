@@ -1,0 +1,60 @@
+//! Ancestors.
+ghost use Rattle.std.specs.Prelude.{◌≡◌, ℕ, negsuc, IfOk, MatchOption};
+ghost use Rattle.spec_world.specs.Inherit.{ancestors as ancestors_of};
+ghost use Rattle.world.specs.Law.{Lasts, Tells};
+ghost use Rattle.rules.specs.Lines.{AreAgreeing, IsAbove, IsParentIn};
+
+use std::alloc::{AllocError, Global};
+use world::header::Header;
+use world::law::View;
+use world::readers::read_header;
+
+/// An object, its parent, the parent's parent, and so on: empty for an object that is not there.
+pub fn ancestors<V: View>(alloc: Global, view: &mut V, object: i32) -> Result<Vec<i32>, AllocError>
+    requires home { V.holds view.old (V.home view.old) }
+    requires well_formed { AreAgreeing V.holds V.now view.old }
+    ensures lasts { Lasts V.holds V.home V.anchor view.old view.new result }
+    ensures left { IfOk result (λ os. Tells V.holds V.now view.old view.new (λ w. ancestors_of w object ≡ os.items)) }
+{
+    let mut line = Vec::new(alloc);
+    let mut next = Some(object);
+    while let Some(at) = next {
+        let header = read_header(view, at)?;
+        if header.is_none() {
+            return Ok(line);
+        }
+        line.push(at)?;
+        next = parent_in(&header);
+    }
+    Ok(line)
+}
+
+/// The parent of an object, if there are both.
+pub(crate) fn parent<V: View>(view: &mut V, object: i32) -> Result<Option<i32>, AllocError>
+    requires { AreAgreeing V.holds V.now view.old }
+    ensures lasts { Lasts V.holds V.home V.anchor view.old view.new result }
+    ensures left { IfOk result (λ p. Tells V.holds V.now view.old view.new (λ w. IsAbove w object p)) }
+{
+    let header = read_header(view, object)?;
+    Ok(parent_in(&header))
+}
+
+// The parent that a header names.
+fn parent_in(header: &Option<Header>) -> Option<i32>
+    ensures { IsParentIn header.now result }
+{
+    match header {
+        Some(header) => not_negative(header.parent),
+        None => None,
+    }
+}
+
+// No object has a negative number.
+fn not_negative(object: i32) -> Option<i32>
+    ensures { MatchOption result ((n : ℕ) × (object ≡ negsuc n)) (λ o. o ≡ object) }
+{
+    if object < 0 {
+        return None;
+    }
+    Some(object)
+}

@@ -1,0 +1,127 @@
+use Rattle.std.proofs.Common.{◌≡◌, ◌<◌, ◌∙◌, ap, refl, sym, subst}
+use Rattle.spec_world.specs.World.{World}
+use Rattle.spec_moo.specs.Pending.{out_of_ticks}
+use Rattle.spec_moo.specs.Segment.{stopped}
+use Rattle.moo_code.specs.Machine.{halts, lacks_operand}
+use Rattle.moo_code.specs.Lasting.{lasting}
+use Rattle.moo_code.specs.Runs.{ran, IsOver}
+use Rattle.moo_task.specs.Outcomes.{ticks_of, running_kept}
+use Rattle.moo_task.specs.declared.outcome.Outcome.{Outcome}
+use Rattle.running.specs.Scenes.{scene_at, led_at}
+use Rattle.running.specs.Stopping.{bound_of, begun_at, stopped_at}
+use Rattle.running.proofs.Running.{comes_on, comes_first, falls_on, over_on, operands_there, over_first, stops, step_to}
+use Rattle.running.proofs.moo_run.run.run.Goals as goal
+
+pub instructions-init : goal.instructions-init
+instructions-init g c =
+    record {
+      anchor = refl;
+      home = refl;
+      held = c.requires.home;
+      well_formed = c.requires.well_formed;
+      player = refl;
+      over = over_first c.args.task.player (scene_at c.args.deeds (g.V.View.now c.args.view.now (g.V.View.home c.args.view.now)) c.args.task) (running_kept c.args.task) c.args.task.outer
+          (ticks_of c.args.task) c.requires.under_way;
+      comes = λ w h. (h, comes_first c.args.task.player (begun_at c.args.deeds (g.V.View.now c.args.view.now w) c.args.task));
+    }
+
+pub instructions-smaller : goal.instructions-smaller
+instructions-smaller g c =
+    let view = g.V.View in
+    let b = bound_of c.args.deeds (view.now c.args.view.now (view.home c.args.view.now)) c.args.task in
+    let home = view.home c.instructions.view in
+    let held : view.holds c.step.new.view home = subst (view.holds c.step.new.view) c.in_ok-outcome.ensures.lasts.home_stays c.in_ok-outcome.ensures.lasts.home_is_left in
+    let l = c.in_ok-outcome.ensures.step home held in
+    subst (λ (x : World). lasting c.args.task.player b (begun_at c.step.new.deeds (view.now c.step.new.view x) c.step.new.task)
+    < lasting c.args.task.player b (begun_at c.instructions.deeds (view.now c.instructions.view home) c.instructions.task)) (sym c.in_ok-outcome.ensures.lasts.home_stays)
+    (falls_on c.args.task.player b (scene_at c.instructions.deeds (view.now c.instructions.view home) c.instructions.task) (running_kept c.instructions.task) c.instructions.task.outer
+    (ticks_of c.instructions.task) (begun_at c.step.new.deeds (view.now c.step.new.view home) c.step.new.task) c.instructions.invariant.over
+    (step_to c.args.task.player c.instructions.task c.step.new.task c.instructions.deeds c.step.new.deeds (view.now c.instructions.view home) (view.now c.step.new.view home) c.in_ok-outcome.outcome
+    (begun_at c.step.new.deeds (view.now c.step.new.view home) c.step.new.task) c.instructions.invariant.player l.1
+    (ap (λ (o : Outcome). led_at o c.step.new.deeds (view.now c.step.new.view home) c.step.new.task) c.in-On.is)))
+
+pub instructions-preserved : goal.instructions-preserved
+instructions-preserved g c =
+    let view = g.V.View in
+    let b = bound_of c.args.deeds (view.now c.args.view.now (view.home c.args.view.now)) c.args.task in
+    let home = view.home c.instructions.view in
+    let held : view.holds c.step.new.view home = subst (view.holds c.step.new.view) c.in_ok-outcome.ensures.lasts.home_stays c.in_ok-outcome.ensures.lasts.home_is_left in
+    let on_then = λ (w : World) (h : view.holds c.step.new.view w).
+    step_to c.args.task.player c.instructions.task c.step.new.task c.instructions.deeds c.step.new.deeds (view.now c.instructions.view w) (view.now c.step.new.view w) c.in_ok-outcome.outcome
+    (begun_at c.step.new.deeds (view.now c.step.new.view w) c.step.new.task) c.instructions.invariant.player (c.in_ok-outcome.ensures.step w h).1
+    (ap (λ (o : Outcome). led_at o c.step.new.deeds (view.now c.step.new.view w) c.step.new.task) c.in-On.is) in
+    record {
+      anchor = c.in_ok-outcome.ensures.lasts.anchor_stays ∙ c.instructions.invariant.anchor;
+      home = c.in_ok-outcome.ensures.lasts.home_stays ∙ c.instructions.invariant.home;
+      held = c.in_ok-outcome.ensures.lasts.home_is_left;
+      well_formed = c.in_ok-outcome.ensures.well_formed;
+      player = c.in_ok-outcome.ensures.player ∙ c.instructions.invariant.player;
+      over = subst (λ (x : World). IsOver (ran c.args.task.player b (begun_at c.step.new.deeds (view.now c.step.new.view x) c.step.new.task))) (sym c.in_ok-outcome.ensures.lasts.home_stays)
+          (over_on c.args.task.player b (scene_at c.instructions.deeds (view.now c.instructions.view home) c.instructions.task) (running_kept c.instructions.task) c.instructions.task.outer
+          (ticks_of c.instructions.task) (begun_at c.step.new.deeds (view.now c.step.new.view home) c.step.new.task) c.instructions.invariant.over (on_then home held));
+      comes = λ w h.
+          let l = c.in_ok-outcome.ensures.step w h in
+          let was = c.instructions.invariant.comes w l.0 in (
+            was.0,
+            comes_on c.args.task.player (begun_at c.args.deeds (view.now c.args.view.now w) c.args.task) (scene_at c.instructions.deeds (view.now c.instructions.view w) c.instructions.task)
+                (running_kept c.instructions.task) c.instructions.task.outer (ticks_of c.instructions.task) (begun_at c.step.new.deeds (view.now c.step.new.view w) c.step.new.task) was.1 (on_then w h),
+          );
+    }
+
+pub returns-in-Ends-clause-stopped : goal.returns-in-Ends-clause-stopped
+returns-in-Ends-clause-stopped g c w h =
+    let view = g.V.View in
+    let l = c.in_ok-outcome.ensures.step w h in
+    let was = c.instructions.invariant.comes w l.0 in (
+      was.0,
+      λ f vars focus ps same stands.
+          stops f vars focus ps c.args.task.player (scene_at c.args.deeds (view.now c.args.view.now w) c.args.task) (running_kept c.args.task) c.args.task.outer (ticks_of c.args.task) _ same stands
+          (comes_on c.args.task.player (begun_at c.args.deeds (view.now c.args.view.now w) c.args.task) (scene_at c.instructions.deeds (view.now c.instructions.view w) c.instructions.task)
+          (running_kept c.instructions.task) c.instructions.task.outer (ticks_of c.instructions.task) _ was.1
+          (step_to c.args.task.player c.instructions.task c.step.new.task c.instructions.deeds c.step.new.deeds (view.now c.instructions.view w) (view.now c.step.new.view w) c.in_ok-outcome.outcome
+          _ c.instructions.invariant.player l.1
+          (ap (λ (o : Outcome). led_at o c.step.new.deeds (view.now c.step.new.view w) c.step.new.task) c.in-Ends.is))),
+    )
+
+pub returns-in-RanOut-clause-stopped : goal.returns-in-RanOut-clause-stopped
+returns-in-RanOut-clause-stopped g c w h =
+    let view = g.V.View in
+    let l = c.in_ok-outcome.ensures.step w h in
+    let was = c.instructions.invariant.comes w l.0 in (
+      was.0,
+      λ f vars focus ps same stands.
+          stops f vars focus ps c.args.task.player (scene_at c.args.deeds (view.now c.args.view.now w) c.args.task) (running_kept c.args.task) c.args.task.outer (ticks_of c.args.task) _ same stands
+          (comes_on c.args.task.player (begun_at c.args.deeds (view.now c.args.view.now w) c.args.task) (scene_at c.instructions.deeds (view.now c.instructions.view w) c.instructions.task)
+          (running_kept c.instructions.task) c.instructions.task.outer (ticks_of c.instructions.task) _ was.1
+          (step_to c.args.task.player c.instructions.task c.step.new.task c.instructions.deeds c.step.new.deeds (view.now c.instructions.view w) (view.now c.step.new.view w) c.in_ok-outcome.outcome
+          _ c.instructions.invariant.player l.1
+          (ap (λ (o : Outcome). led_at o c.step.new.deeds (view.now c.step.new.view w) c.step.new.task) c.in-RanOut.is
+          ∙ ap (λ ts. halts (stopped (scene_at c.step.new.deeds (view.now c.step.new.view w) c.step.new.task) (out_of_ticks ts) 0)) (sym c.in_ok-verbs-in-RanOut.ensures)))),
+    )
+
+pub returns-in-Waits-clause-stopped : goal.returns-in-Waits-clause-stopped
+returns-in-Waits-clause-stopped g c w h =
+    let view = g.V.View in
+    let l = c.in_ok-outcome.ensures.step w h in
+    let was = c.instructions.invariant.comes w l.0 in (
+      was.0,
+      λ f vars focus ps same stands.
+          stops f vars focus ps c.args.task.player (scene_at c.args.deeds (view.now c.args.view.now w) c.args.task) (running_kept c.args.task) c.args.task.outer (ticks_of c.args.task) _ same stands
+          (comes_on c.args.task.player (begun_at c.args.deeds (view.now c.args.view.now w) c.args.task) (scene_at c.instructions.deeds (view.now c.instructions.view w) c.instructions.task)
+          (running_kept c.instructions.task) c.instructions.task.outer (ticks_of c.instructions.task) _ was.1
+          (step_to c.args.task.player c.instructions.task c.step.new.task c.instructions.deeds c.step.new.deeds (view.now c.instructions.view w) (view.now c.step.new.view w) c.in_ok-outcome.outcome
+          _ c.instructions.invariant.player l.1
+          (ap (λ (o : Outcome). led_at o c.step.new.deeds (view.now c.step.new.view w) c.step.new.task) c.in-Waits.is))),
+    )
+
+pub unreachable-requires-in-LacksOperand : goal.unreachable-requires-in-LacksOperand
+unreachable-requires-in-LacksOperand g c =
+    let view = g.V.View in
+    let home = view.home c.instructions.view in
+    let held : view.holds c.step.new.view home = subst (view.holds c.step.new.view) c.in_ok-outcome.ensures.lasts.home_stays c.in_ok-outcome.ensures.lasts.home_is_left in
+    operands_there c.args.task.player (bound_of c.args.deeds (view.now c.args.view.now (view.home c.args.view.now)) c.args.task)
+    (scene_at c.instructions.deeds (view.now c.instructions.view home) c.instructions.task) (running_kept c.instructions.task) c.instructions.task.outer (ticks_of c.instructions.task)
+    c.instructions.invariant.over
+    (step_to c.args.task.player c.instructions.task c.step.new.task c.instructions.deeds c.step.new.deeds (view.now c.instructions.view home) (view.now c.step.new.view home) c.in_ok-outcome.outcome
+    lacks_operand c.instructions.invariant.player (c.in_ok-outcome.ensures.step home held).1
+    (ap (λ (o : Outcome). led_at o c.step.new.deeds (view.now c.step.new.view home) c.step.new.task) c.in-LacksOperand.is))

@@ -1,0 +1,187 @@
+//! Calls of verbs (Programmer's Manual, "Calling Built-in Functions and Other Verbs").
+ghost use Rattle.std.specs.Prelude.{◌≡◌, ◌<◌, ◌+◌, ◌^◌, true, codes, IfOk, OnOk};
+ghost use Rattle.spec_value.specs.Datum.{list, Data, Text as TextOf, same_text};
+ghost use Rattle.spec_moo.specs.Scene.{Scene};
+ghost use Rattle.spec_moo.specs.Calling.{verb_call};
+ghost use Rattle.spec_moo.specs.Effect.{Effect, erring};
+ghost use Rattle.moo_value.specs.Errors.{code_of};
+ghost use Rattle.spec_moo.specs.Effects.Calls.{with_arguments, found_effect};
+ghost use Rattle.moo_code.specs.Instruction.{call_verb as call_verb_of, call_function};
+ghost use Rattle.moo_machine.specs.Shown.{Around, here};
+ghost use Rattle.rules.specs.Lines.{AreAgreeing};
+ghost use Rattle.rules.specs.Calling.{call_effect};
+ghost use Rattle.world.specs.Law.{Goes, Lasts};
+ghost use Rattle.running.specs.Called.{items_of, running, effect_of, shown_called, weighed_effect, Calls, HasList};
+
+use moo_machine::call::Call;
+use moo_machine::verb::{Did, State};
+use moo_value::answer::limited;
+use moo_value::error::MooError;
+use moo_value::text::Text;
+use moo_value::value::{Shown, Value};
+use rules::access::calling::{called_verb, passed_verb};
+use rules::inherit::verb::FoundVerb;
+use std::alloc::{AllocError, Global};
+use world::law::View;
+
+/// What a call of a verb did.
+#[derive(Drop)]
+pub enum Called {
+    /// No other verb is entered.
+    Went(Did),
+    /// A verb is entered that was found, with a list of arguments; the one that runs awaits its value.
+    Entered(Call, FoundVerb, Value),
+}
+
+/// A call of a verb on an object, by its word.
+pub fn call_verb<V: View>(
+    alloc: Global,
+    view: &mut V,
+    call: &Call,
+    state: &mut State,
+) -> Result<Called, AllocError>
+    requires place { state.old.place + 1 < 2 ^ 64 }
+    requires home { V.holds view.old (V.home view.old) }
+    requires well_formed { AreAgreeing V.holds V.now view.old }
+    ensures lasts { Lasts V.holds V.home V.anchor view.old view.new result }
+    ensures left { IfOk result (λ d. Goes V.holds V.now view.old view.new (Calls call_verb_of call.now state.old d state.new)) }
+    ensures listed { IfOk result HasList }
+    ensures well_formed { OnOk result (AreAgreeing V.holds V.now view.new) }
+{
+    let Some(arguments) = state.operands.pop() else {
+        return Ok(Called::Went(Did::LacksOperand));
+    };
+    let Some(word) = state.operands.pop() else {
+        return Ok(Called::Went(Did::LacksOperand));
+    };
+    let Some(object) = state.operands.pop() else {
+        return Ok(Called::Went(Did::LacksOperand));
+    };
+    if state.ticks == 0 {
+        return Ok(Called::Went(Did::RanOut));
+    }
+    state.ticks -= 1;
+    let arguments = match weighed(arguments) {
+        Ok(arguments) => arguments,
+        Err(error) => return complains(call, state, error),
+    };
+    let found = called_verb(view, &object, &word)?;
+    match found {
+        Ok(found) => enters_on(alloc, call, state, &object, &word, found, arguments),
+        Err(error) => complains(call, state, error),
+    }
+}
+
+/// A call of `pass`: the verb of the running name, sought above its definer, for the same object.
+pub fn pass<V: View>(view: &mut V, call: &Call, state: &mut State) -> Result<Called, AllocError>
+    requires place { state.old.place + 1 < 2 ^ 64 }
+    requires home { V.holds view.old (V.home view.old) }
+    requires well_formed { AreAgreeing V.holds V.now view.old }
+    ensures lasts { Lasts V.holds V.home V.anchor view.old view.new result }
+    ensures left { IfOk result (λ d. Goes V.holds V.now view.old view.new (λ before after. (g : TextOf) → same_text g (codes "pass") ≡ true →
+        Calls (call_function g) call.now state.old d state.new before after)) }
+    ensures listed { IfOk result HasList }
+    ensures well_formed { OnOk result (AreAgreeing V.holds V.now view.new) }
+{
+    let Some(arguments) = state.operands.pop() else {
+        return Ok(Called::Went(Did::LacksOperand));
+    };
+    if state.ticks == 0 {
+        return Ok(Called::Went(Did::RanOut));
+    }
+    state.ticks -= 1;
+    let arguments = match weighed(arguments) {
+        Ok(arguments) => arguments,
+        Err(error) => return complains(call, state, error),
+    };
+    let found = passed_verb(view, call.definer, call.verb.as_str())?;
+    match found {
+        Some(found) => enters_above(call, found, arguments),
+        None => complains(call, state, MooError::VerbNotFound),
+    }
+}
+
+/// The call of a verb that was found by its word on an object, from the verb that runs: with the permissions of the found
+/// verb's owner.
+pub fn callee(call: &Call, object: i32, word: Text, found: &FoundVerb) -> Call
+    ensures { result ≡ verb_call call.now object word found.now }
+{
+    let verb = found.verb();
+    Call {
+        this: object,
+        caller: call.this,
+        definer: found.definer(),
+        programmer: verb.owner,
+        verb: word,
+        debug: verb.debug,
+    }
+}
+
+/// The call of a verb that `pass` found: of the running name, for the same object.
+pub fn callee_above(call: &Call, found: &FoundVerb) -> Result<Call, AllocError>
+    ensures { IfOk result (λ d. d ≡ verb_call call.now call.now.this call.now.verb found.now) }
+{
+    let word = call.verb.clone()?;
+    Ok(callee(call, call.this, word, found))
+}
+
+// Arguments, if they are a list that weighs no more than a value may.
+fn weighed(arguments: Value) -> Result<Value, MooError>
+    ensures weighs { (s : Scene) (f : Data → Effect) → with_arguments s f arguments ≡ weighed_effect s f result }
+    ensures listed { IfOk result (λ v. v ≡ list (items_of v)) }
+{
+    match arguments.shown() {
+        Shown::List(_) => limited(arguments),
+        _ => Err(MooError::TypeMismatch),
+    }
+}
+
+// An error of the call itself.
+fn complains(call: &Call, state: &mut State, error: MooError) -> Result<Called, AllocError>
+    requires { state.old.place + 1 < 2 ^ 64 }
+    ensures left { IfOk result (λ d. (a : Around) → effect_of a call.now (erring (here a state.old) (code_of error)) state.old ≡ shown_called a call.now d state.new) }
+    ensures listed { IfOk result HasList }
+{
+    let did = state.answers(call, Err(error))?;
+    Ok(Called::Went(did))
+}
+
+// A verb that was found on an object by a word is entered.
+fn enters_on(
+    alloc: Global,
+    call: &Call,
+    state: &mut State,
+    object: &Value,
+    word: &Value,
+    found: FoundVerb,
+    arguments: Value,
+) -> Result<Called, AllocError>
+    requires place { state.old.place + 1 < 2 ^ 64 }
+    requires listed { arguments ≡ list (items_of arguments) }
+    ensures left { IfOk result (λ d. (a : Around) → effect_of a call.now
+        (call_effect (here a state.old) (running a call.now state.old) object.now word.now (items_of arguments) (Ok found)) state.old
+        ≡ shown_called a call.now d state.new) }
+    ensures listed { IfOk result HasList }
+{
+    word.know();
+    match (object.shown(), word.shown()) {
+        (Shown::Object(object), Shown::Text(word)) => {
+            let word = Text::from_str(alloc, word)?;
+            let entered = callee(call, object, word, &found);
+            Ok(Called::Entered(entered, found, arguments))
+        }
+        _ => complains(call, state, MooError::TypeMismatch),
+    }
+}
+
+// A verb that was found above the definer is entered.
+fn enters_above(call: &Call, found: FoundVerb, arguments: Value) -> Result<Called, AllocError>
+    requires { arguments ≡ list (items_of arguments) }
+    ensures left { IfOk result (λ d. (a : Around) (s : State) → effect_of a call.now
+        (found_effect (here a s) (running a call.now s) call.now.this call.now.verb (items_of arguments) (Some found)) s
+        ≡ shown_called a call.now d s) }
+    ensures listed { IfOk result HasList }
+{
+    let entered = callee_above(call, &found)?;
+    Ok(Called::Entered(entered, found, arguments))
+}

@@ -1,0 +1,10 @@
+//! The loop of the machine: tasks run over a view of the world, with the built-in functions that they are given.
+pub mod calling;
+mod forking;
+pub mod leaving;
+pub mod natives;
+mod parts;
+pub mod run;
+pub mod step;
+pub mod stopped;
+mod tracing;

@@ -1,0 +1,133 @@
+//! Calls of functions.
+ghost use Rattle.std.specs.Prelude.{◌≡◌, ◌<◌, ◌+◌, ◌^◌, false, codes, IfOk, OnOk};
+ghost use Rattle.spec_value.specs.Datum.{Data, list, to_list, same_text};
+ghost use Rattle.rules.specs.Lines.{AreAgreeing};
+ghost use Rattle.world.specs.Law.{Goes, Lasts};
+ghost use Rattle.moo_task.specs.Outcomes.{Keeps};
+ghost use Rattle.running.specs.Scenes.{led_at};
+ghost use Rattle.running.specs.Calls.{AreArguments, calls_function_at, calls_native_at};
+
+use crate::moo_asking::asking::pass;
+use crate::moo_run::natives::Natives;
+use moo_task::deeds::Deeds;
+use moo_task::outcome::Outcome;
+use moo_task::running::Running;
+use moo_value::answer::WEIGHT_LIMIT;
+use moo_value::error::MooError;
+use moo_value::items::copied;
+use moo_value::text::Text;
+use moo_value::value::{Shown, Value};
+use std::alloc::{AllocError, Global};
+use world::law::View;
+
+// Why a value is no list of arguments: it is no list, or weighs too much.
+fn refused(arguments: &Value) -> Option<MooError>
+    ensures { AreArguments result arguments.now }
+{
+    match arguments.shown() {
+        Shown::List(_) if arguments.weight() <= WEIGHT_LIMIT => None,
+        Shown::List(_) => Some(MooError::LimitExceeded),
+        _ => Some(MooError::TypeMismatch),
+    }
+}
+
+/// Whether a name is that of `pass`, which calls a verb.
+pub fn is_pass(name: &Text) -> bool
+    ensures { result ≡ same_text name.now (codes "pass") }
+{
+    name.as_str() == "pass"
+}
+
+/// A call of a function, with its list of arguments on top: `pass` calls a verb.
+pub fn call<V: View, N: Natives>(
+    alloc: Global,
+    view: &mut V,
+    natives: &mut N,
+    deeds: &mut Deeds,
+    task: &mut Running,
+    name: &Text,
+) -> Result<Outcome, AllocError>
+    requires home { V.holds view.old (V.home view.old) }
+    requires well_formed { AreAgreeing V.holds V.now view.old }
+    requires place { task.old.frame.state.place + 1 < 2 ^ 64 }
+    ensures lasts { Lasts V.holds V.home V.anchor view.old view.new result }
+    ensures calls { IfOk result (λ o. Goes V.holds V.now view.old view.new (λ before after.
+        calls_function_at name.now deeds.old before task.old ≡ led_at o deeds.new after task.new)) }
+    ensures player { IfOk result (λ o. task.new.player ≡ task.old.player) }
+    ensures well_formed { OnOk result (AreAgreeing V.holds V.now view.new) }
+{
+    let passes = is_pass(name);
+    if passes {
+        return pass(alloc, view, task);
+    }
+    call_function(alloc, view, natives, deeds, task, name)
+}
+
+/// A call of a built-in function other than `pass`, with its list of arguments on top.
+pub fn call_function<V: View, N: Natives>(
+    alloc: Global,
+    view: &mut V,
+    natives: &mut N,
+    deeds: &mut Deeds,
+    task: &mut Running,
+    name: &Text,
+) -> Result<Outcome, AllocError>
+    requires home { V.holds view.old (V.home view.old) }
+    requires well_formed { AreAgreeing V.holds V.now view.old }
+    requires place { task.old.frame.state.place + 1 < 2 ^ 64 }
+    ensures lasts { Lasts V.holds V.home V.anchor view.old view.new result }
+    ensures calls { IfOk result (λ o. Goes V.holds V.now view.old view.new (λ before after.
+        same_text name.now (codes "pass") ≡ false → calls_function_at name.now deeds.old before task.old ≡ led_at o deeds.new after task.new)) }
+    ensures keeps { IfOk result (λ o. Keeps o task.old task.new) }
+    ensures well_formed { OnOk result (AreAgreeing V.holds V.now view.new) }
+{
+    let Some(arguments) = task.frame.state.operands.pop() else {
+        return Ok(Outcome::LacksOperand);
+    };
+    if task.frame.state.ticks == 0 {
+        return Ok(Outcome::RanOut);
+    }
+    task.frame.state.ticks -= 1;
+    let end = task.frame.state.place + 1;
+    if let Some(error) = refused(&arguments) {
+        let outcome = task.fails(alloc, end, error)?;
+        return Ok(outcome);
+    }
+    let outcome = call_native(alloc, view, natives, deeds, task, end, name, arguments)?;
+    Ok(outcome)
+}
+
+// What a built-in function does with these arguments.
+fn call_native<V: View, N: Natives>(
+    alloc: Global,
+    view: &mut V,
+    natives: &mut N,
+    deeds: &mut Deeds,
+    task: &mut Running,
+    end: usize,
+    name: &Text,
+    arguments: Value,
+) -> Result<Outcome, AllocError>
+    requires home { V.holds view.old (V.home view.old) }
+    requires well_formed { AreAgreeing V.holds V.now view.old }
+    ensures lasts { Lasts V.holds V.home V.anchor view.old view.new result }
+    ensures calls { IfOk result (λ o. Goes V.holds V.now view.old view.new (λ before after.
+        (args : Data) → arguments ≡ list args → calls_native_at name.now args end deeds.old before task.old ≡ led_at o deeds.new after task.new)) }
+    ensures keeps { IfOk result (λ o. Keeps o task.old task.new) }
+    ensures well_formed { OnOk result (AreAgreeing V.holds V.now view.new) }
+{
+    let items = items_of(alloc, arguments)?;
+    let effect = natives.call(alloc, view, deeds, task, name, items)?;
+    let outcome = task.natively(alloc, end, effect)?;
+    Ok(outcome)
+}
+
+// The items of a list; of another value there are none.
+fn items_of(alloc: Global, arguments: Value) -> Result<Vec<Value>, AllocError>
+    ensures { IfOk result (λ items. (args : Data) → arguments ≡ list args → items.items ≡ to_list args) }
+{
+    match arguments.shown() {
+        Shown::List(items) => copied(alloc, items),
+        _ => Ok(Vec::new(alloc)),
+    }
+}

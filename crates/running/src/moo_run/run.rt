@@ -1,0 +1,72 @@
+//! Runs of tasks.
+ghost use Rattle.std.specs.Prelude.{◌≡◌, IfOk, OnOk};
+ghost use Rattle.rules.specs.Lines.{AreAgreeing};
+ghost use Rattle.world.specs.Law.{Goes, Lasts};
+ghost use Rattle.moo_task.specs.Outcomes.{running_kept};
+ghost use Rattle.running.specs.Stopping.{IsUnderWay, StopsAsSegment, stopped_at};
+
+use crate::moo_run::natives::Natives;
+use crate::moo_run::step::step;
+use crate::moo_run::stopped::{Stop, Stopped};
+use crate::moo_run::tracing::verbs_under_way;
+use moo_task::deeds::Deeds;
+use moo_task::outcome::Outcome;
+use moo_task::running::Running;
+use std::alloc::{AllocError, Global};
+use world::law::View;
+
+/// Runs a task, which begins or goes on behind a call, until it stops.
+pub fn run<V: View, N: Natives>(
+    alloc: Global,
+    view: &mut V,
+    natives: &mut N,
+    deeds: Deeds,
+    task: Running,
+) -> Result<Stopped, AllocError>
+    requires home { V.holds view.old (V.home view.old) }
+    requires well_formed { AreAgreeing V.holds V.now view.old }
+    requires under_way { IsUnderWay (running_kept task) task.outer }
+    ensures lasts { Lasts V.holds V.home V.anchor view.old view.new result }
+    ensures stopped { IfOk result (λ s. Goes V.holds V.now view.old view.new
+        (λ before after. StopsAsSegment deeds before task (stopped_at s after))) }
+    ensures well_formed { OnOk result (AreAgreeing V.holds V.now view.new) }
+{
+    let mut deeds = deeds;
+    let mut task = task;
+    'instructions: loop {
+        let outcome = step(alloc, view, natives, &mut deeds, &mut task)?;
+        match outcome {
+            Outcome::On => {}
+            Outcome::Ends(end) => {
+                return Ok(Stopped {
+                    stop: Stop::Ends(end),
+                    deeds,
+                    ticks_left: task.frame.state.ticks,
+                });
+            }
+            Outcome::RanOut => {
+                let verbs = verbs_under_way(alloc, &task)?;
+                return Ok(Stopped {
+                    stop: Stop::OutOfTicks(verbs),
+                    deeds,
+                    ticks_left: task.frame.state.ticks,
+                });
+            }
+            Outcome::Waits(waiting) => {
+                let Running {
+                    player: _,
+                    frame,
+                    outer,
+                } = task;
+                let ticks_left = frame.state.ticks;
+                return Ok(Stopped {
+                    stop: Stop::Waits(waiting, frame, outer),
+                    deeds,
+                    ticks_left,
+                });
+            }
+            Outcome::Leaves(_) => unreachable!(),
+            Outcome::LacksOperand => unreachable!(),
+        }
+    }
+}

@@ -1,0 +1,77 @@
+//! Links that a world has from before a server serves it.
+use crate::draft::{Draft, LONGEST_LIST};
+use crate::playing::{End, Plan, Played, moment, next_number, play, unless_ending};
+use speculate::gate::Gate;
+use std::alloc::{AllocError, Global};
+use std::rt::Clock;
+use std::sync::Wait;
+use std::thread::Threads;
+use task_step::step::GREATEST_CONNECTION;
+use world::question::{Answer, Question};
+use world::worlds::World;
+
+/// Closes every link of a world: none of them has a socket. Ends where a task asks for it meanwhile.
+pub fn close_left<G: Gate, R: Threads + Wait + Sync, C: Clock>(
+    rt: &R,
+    alloc: Global,
+    gate: &G,
+    clock: &C,
+    plan: Plan,
+    mut world: World,
+) -> Result<World, End> {
+    let Ok(left) = left_links(alloc, &world) else {
+        return Err(End::Memory(0));
+    };
+    'list: for part in left.chunks(LONGEST_LIST) {
+        let next = next_number(&world)?;
+        let Ok(draft) = closing(alloc, next, moment(clock), plan.key, part) else {
+            return Err(End::Memory(0));
+        };
+        let Played {
+            world: after,
+            end,
+            ..
+        } = play(rt, alloc, gate, world, draft.steps.as_slice(), 1);
+        match end {
+            None => world = after,
+            Some(end) => return Err(end),
+        }
+    }
+    unless_ending(world)
+}
+
+// The list that closes these links.
+fn closing(
+    alloc: Global,
+    next: u32,
+    moment: u32,
+    key: [u8; 32],
+    links: &[u32],
+) -> Result<Draft, AllocError> {
+    let mut draft = Draft::new(alloc, next, moment, key)?;
+    'link: for number in links {
+        draft.close(*number)?;
+    }
+    Ok(draft)
+}
+
+// Their numbers.
+fn left_links(alloc: Global, world: &World) -> Result<Vec<u32>, AllocError> {
+    let mut left = Vec::new(alloc);
+    'number: for number in 1..=GREATEST_CONNECTION {
+        if has_link(world, number)? {
+            left.push(number)?;
+        }
+    }
+    Ok(left)
+}
+
+fn has_link(world: &World, number: u32) -> Result<bool, AllocError> {
+    let Ok(connection) = i32::try_from(number) else {
+        return Ok(false);
+    };
+    Ok(matches!(
+        world.ask(&Question::Link(connection))?,
+        Answer::Link(Some(_))
+    ))
+}

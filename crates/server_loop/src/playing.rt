@@ -1,0 +1,112 @@
+//! How a server runs its lists.
+use speculate::gate::Gate;
+use speculate::list::run_list;
+use std::alloc::Global;
+use std::rt::Clock;
+use std::sync::Wait;
+use std::thread::Threads;
+use task_run::list::play_list;
+use task_step::outcome::Outcome;
+use task_step::partial::{Partial, Refusal};
+use task_step::step::{GREATEST_MOMENT, GREATEST_NUMBER, Step};
+use world::question::{Answer, Question};
+use world::worlds::World;
+
+/// How a server runs its lists.
+#[derive(Clone, Copy, Debug)]
+pub struct Plan {
+    /// The key of every step.
+    pub key: [u8; 32],
+    /// How many workers run a long list.
+    pub workers: usize,
+}
+
+/// Why a server does not go on.
+#[derive(Clone, Copy, PartialEq, Eq, Debug)]
+pub enum End {
+    /// A task asked for it.
+    Asked,
+    /// The numbers of steps are used up.
+    Numbers,
+    /// Memory ran out after so many steps of a list.
+    Memory(usize),
+}
+
+/// What a list left and gave, as far as it was run.
+#[derive(Drop)]
+pub struct Played {
+    pub world: World,
+    pub outcomes: Vec<Outcome>,
+    /// Why not all of it was run.
+    pub end: Option<End>,
+}
+
+/// Runs a list of steps: on this thread, where one worker is enough.
+pub fn play<G: Gate, R: Threads + Wait + Sync>(
+    rt: &R,
+    alloc: Global,
+    gate: &G,
+    world: World,
+    steps: &[Step],
+    workers: usize,
+) -> Played {
+    match run(rt, alloc, gate, world, steps, workers) {
+        Ok((world, outcomes)) => Played {
+            world,
+            outcomes,
+            end: None,
+        },
+        Err(partial) => {
+            let end = match partial.refusal {
+                Refusal::Memory => End::Memory(partial.count),
+                Refusal::Numbers | Refusal::Workers => End::Numbers,
+            };
+            Played {
+                world: partial.world,
+                outcomes: partial.outcomes,
+                end: Some(end),
+            }
+        }
+    }
+}
+
+fn run<G: Gate, R: Threads + Wait + Sync>(
+    rt: &R,
+    alloc: Global,
+    gate: &G,
+    world: World,
+    steps: &[Step],
+    workers: usize,
+) -> Result<(World, Vec<Outcome>), Partial> {
+    if workers <= 1 {
+        return play_list(alloc, world, steps);
+    }
+    let report = run_list(rt, alloc, gate, world, steps, workers)?;
+    Ok((report.world, report.outcomes))
+}
+
+/// The number of the next step, if there is one.
+pub fn next_number(world: &World) -> Result<u32, End> {
+    let next = world.next();
+    if next > u64::from(GREATEST_NUMBER) {
+        return Err(End::Numbers);
+    }
+    Ok(next as u32)
+}
+
+/// The seconds since 1970, or 0 where the clock cannot be read.
+pub fn moment<C: Clock>(clock: &C) -> u32 {
+    match clock.since_1970() {
+        Ok(since) => since.as_secs().min(u64::from(GREATEST_MOMENT)) as u32,
+        Err(_) => 0,
+    }
+}
+
+/// The world, unless a task asked for the end of the server.
+pub fn unless_ending(world: World) -> Result<World, End> {
+    match world.ask(&Question::Ending) {
+        Ok(Answer::Ending(true)) => Err(End::Asked),
+        Ok(_) => Ok(world),
+        Err(_) => Err(End::Memory(0)),
+    }
+}

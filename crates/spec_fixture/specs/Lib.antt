@@ -1,0 +1,4 @@
+pub mod Programs
+pub mod Fixture
+pub mod Texts
+pub mod Opened

@@ -1,4 +1,0 @@
-pub mod Opens
-pub mod Performed
-pub mod Ready
-pub mod Tasks

@@ -1,0 +1,13 @@
+pub mod Beginnings
+pub mod Playing
+pub mod Values
+pub mod Accepted
+pub mod Codings
+pub mod Relinks
+pub mod Endings
+pub mod Runs
+pub mod Dues
+pub mod Logins
+pub mod Resuming
+pub mod Steps
+pub mod Typed

@@ -104,8 +104,16 @@ impl Page {
         ensures { OnOk result (self.new ≡ self.old ++ literal (text_of text.now)) }
     {
         text.know();
+        self.put_quoted(text.as_str())
+    }
+
+    /// Writes a text, whose characters are known to be allowed, as a program would write it.
+    pub fn put_quoted(&mut self, text: &str) -> Result<(), AllocError>
+        requires { IsTrue (is_text text.now) }
+        ensures { OnOk result (self.new ≡ self.old ++ literal (text_of text.now)) }
+    {
         self.put("\"")?;
-        self.put_escaped(text.as_str())?;
+        self.put_escaped(text)?;
         self.put("\"")
     }
 

@@ -1,0 +1,4 @@
+//! The text of a world.
+#![tactic(auto)]
+
+pub mod encode;

@@ -1,0 +1,4 @@
+//! Tried.
+#![tactic(auto)]
+
+pub mod tried;

@@ -1,4 +1,0 @@
-//! Tried.
-#![tactic(auto)]
-
-pub mod tried;

@@ -6,6 +6,7 @@ use crate::fields::split;
 use crate::program::tree_of;
 use crate::row::Row;
 use moo_tree::statement::Tree;
+use moo_value::text::Text;
 use std::alloc::Global;
 
 /// What is left of a text, each of whose lines ends with a line feed.
@@ -88,15 +89,52 @@ impl<'a> Lines<'a> {
         row.number(1, least, most)
     }
 
+    /// The integer of the next line, which has this word before it; it is at least the first and at most the second number.
+    pub fn next_integer(
+        &mut self,
+        alloc: Global,
+        word: &[u8],
+        least: i32,
+        most: i32,
+    ) -> Result<i32, DecodeError> {
+        let row = self.next_with(alloc, word, 1)?;
+        row.integer(1, least, most)
+    }
+
     /// How many of something follow, by the next line, which has this word before the count.
     pub fn next_count(&mut self, alloc: Global, word: &[u8]) -> Result<u64, DecodeError> {
-        self.next_number(alloc, word, 0, GREATEST_COUNT)
+        let row = self.next_with(alloc, word, 1)?;
+        row.count(1)
+    }
+
+    /// The flag of the next line, which has this word before it.
+    pub fn next_flag(&mut self, alloc: Global, word: &[u8]) -> Result<bool, DecodeError> {
+        let row = self.next_with(alloc, word, 1)?;
+        row.flag(1)
     }
 
     /// The object of the next line, which has this word before it.
     pub fn next_object(&mut self, alloc: Global, word: &[u8]) -> Result<i32, DecodeError> {
         let row = self.next_with(alloc, word, 1)?;
         row.object(1)
+    }
+
+    /// The text of the next line, which has this word before it.
+    pub fn next_text(&mut self, alloc: Global, word: &[u8]) -> Result<Text, DecodeError> {
+        let row = self.next_with(alloc, word, 1)?;
+        row.text(alloc, 1)
+    }
+
+    /// The objects of the next line, which has this word before them.
+    pub fn next_objects(&mut self, alloc: Global, word: &[u8]) -> Result<Vec<i32>, DecodeError> {
+        let row = self.next_with(alloc, word, 1)?;
+        row.objects(alloc, 1)
+    }
+
+    /// The texts of the next line, which has this word before them.
+    pub fn next_texts(&mut self, alloc: Global, word: &[u8]) -> Result<Vec<Text>, DecodeError> {
+        let row = self.next_with(alloc, word, 1)?;
+        row.texts(alloc, 1)
     }
 
     /// The program that so many next lines spell.
@@ -138,9 +176,6 @@ impl<'a> Lines<'a> {
         Err(DecodeError::Line { line, kind })
     }
 }
-
-// The greatest count of what follows.
-const GREATEST_COUNT: u64 = 9_223_372_036_854_775_807;
 
 // The first line of a text without its line feed, and what stands behind that.
 fn first_line(text: &[u8]) -> Option<(&[u8], &[u8])> {

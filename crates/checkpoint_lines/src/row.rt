@@ -7,6 +7,9 @@ use moo_value::text::Text;
 use moo_value::value::Value;
 use std::alloc::Global;
 
+// The greatest count of what follows.
+const GREATEST_COUNT: u64 = 9_223_372_036_854_775_807;
+
 /// A line in fields. The first has index 0; where no field is, it counts as one without a byte.
 #[derive(Drop)]
 pub struct Row<'a> {
@@ -52,6 +55,11 @@ impl<'a> Row<'a> {
     /// A number that is at least the first and at most the second. Else fault Number.
     pub fn number(&self, index: usize, least: u64, most: u64) -> Result<u64, DecodeError> {
         natural(self.field(index), least, most).ok_or(self.fault(FaultKind::Number))
+    }
+
+    /// How many of something follow. Else fault Number.
+    pub fn count(&self, index: usize) -> Result<u64, DecodeError> {
+        self.number(index, 0, GREATEST_COUNT)
     }
 
     /// An integer that is at least the first and at most the second. Else fault Number.

@@ -7,9 +7,6 @@ use Rattle.spec_world.specs.World.{Call, Start, Waiting}
 use Rattle.spec_world.specs.Checkpoint.{fields, object_text, waiting_fields, counted, list_literal, start_values, call_line, path, literal_lines, variable_lines}
 use Rattle.spec_program.specs.Tree.{Program}
 use Rattle.spec_program.specs.Spelling.{canonical_lines}
-use Rattle.frame_laws.specs.Telling.{outer_lines}
-use Rattle.moo_task.specs.Frames.{outer_of}
-use Rattle.moo_task.specs.declared.frame.Outer.{Outer as OuterOf}
 use Rattle.checkpoint_tasks.specs.declared.lent.Lent.{Lent}
 
 -- ---- of a verb
@@ -41,12 +38,6 @@ lent_variable e = (e.name.now, e.value.now)
 
 abbrev pub lent_variables : List Lent → List (Text × Datum)
 lent_variables es = map lent_variable es
-
--- ---- of what waits, which is stored with the innermost last
-
-abbrev pub stored_lines : Waiting → List OuterOf → List Text
-stored_lines why [] = []
-stored_lines why (o ∷ os) = outer_lines why (outer_of o) ++ stored_lines why os
 
 -- ---- of a task
 

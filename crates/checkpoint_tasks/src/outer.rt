@@ -7,8 +7,8 @@ ghost use Rattle.moo_task.specs.Effects.{waiting_of};
 ghost use Rattle.moo_task.specs.Frames.{outer_of};
 
 use crate::frame::put_frame;
-use crate::native::put_native;
 use checkpoint_fields::page::Page;
+use checkpoint_frames::native::put_native;
 use moo_task::effect::Waiting;
 use moo_task::frame::Outer;
 use std::alloc::{AllocError, Global};

@@ -1,5 +1,5 @@
 -- In a table whose keys rise each entry is found by its key.
-use Rattle.std.proofs.Common.{◌≡◌, ◌∙◌, ◌⊎◌, inl, inr, ℤ, false, List, [], ◌∷◌, ◌++◌, map, Option, Some, None, IsTrue, refl, sym, ap, cond}
+use Rattle.std.proofs.Common.{◌≡◌, ◌∙◌, ◌⊎◌, inl, inr, ℤ, false, List, [], ◌∷◌, ◌++◌, map, Some, None, IsTrue, refl, sym, ap, cond}
 use Rattle.std.specs.Ordering.{int_eq}
 use Rattle.spec_value.specs.Datum.{Text}
 use Rattle.spec_value.specs.Table.{Numbered, at, is_numbered}
@@ -21,7 +21,7 @@ module _ {X : Type 0} where
       go (inr s) = ap (λ b. cond b (Some e.1) (at es k)) s ∙ is
 
   -- whatever else is found in the whole table
-  AllFound : Numbered X → Numbered X → Type 0
+  abbrev AllFound : Numbered X → Numbered X → Type 0
   AllFound m [] = Unit {0}
   AllFound m (e ∷ es) = (at m e.0 ≡ Some e.1) × AllFound m es
 

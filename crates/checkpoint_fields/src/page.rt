@@ -6,7 +6,7 @@ ghost use Rattle.spec_value.specs.Literal.{literal, escape, escaped};
 ghost use Rattle.spec_world.specs.Checkpoint.{flag, object_text, letter_if};
 
 use moo_value::text::Text;
-use moo_value::value::Value;
+use moo_value::value::{Shown, Value};
 use moo_value::write::Literal;
 use std::alloc::{AllocError, Global};
 use std::marker::Model;
@@ -95,6 +95,16 @@ impl Page {
     pub fn put_value(&mut self, value: &Value) -> Result<(), AllocError>
         ensures { OnOk result (self.new ≡ self.old ++ literal value.now) }
     {
+        value.know();
+        match value.shown() {
+            Shown::Text(text) => self.put_quoted(text),
+            _ => self.put_literal(value),
+        }
+    }
+
+    fn put_literal(&mut self, value: &Value) -> Result<(), AllocError>
+        ensures { OnOk result (self.new ≡ self.old ++ literal value.now) }
+    {
         let literal = Literal(value);
         write!(self.text, "{literal}")
     }
@@ -113,7 +123,11 @@ impl Page {
         ensures { OnOk result (self.new ≡ self.old ++ literal (text_of text.now)) }
     {
         self.put("\"")?;
-        self.put_escaped(text)?;
+        if is_plain(text) {
+            self.put(text)?;
+        } else {
+            self.put_escaped(text)?;
+        }
         self.put("\"")
     }
 
@@ -137,4 +151,16 @@ impl Page {
         }
         self.text.push(char::from(byte))
     }
+}
+
+// Whether a text has no quote and no backslash.
+fn is_plain(text: &str) -> bool
+    ensures { IsTrue result → escaped text.now ≡ text.now }
+{
+    for byte in text.as_bytes() {
+        if *byte == b'"' || *byte == b'\\' {
+            return false;
+        }
+    }
+    true
 }

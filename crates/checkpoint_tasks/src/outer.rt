@@ -1,14 +1,14 @@
 //! The lines of what waits in a task.
 ghost use Rattle.std.specs.Prelude.{◌≡◌, ◌++◌, OnOk};
+ghost use Rattle.std.specs.List.{flat_map};
 ghost use Rattle.spec_world.specs.Checkpoint.{with_line_ends};
 ghost use Rattle.frame_laws.specs.Telling.{outer_lines};
 ghost use Rattle.moo_task.specs.Effects.{waiting_of};
 ghost use Rattle.moo_task.specs.Frames.{outer_of};
-ghost use Rattle.checkpoint_tasks.specs.Lines.{stored_lines};
 
 use crate::frame::put_frame;
-use crate::native::put_native;
 use checkpoint_fields::page::Page;
+use checkpoint_frames::native::put_native;
 use moo_task::effect::Waiting;
 use moo_task::frame::Outer;
 use std::alloc::{AllocError, Global};
@@ -20,7 +20,7 @@ pub fn put_outers(
     waiting: &Waiting,
     outers: &[Outer],
 ) -> Result<(), AllocError>
-    ensures { OnOk result (page.new ≡ page.old ++ with_line_ends (stored_lines (waiting_of waiting.now) outers.now)) }
+    ensures { OnOk result (page.new ≡ page.old ++ with_line_ends (flat_map (λ o. outer_lines (waiting_of waiting.now) (outer_of o)) outers.now)) }
 {
     for outer in outers {
         put_outer(page, alloc, waiting, outer)?;

@@ -1,35 +1,18 @@
 //! The lines of tasks.
 ghost use Rattle.std.specs.Prelude.{◌≡◌, ◌++◌, [], ◌∷◌, OnOk};
 ghost use Rattle.spec_world.specs.Checkpoint.{task_lines, with_line_ends};
-ghost use Rattle.checkpoint_fields.specs.Each.{of_each};
 ghost use Rattle.checkpoint_tasks.specs.Lines.{player_line, reason_text, waiting_line};
 ghost use Rattle.moo_task.specs.Effects.{waiting_of};
 
 use crate::outer::put_outers;
 use checkpoint_fields::page::Page;
+use frame_places::told::told;
 use moo_task::effect::Waiting;
 use moo_task::task::Task;
 use std::alloc::{AllocError, Global};
-use world::draft::Draft;
 
-/// Writes the tasks of these ids.
-pub fn put_tasks(
-    page: &mut Page,
-    alloc: Global,
-    draft: &Draft,
-    ids: &[i32],
-) -> Result<(), AllocError>
-    ensures { OnOk result (page.new ≡ page.old ++ with_line_ends (of_each task_lines draft.now.tasks ids.now)) }
-{
-    for id in ids {
-        if let Some(task) = draft.task(*id) {
-            put_task(page, alloc, *id, task)?;
-        }
-    }
-    Ok(())
-}
-
-fn put_task(page: &mut Page, alloc: Global, id: i32, task: &Task) -> Result<(), AllocError>
+/// Writes a task of this id.
+pub fn put_task(page: &mut Page, alloc: Global, id: i32, task: &Task) -> Result<(), AllocError>
     ensures { OnOk result (page.new ≡ page.old ++ with_line_ends (task_lines id task.now)) }
 {
     let waiting = task.waiting();

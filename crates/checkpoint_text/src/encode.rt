@@ -4,10 +4,10 @@ ghost use Rattle.spec_value.specs.Table.{is_numbered};
 ghost use Rattle.spec_world.specs.Checkpoint.{checkpoint_text, with_line_ends};
 ghost use Rattle.checkpoint_text.specs.Parts.{head_lines, link_part, object_part, task_part};
 
+use crate::tasks::put_tasks;
 use checkpoint_fields::page::Page;
 use checkpoint_objects::link::put_links;
 use checkpoint_objects::object::put_objects;
-use checkpoint_tasks::task::put_tasks;
 use std::alloc::{AllocError, Global};
 use world::draft::Draft;
 

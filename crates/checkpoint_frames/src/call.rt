@@ -1,7 +1,7 @@
 //! Who runs a verb for whom, and what the command line gave.
 ghost use Rattle.std.specs.Prelude.{◌≡◌, ◌++◌, [], ◌∷◌, OnOk};
 ghost use Rattle.spec_world.specs.Checkpoint.{call_line, with_line_ends};
-ghost use Rattle.checkpoint_tasks.specs.Lines.{start_line};
+ghost use Rattle.checkpoint_frames.specs.Lines.{start_line};
 
 use checkpoint_fields::page::Page;
 use moo_machine::call::{Call, Start};

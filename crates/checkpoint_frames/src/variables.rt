@@ -6,7 +6,7 @@ ghost use Rattle.moo_code.specs.Slots.{others as others_of, variables_over};
 ghost use Rattle.moo_program.specs.Names.{known};
 ghost use Rattle.moo_task.specs.Frames.{kept_of};
 ghost use Rattle.moo_task.specs.Variables.{variable_of};
-ghost use Rattle.checkpoint_tasks.specs.Lines.{lent_variables};
+ghost use Rattle.checkpoint_frames.specs.Lines.{lent_variables};
 
 use crate::lent::Lent;
 use moo_program::names::{STARTING_NAMES, count_slots, has_slot_among};

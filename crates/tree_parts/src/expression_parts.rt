@@ -104,7 +104,7 @@ pub fn argument_part<'a>(
     values: Values<'a>,
     index: usize,
 ) -> Option<Part<'a>>
-    ensures { option_map part_of result ≡ spec.nth (spec.argument_parts (kinds_of values) (arguments_of arguments.now)) index }
+    ensures { option_map part_of result ≡ spec.nth (spec.argument_parts (kinds_of values.entry) (arguments_of arguments.now)) index }
 {
     if index < arguments.len() {
         let expression = argument_expression(&arguments[index]);
@@ -135,7 +135,7 @@ pub fn code_count(codes: &Codes) -> usize
 
 /// A code of a handler, with what is held beside it.
 pub fn code_part<'a>(codes: &'a Codes, values: Values<'a>, index: usize) -> Option<Part<'a>>
-    ensures { option_map part_of result ≡ spec.nth (spec.code_parts (kinds_of values) (codes_of codes.now)) index }
+    ensures { option_map part_of result ≡ spec.nth (spec.code_parts (kinds_of values.entry) (codes_of codes.now)) index }
 {
     match codes {
         Codes::Any => None,

@@ -14,7 +14,7 @@ use moo_tree::statement::Statement;
 
 /// A part with a tree, and values that are held beside it.
 pub fn beside<'a>(tree: Node<'a>, values: Values<'a>) -> Part<'a>
-    ensures { part_of result ≡ spec.part (construct_of tree) (kinds_of values) }
+    ensures { part_of result ≡ spec.part (construct_of tree.entry) (kinds_of values.entry) }
 {
     Part {
         tree: Some(tree),
@@ -31,7 +31,7 @@ pub fn plain<'a>(expression: &'a Expression, held: u8) -> Part<'a>
 
 /// Statements, with what is held while they are under way.
 pub fn body<'a>(statements: &'a [Statement], holds: Holds<'a>) -> Part<'a>
-    ensures { part_of result ≡ record { tree = Some (of_program (program_of statements.now)); held = holds_of holds } }
+    ensures { part_of result ≡ record { tree = Some (of_program (program_of statements.now)); held = holds_of holds.entry } }
 {
     Part {
         tree: Some(Node::Program(statements)),
@@ -51,14 +51,14 @@ pub fn no_tree<'a>() -> Part<'a>
 
 /// The part that has so many before it, of one.
 pub fn sole<'a>(part: Part<'a>, index: usize) -> Option<Part<'a>>
-    ensures { option_map part_of result ≡ spec.nth (part_of part ∷ []) index }
+    ensures { option_map part_of result ≡ spec.nth (part_of part.entry ∷ []) index }
 {
     if index == 0 { Some(part) } else { None }
 }
 
 /// The part that has so many before it, of two.
 pub fn of_two<'a>(first: Part<'a>, second: Part<'a>, index: usize) -> Option<Part<'a>>
-    ensures { option_map part_of result ≡ spec.nth (part_of first ∷ part_of second ∷ []) index }
+    ensures { option_map part_of result ≡ spec.nth (part_of first.entry ∷ part_of second.entry ∷ []) index }
 {
     if index == 0 {
         Some(first)
@@ -74,7 +74,7 @@ pub fn of_three<'a>(
     third: Part<'a>,
     index: usize,
 ) -> Option<Part<'a>>
-    ensures { option_map part_of result ≡ spec.nth (part_of first ∷ part_of second ∷ part_of third ∷ []) index }
+    ensures { option_map part_of result ≡ spec.nth (part_of first.entry ∷ part_of second.entry ∷ part_of third.entry ∷ []) index }
 {
     if index == 0 {
         Some(first)

@@ -21,7 +21,7 @@ pub enum Node<'a> {
 
 /// Whether a construct is a call of a function or a verb.
 pub fn is_call(node: Node<'_>) -> bool
-    ensures { result ≡ spec.is_call (construct_of node) }
+    ensures { result ≡ spec.is_call (construct_of node.entry) }
 {
     match node {
         Node::Expression(expression) => is_call_expression(expression),

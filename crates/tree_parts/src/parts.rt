@@ -19,7 +19,7 @@ pub struct Part<'a> {
 
 /// The part of a construct with a number, counted from 1 as written.
 pub fn part_at<'a>(node: Node<'a>, number: usize) -> Option<Part<'a>>
-    ensures { option_map part_of result ≡ spec.part_at (construct_of node) number }
+    ensures { option_map part_of result ≡ spec.part_at (construct_of node.entry) number }
 {
     if number == 0 {
         return None;

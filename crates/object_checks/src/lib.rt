@@ -1,0 +1,2 @@
+//! Checks of the objects and links of a draft.
+#![tactic(auto)]

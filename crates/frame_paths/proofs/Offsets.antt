@@ -1,5 +1,5 @@
 -- Offsets behind so many.
-use Rattle.std.proofs.Common.{◌≡◌, ◌∙◌, ap, refl, ℕ, zero, suc, ◌+◌, ◌-◌, ◌<◌, ◌≤◌, Option, Some, None, arith}
+use Rattle.std.proofs.Common.{◌≡◌, ◌∙◌, ap, refl, ℕ, zero, suc, ◌-◌, ◌<◌, ◌≤◌, Some, None, arith}
 use Rattle.moo_code.specs.Paths.{past}
 
 pub past_before : (k o : ℕ) → o < k → past k o ≡ None

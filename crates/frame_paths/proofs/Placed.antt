@@ -1,5 +1,5 @@
 -- Paths and places along a program's outline.
-use Rattle.std.proofs.Common.{◌≡◌, ◌∙◌, ap, sym, refl, ℕ, zero, ◌<◌, List, [], ◌∷◌, length, drop, Option, None, arith}
+use Rattle.std.proofs.Common.{◌≡◌, ◌∙◌, ap, ℕ, ◌<◌, List, [], ◌∷◌, length, drop, Option, arith}
 use Rattle.std.specs.Prelude.{slice_index}
 use Rattle.spec_program.specs.Tree.{Program}
 use Rattle.spec_program.specs.Construct.{of_program}

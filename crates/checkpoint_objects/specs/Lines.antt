@@ -1,0 +1,44 @@
+-- The lines of parts of a world.
+use Rattle.std.specs.Prelude.{ℤ, List, [], ◌∷◌, ◌++◌, codes}
+use Rattle.std.specs.Fmt.{signed_decimal}
+use Rattle.spec_value.specs.Datum.{Text, text, fold_case}
+use Rattle.spec_value.specs.Literal.{literal}
+use Rattle.spec_value.specs.Table.{named}
+use Rattle.spec_world.specs.World.{Header, Link, Object, Slot}
+use Rattle.spec_world.specs.Checkpoint.{fields, flag, object_text, list_literal, object_list, text_list, programming_held, slot_bits, content_text, slot_line}
+
+-- the line of a link
+abbrev pub link_line : ℤ → Link → List Text
+link_line c k = fields (codes "link" ∷ signed_decimal c ∷ object_text k.person ∷ literal (programming_held k.programming) ∷ []) ∷ []
+
+-- the line of a slot
+abbrev pub line_of_slot : Slot → Text
+line_of_slot s = fields (codes "slot" ∷ object_text s.owner ∷ slot_bits s ∷ content_text s.content ∷ [])
+
+-- the lines of those properties that an object has, by their names
+abbrev pub slots_of : Object → List Text → List Text
+slots_of x [] = []
+slots_of x (t ∷ ts) = slot_line (named x.slots (fold_case t)) ++ slots_of x ts
+
+-- ---- objects
+
+abbrev pub flags_of : Header → Text
+flags_of h =
+    flag h.is_player ++ (flag h.is_programmer ++ (flag h.is_wizard ++ (flag h.readable ++ (flag h.writable ++ flag h.fertile))))
+
+abbrev pub header_lines : ℤ → Header → List Text
+header_lines o h =
+    fields (codes "object" ∷ signed_decimal o ∷ [])
+    ∷ fields (codes "name" ∷ literal (text h.name) ∷ [])
+    ∷ fields (codes "owner" ∷ object_text h.owner ∷ [])
+    ∷ fields (codes "parent" ∷ object_text h.parent ∷ [])
+    ∷ fields (codes "location" ∷ object_text h.location ∷ [])
+    ∷ []
+
+abbrev pub list_lines : Object → List Text
+list_lines x =
+    fields (codes "children" ∷ list_literal (object_list x.children) ∷ [])
+    ∷ fields (codes "contents" ∷ list_literal (object_list x.contents) ∷ [])
+    ∷ fields (codes "flags" ∷ flags_of x.header ∷ [])
+    ∷ fields (codes "defines" ∷ list_literal (text_list x.defines) ∷ [])
+    ∷ []

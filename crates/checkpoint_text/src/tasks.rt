@@ -1,0 +1,26 @@
+//! The tasks of a world.
+ghost use Rattle.std.specs.Prelude.{◌≡◌, ◌++◌, OnOk};
+ghost use Rattle.spec_world.specs.Checkpoint.{task_lines, with_line_ends};
+ghost use Rattle.checkpoint_fields.specs.Each.{of_each};
+
+use checkpoint_fields::page::Page;
+use checkpoint_tasks::task::put_task;
+use std::alloc::{AllocError, Global};
+use world::draft::Draft;
+
+/// Writes the tasks of these ids.
+pub fn put_tasks(
+    page: &mut Page,
+    alloc: Global,
+    draft: &Draft,
+    ids: &[i32],
+) -> Result<(), AllocError>
+    ensures { OnOk result (page.new ≡ page.old ++ with_line_ends (of_each task_lines draft.now.tasks ids.now)) }
+{
+    for id in ids {
+        if let Some(task) = draft.task(*id) {
+            put_task(page, alloc, *id, task)?;
+        }
+    }
+    Ok(())
+}

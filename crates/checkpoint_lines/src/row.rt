@@ -47,6 +47,11 @@ impl<'a> Row<'a> {
         }
     }
 
+    /// How many fields there are.
+    pub fn len(&self) -> usize {
+        self.fields.len()
+    }
+
     /// Whether the first field is a word, with so many fields behind it.
     pub fn has(&self, word: &[u8], count: usize) -> bool {
         self.fields.len() == count.saturating_add(1) && self.field(0) == word

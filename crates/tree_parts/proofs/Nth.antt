@@ -1,8 +1,7 @@
 -- The part that has so many before it: of parts one after another, and of those that stand for items of a list.
-use Rattle.std.proofs.Common.{◌≡◌, ℕ, zero, suc, ◌+◌, ◌*◌, ◌-◌, ◌<◌, ◌≤◌, List, [], ◌∷◌, ◌++◌, length, Option, Some, None, take, drop, refl, sym, ap, ◌∙◌, arith, rules, slice_get}
-use Rattle.spec_program.specs.Tree.{Expr}
+use Rattle.std.proofs.Common.{◌≡◌, ℕ, zero, suc, ◌+◌, ◌*◌, ◌<◌, ◌≤◌, List, [], ◌∷◌, ◌++◌, length, Some, None, take, drop, refl, ap, arith, slice_get}
 use Rattle.spec_program.specs.Construct.{of_expr, of_statement, of_program}
-use Rattle.spec_program.specs.Place.{Kind, Part, part, no_tree, nth, argument_parts, item_parts, program_parts, branch_parts, arm_parts, arm_kinds, codes_kind, code_parts}
+use Rattle.spec_program.specs.Place.{Kind, any_list, Part, part, nth, argument_parts, item_parts, program_parts, branch_parts, arm_parts, arm_kinds, codes_kind, code_parts}
 use Rattle.moo_tree.specs.ExpressionView.{arguments_of, items_of, codes_of}
 use Rattle.moo_tree.specs.StatementView.{program_of, branches_of, arms_of}
 use Rattle.moo_tree.specs.declared.expression.Argument.{Argument}
@@ -28,6 +27,9 @@ pub nth_behind : (ps qs : List Part) (n m : ℕ) → n ≡ length ps + m → nth
 nth_behind [] qs n m h = ap (nth qs) (omega arith)
 nth_behind (p ∷ ps) qs zero m h = absurd (omega arith)
 nth_behind (p ∷ ps) qs (suc n) m h = nth_behind ps qs n m (omega arith)
+
+pub nth_on : (p : Part) (ps : List Part) (n m : ℕ) → n ≡ suc m → nth (p ∷ ps) n ≡ nth ps m
+nth_on p ps n m h = rw h refl
 
 -- ---- arguments
 
@@ -86,3 +88,38 @@ branch_at (x ∷ bs) zero n (suc (suc m)) b h e l = absurd (omega arith)
 branch_at (x ∷ bs) (suc i) zero m b h e l = absurd (omega arith)
 branch_at (x ∷ bs) (suc i) (suc zero) m b h e l = absurd (omega arith)
 branch_at (x ∷ bs) (suc i) (suc (suc n)) m b h e l = branch_at bs i n m b h (omega arith) l
+
+-- ---- arms
+
+pub arms_counted : (arms : List Arm) → length (arm_kinds (arms_of arms)) ≡ length arms
+arms_counted [] = refl
+arms_counted (a ∷ arms) = ap suc (arms_counted arms)
+
+pub arms_and_list_counted : (arms : List Arm) (k : Kind) → length (arm_kinds (arms_of arms) ++ k ∷ []) ≡ length arms + 1
+arms_and_list_counted [] k = refl
+arms_and_list_counted (a ∷ arms) k = omega (arith, arms_and_list_counted arms k)
+
+-- of the codes of the first arm behind these
+pub arm_code : (before : List Kind) (a : Arm) (arms : List Arm) (n : ℕ) → n < length (code_parts (before ++ any_list ∷ []) (codes_of a.codes)) → nth (arm_parts before (arms_of (a ∷ arms))) n ≡ nth (code_parts (before ++ any_list ∷ []) (codes_of a.codes)) n
+arm_code before a arms n h =
+    nth_before (code_parts (before ++ any_list ∷ []) (codes_of a.codes)) (part (of_program (program_of a.body.items)) [] ∷ arm_parts (before ++ codes_kind (codes_of a.codes) ∷ []) (arms_of arms)) n h
+
+pub arm_body : (before : List Kind) (a : Arm) (arms : List Arm) (n : ℕ) → n ≡ length (code_parts (before ++ any_list ∷ []) (codes_of a.codes)) → nth (arm_parts before (arms_of (a ∷ arms))) n ≡ Some (part (of_program (program_of a.body.items)) [])
+arm_body before a arms n h =
+    nth_behind (code_parts (before ++ any_list ∷ []) (codes_of a.codes)) (part (of_program (program_of a.body.items)) [] ∷ arm_parts (before ++ codes_kind (codes_of a.codes) ∷ []) (arms_of arms)) n 0 (omega arith)
+
+pub arm_on : (before : List Kind) (a : Arm) (arms : List Arm) (n m : ℕ) → n ≡ length (code_parts (before ++ any_list ∷ []) (codes_of a.codes)) + suc m → nth (arm_parts before (arms_of (a ∷ arms))) n ≡ nth (arm_parts (before ++ codes_kind (codes_of a.codes) ∷ []) (arms_of arms)) m
+arm_on before a arms n m h =
+    nth_behind (code_parts (before ++ any_list ∷ []) (codes_of a.codes)) (part (of_program (program_of a.body.items)) [] ∷ arm_parts (before ++ codes_kind (codes_of a.codes) ∷ []) (arms_of arms)) n (suc m) h
+
+-- at an arm, the arms before it and it with those behind it
+pub kinds_more : (arms : List Arm) (i j : ℕ) (a : Arm) → slice_get arms i ≡ Some a → j ≡ suc i → arm_kinds (arms_of (take j arms)) ≡ arm_kinds (arms_of (take i arms)) ++ codes_kind (codes_of a.codes) ∷ []
+kinds_more [] i j a h e = absurd (cc)
+kinds_more (x ∷ arms) zero j a h e =
+    let same : x ≡ a = cc in rw (e, same) refl
+kinds_more (x ∷ arms) (suc i) j a h e = rw e (ap (λ ks. codes_kind (codes_of x.codes) ∷ ks) (kinds_more arms i (suc i) a h refl))
+
+pub arms_from : (arms : List Arm) (i j : ℕ) (a : Arm) → slice_get arms i ≡ Some a → j ≡ suc i → drop i arms ≡ a ∷ drop j arms
+arms_from [] i j a h e = absurd (cc)
+arms_from (x ∷ arms) zero j a h e = let same : x ≡ a = cc in rw (e, same) refl
+arms_from (x ∷ arms) (suc i) j a h e = rw e (arms_from arms i (suc i) a h refl)

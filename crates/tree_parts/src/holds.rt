@@ -39,7 +39,6 @@ pub enum Holds<'a> {
 }
 
 /// How many values the parts of a target are. No tree is so large that no number counts them.
-#[cycle(arity)]
 pub fn target_arity(target: &Target) -> Result<usize, AllocError>
     ensures { IfOk result (λ n. n ≡ arity target.now) }
 {

@@ -1,0 +1,4 @@
+pub mod There
+pub mod Follow
+pub mod Whole
+pub mod Linked

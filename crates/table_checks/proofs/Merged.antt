@@ -1,7 +1,7 @@
 -- Names of two lists together, by how often each stands there.
-use Rattle.std.proofs.Common.{◌≡◌, ◌⊎◌, inl, inr, ℕ, zero, suc, ◌+◌, ◌<◌, ◌≤◌, Bool, true, false, not, ◌&&◌, ◌||◌, List, [], ◌∷◌, ◌++◌, map, length, take, Option, Some, None, refl, sym, ap, ◌∙◌, subst, cond, IsTrue, Ordering, Less, Equal, Greater, get_or, arith, add-one}
+use Rattle.std.proofs.Common.{◌≡◌, ℕ, zero, suc, ◌+◌, ◌<◌, ◌≤◌, Bool, true, false, not, ◌&&◌, ◌||◌, List, [], ◌∷◌, ◌++◌, map, length, take, Some, refl, sym, ap, ◌∙◌, subst, cond, IsTrue, Ordering, Less, Equal, Greater, get_or, arith, add-one}
 use Rattle.std.specs.Prelude.{slice_get}
-use Rattle.std.specs.Ordering.{nat_cmp, is_lt, is_eq, eq_by_cmp}
+use Rattle.std.specs.Ordering.{nat_cmp, is_lt, is_eq}
 use Rattle.std.specs.Cmp.Lexicographic.{slice_cmp}
 use Rattle.std.specs.FinMap.Entries.{below_all}
 use Rattle.std.specs.List.{list_all, sum_by}
@@ -13,15 +13,12 @@ use Rattle.spec_value.specs.Table.{Named, is_named}
 use Rattle.spec_value.proofs.Entries.{first_holds, second_holds, both_hold}
 use Rattle.spec_value.proofs.Same.{same_texts, text_itself}
 use Rattle.spec_world.specs.WellFormed.{has_name, names_once}
-use Rattle.spec_world.proofs.Trees.{some_same, either, first_of, second_of}
+use Rattle.spec_world.proofs.Trees.{some_same}
 use Rattle.spec_world.proofs.Households.{all_named}
 use Rattle.spec_world.proofs.SlotTables.{sought}
 use Rattle.table_checks.specs.Merge.{how_many, IsMerge}
 
 -- ---- how often a name stands in a list
-
-one_if : Text → Text → ℕ
-one_if t s = cond (same_text t s) 1 0
 
 how_many_sum : (t : Text) (ts : List Text) → how_many t ts ≡ sum_by (λ s. cond (same_text t s) 1 0) ts
 how_many_sum t [] = refl
@@ -32,7 +29,7 @@ permuted f vs ws t p =
     how_many_sum t (map f ws) ∙ sum_by-IsPermutation (λ s. cond (same_text t s) 1 0) (map f vs) (map f ws) (IsPermutation-map f vs ws p) ∙ sym (how_many_sum t (map f vs))
 
 both_counted : (t : Text) (ts us : List Text) → how_many t (ts ++ us) ≡ how_many t ts + how_many t us
-both_counted t [] us = refl
+both_counted t [] us = omega arith
 both_counted t (s ∷ ts) us = let later = both_counted t ts us in omega (arith, later)
 
 counted : (t : Text) (ts : List Text) → IsTrue (has_name ts t) → 1 ≤ how_many t ts
@@ -57,7 +54,7 @@ none_counted t (s ∷ ts) h = go (none_counted t ts) (same_text t s) h
   where
     go : (has_name ts t ≡ false → how_many t ts ≡ 0) → (b : Bool) → (b || has_name ts t) ≡ false → cond b 1 0 + how_many t ts ≡ 0
     go later true k = cc
-    go later false k = later k
+    go later false k = let rest = later k in omega (arith, rest)
 
 not_true : (b : Bool) → IsTrue (not b) → b ≡ false
 not_true true h = cc
@@ -69,7 +66,7 @@ once_counted [] h t = omega arith
 once_counted (s ∷ ts) h t = go (once_counted ts (second_holds (not (has_name ts s)) _ h) t) (same_text t s) refl
   where
     go : how_many t ts ≤ 1 → (b : Bool) → same_text t s ≡ b → cond b 1 0 + how_many t ts ≤ 1
-    go later false e = later
+    go later false e = omega (arith, later)
     go later true e =
         let none : how_many t ts ≡ 0 = subst (λ r. how_many r ts ≡ 0) (sym (same_texts t s e)) (none_counted s ts (not_true (has_name ts s) (first_holds (not (has_name ts s)) _ h))) in
         omega (arith, none)
@@ -95,12 +92,12 @@ R = slice_cmp nat_cmp
 module _ {X : Type 0} where
   none_behind : (k : Text) (es : Named X) → IsTrue (below_all R k es) → has_name (map (λ e. e.0) es) k ≡ false
   none_behind k [] h = refl
-  none_behind k (e ∷ es) h = go (R k e.0) refl (first_holds (is_lt (R k e.0)) _ h)
+  none_behind k (e ∷ es) h = go (none_behind k es (second_holds (is_lt (R k e.0)) _ h)) (R k e.0) refl (first_holds (is_lt (R k e.0)) _ h)
     where
-      go : (r : Ordering) → R k e.0 ≡ r → IsTrue (is_lt r) → (same_text k e.0 || has_name (map (λ d. d.0) es) k) ≡ false
-      go Less t b = (λ i. sym (sought k e.0) i || has_name (map (λ d. d.0) es) k) ∙ (λ i. is_eq (t i) || has_name (map (λ d. d.0) es) k) ∙ none_behind k es (second_holds (is_lt (R k e.0)) _ h)
-      go Equal t b = cc
-      go Greater t b = cc
+      go : has_name (map (λ d. d.0) es) k ≡ false → (r : Ordering) → R k e.0 ≡ r → IsTrue (is_lt r) → (same_text k e.0 || has_name (map (λ d. d.0) es) k) ≡ false
+      go rest Less t b = (λ i. sym (sought k e.0) i || has_name (map (λ d. d.0) es) k) ∙ (λ i. is_eq (t i) || has_name (map (λ d. d.0) es) k) ∙ rest
+      go rest Equal t b = cc
+      go rest Greater t b = cc
 
   pub sorted_once : (es : Named X) → IsTrue (is_named es) → IsTrue (names_once (map (λ e. e.0) es))
   unfolding names_once
@@ -134,7 +131,7 @@ merge_follows ts us vs merge once =
 
 one_more : (t x : Text) (xs : List Text) (k : ℕ) → slice_get xs k ≡ Some x → how_many t (take (suc k) xs) ≡ how_many t (take k xs) + cond (same_text t x) 1 0
 one_more t x [] k is = cc
-one_more t x (y ∷ xs) zero is = let same : cond (same_text t y) 1 0 ≡ cond (same_text t x) 1 0 = ap (λ z. cond (same_text t z) 1 0) (some_same is) in omega (arith, same)
+one_more t x (y ∷ xs) zero is = let same : ◌≡◌ {A = ℕ} (cond (same_text t y) 1 0) (cond (same_text t x) 1 0) = ap (λ z. cond (same_text t z) 1 0) (some_same is) in omega (arith, same)
 one_more t x (y ∷ xs) (suc k) is = let later = one_more t x xs k is in omega (arith, later)
 
 pub got_one : {A B : Type 0} (f : A → B) (xs : List A) (i : ℕ) (x : A) → i < length xs → x ≡ get_or xs i x → slice_get (map f xs) i ≡ Some (f x)

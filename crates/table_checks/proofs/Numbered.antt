@@ -1,8 +1,9 @@
 -- Tables in order, by the numbers of their entries.
-use Rattle.std.proofs.Common.{◌≡◌, ℕ, zero, suc, ◌<◌, ℤ, List, [], ◌∷◌, map, length, Option, Some, None, refl, sym, ap, ◌∙◌, subst, cond, IsTrue, Ordering, Less, Equal, Greater, All, get_or, arith, rules}
+use Rattle.std.proofs.Common.{◌≡◌, ℕ, zero, suc, ◌+◌, ◌<◌, ℤ, pos, ◌<ℤ◌, List, [], ◌∷◌, map, length, Some, refl, sym, ap, ◌∙◌, subst, cond, IsTrue, Ordering, Less, Equal, Greater, All, get_or, arith}
 use Rattle.std.specs.Prelude.{slice_get}
-use Rattle.std.specs.Ordering.{int_cmp, is_lt, is_eq, ordering_reverse, eq_by_cmp}
-use Rattle.std.specs.Cmp.{int_cmp_total, tied_itself}
+use Rattle.std.specs.Ordering.{int_cmp, is_lt, is_eq, ordering_reverse}
+use Rattle.std.specs.Cmp.{int_cmp_total, tied_itself, int_cmp_is}
+use Rattle.std.proofs.lemmas.Map.Keys.{sorted_from_all_adjacent}
 use Rattle.std.specs.List.{AllByRecursion, Contains}
 use Rattle.std.specs.List.Sorted.{IsStrictlySortedBy}
 use Rattle.std.specs.FinMap.{int_cmp-IsAntisymmetric}
@@ -30,13 +31,13 @@ module _ {X : Type 0} where
   number_listed (e ∷ es) k x is = go (number_listed es k x) (int_cmp k e.0) refl is
     where
       later : Contains (map (λ e. e.0) es) k → Contains (map (λ e. e.0) (e ∷ es)) k
-      later c = (suc c.0, (omega (arith, c.1), c.2))
+      later c = let lt = c.1 in (suc c.0, omega (arith, lt), c.2)
 
       go : (at es k ≡ Some x → Contains (map (λ e. e.0) es) k) → (r : Ordering) → int_cmp k e.0 ≡ r → cond (is_eq r) (Some e.1) (at es k) ≡ Some x
           → Contains (map (λ e. e.0) (e ∷ es)) k
       go rest Less t found = later (rest found)
       go rest Greater t found = later (rest found)
-      go rest Equal t found = (0, (omega arith, sym (int_cmp-IsAntisymmetric k e.0 t)))
+      go rest Equal t found = (0, omega arith, sym (int_cmp-IsAntisymmetric k e.0 t))
 
   -- what holds of each of the numbers holds of each entry
   pub of_each : (P : ℤ → Type 0) (es : Numbered X) → All P (map (λ e. e.0) es) → (k : ℤ) (x : X) → at es k ≡ Some x → P k
@@ -60,5 +61,9 @@ module _ {X : Type 0} where
       subst (λ (d : ℤ × X). at (f ∷ es) d.0 ≡ Some d.1) (some_same is) (ap (λ r. cond (is_eq r) (Some f.1) (at es f.0)) (tied_itself int_cmp_total f.0))
   found_there (f ∷ es) (suc n) e h is =
       let before : int_cmp f.0 e.0 ≡ Less = is_below f.0 es n e (first_holds (below_all int_cmp f.0 es) _ h) is in
-      let behind : int_cmp e.0 f.0 ≡ Greater = int_cmp_total.antisymm f.0 e.0 ∙ ap ordering_reverse before in
+      let behind : int_cmp e.0 f.0 ≡ Greater = int_cmp_total.antisymm e.0 f.0 ∙ ap ordering_reverse before in
       ap (λ r. cond (is_eq r) (Some f.1) (at es e.0)) behind ∙ found_there es n e (second_holds (below_all int_cmp f.0 es) _ h) is
+
+-- numbers of which each is less than the next
+pub rising : (xs : List ℤ) → ((k : ℕ) → k + 1 < length xs → get_or xs k (pos 0) <ℤ get_or xs (k + 1) (pos 0)) → IsStrictlySortedBy int_cmp xs
+rising xs h = sorted_from_all_adjacent int_cmp_total xs (pos 0) (λ k lt. sym (int_cmp_is (get_or xs k (pos 0)) (get_or xs (k + 1) (pos 0)) Less (h k lt)))

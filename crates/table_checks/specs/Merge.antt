@@ -1,5 +1,5 @@
 -- Names of two lists together.
-use Rattle.std.specs.Prelude.{◌≡◌, ℕ, suc, ◌+◌, List, [], ◌∷◌, if◌then◌else◌}
+use Rattle.std.specs.Prelude.{◌≡◌, ℕ, ◌+◌, List, [], ◌∷◌, if◌then◌else◌}
 use Rattle.spec_value.specs.Datum.{Text, same_text}
 
 abbrev pub how_many : Text → List Text → ℕ

@@ -23,7 +23,7 @@ pub fn next_link(alloc: Global, lines: &mut Lines<'_>) -> Result<(i32, Link), De
     let number = row.integer(1, 1, LAST_CONNECTION)?;
     let person = row.object(2)?;
     let value = row.value(alloc, 3)?;
-    match held(alloc, &value)? {
+    match held_in(alloc, &value)? {
         Held::Nothing => Ok((number, Link::new(person))),
         Held::Programming(programming) => Ok((number, programmed(person, programming))),
         Held::Other => Err(row.fault(FaultKind::Value)),
@@ -41,7 +41,7 @@ fn programmed(person: i32, programming: Programming) -> Link {
 }
 
 // What the value says that a link is programming.
-fn held(alloc: Global, value: &Value) -> Result<Held, AllocError> {
+fn held_in(alloc: Global, value: &Value) -> Result<Held, AllocError> {
     match value.shown() {
         Shown::Integer(number) => Ok(nothing(number)),
         Shown::List([object, verb, lines]) => programming(alloc, object, verb, lines),

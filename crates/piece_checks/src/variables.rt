@@ -13,6 +13,7 @@ use moo_value::text::Text;
 
 /// Whether the variables of a verb have names that a program can write, those of its program that have no value with them. They are in the
 /// order of their names.
+#[tactic(auto, using(crate::proofs::Names::all_sorted, crate::proofs::Names::all_named))]
 pub fn variables_fit(frame: &Frame) -> bool
     ensures order { IsTrue (is_named (kept_of frame.now).variables) }
     ensures names { IsTrue result → IsTrue (list_all (λ e. spec.is_variable e.0) (kept_of frame.now).variables) }

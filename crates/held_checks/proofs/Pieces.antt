@@ -1,5 +1,5 @@
 -- Where the constructs down a path hold what they must, the pieces that stand there do.
-use Rattle.std.proofs.Common.{◌≡◌, ℕ, ◌+◌, Bool, false, ◌&&◌, List, [], ◌∷◌, take, drop, Option, Some, None, IsTrue, subst, sym, ap, refl}
+use Rattle.std.proofs.Common.{◌≡◌, ℕ, ◌+◌, false, ◌&&◌, List, [], ◌∷◌, take, drop, Option, Some, None, IsTrue, subst, sym, refl}
 use Rattle.spec_value.specs.Datum.{Datum}
 use Rattle.spec_value.proofs.Entries.{first_holds, second_holds, both_hold}
 use Rattle.spec_program.specs.Construct.{Construct, Piece}

@@ -1,9 +1,9 @@
 -- Values of kinds.
-use Rattle.std.proofs.Common.{◌≡◌, ℕ, zero, suc, ◌+◌, ◌<◌, ◌≤◌, Bool, true, false, ◌&&◌, List, [], ◌∷◌, ◌++◌, length, take, drop, replicate, Some, None, IsTrue, refl, arith, slice_get, get_or, ap, sym, ◌∙◌, ℤ, pos, negsuc}
+use Rattle.std.proofs.Common.{◌≡◌, ℕ, zero, suc, ◌<◌, ◌≤◌, true, List, [], ◌∷◌, ◌++◌, length, take, drop, replicate, Some, IsTrue, refl, arith, slice_get, get_or, ap, sym, ℤ, pos, negsuc}
 use Rattle.std.specs.Int.{FitsUnsignedBits}
 use Rattle.std.specs.Prelude.{unsigned_abs}
 use Rattle.std.proofs.lemmas.Bool.{le-leb}
-use Rattle.spec_value.specs.Datum.{Datum, integer, object, text, list, Data, no_data, item, of_list}
+use Rattle.spec_value.specs.Datum.{Datum, integer, list, item, of_list}
 use Rattle.spec_value.proofs.Entries.{first_holds, second_holds, both_hold}
 use Rattle.spec_program.specs.Place.{Kind, any_value, any_list, walks_list, codes_kind, arm_kinds}
 use Rattle.spec_world.specs.WellFormed.{kind_fits, kinds_fit, held_fits, count, is_traced, are_traced, nonempty, tells_leaving}

@@ -10,8 +10,10 @@ returns-in-Any c t = rw c.in-Any.is (any_fit c.in-Any.count c.args.held.now (ome
 pub returns-in-AnyAndList : goal.returns-in-AnyAndList
 returns-in-AnyAndList c t =
     let vs = c.args.held.now in
-    let total : length vs ≡ suc c.in-AnyAndList.count = omega (arith, c.ends_in_list.ensures.length t) in
-    ?
+    let n = c.in-AnyAndList.count in
+    let m = c.from-count.result in
+    let count : length (take m vs) ≡ n = length_before vs m (c.ends_in_list.ensures.length t) ∙ c.from-count.ensures in
+    rw c.in-AnyAndList.is (c.ends_in_list.ensures.kinds t (replicate n any_value) (any_fit n (take m vs) count))
 
 pub returns-in_ok-count-in-Target : goal.returns-in_ok-count-in-Target
 returns-in_ok-count-in-Target c t =

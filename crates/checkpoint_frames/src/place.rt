@@ -17,6 +17,7 @@ pub fn put_place(page: &mut Page, path: &[usize]) -> Result<(), AllocError>
     page.end_line()
 }
 
+#[tactic(auto, using(crate::proofs::Paths::path_dotted))]
 fn put_path(page: &mut Page, path: &[usize]) -> Result<(), AllocError>
     ensures { OnOk result (page.new ≡ page.old ++ path_text (map decimal path.now)) }
 {

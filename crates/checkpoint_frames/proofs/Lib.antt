@@ -1,0 +1,3 @@
+pub mod Entries
+pub mod Paths
+pub mod Spots

@@ -20,7 +20,8 @@ pub fn put_call(page: &mut Page, call: &Call, count: usize) -> Result<(), AllocE
     page.put_flag(call.debug)?;
     page.put(" ")?;
     page.put_number(count as u64)?;
-    page.end_line()
+    page.end_line()?;
+    Ok(())
 }
 
 // What comes before the name of the verb.
@@ -31,7 +32,8 @@ fn put_objects(page: &mut Page, call: &Call) -> Result<(), AllocError>
     put_object(page, call.this)?;
     put_object(page, call.caller)?;
     put_object(page, call.definer)?;
-    put_object(page, call.programmer)
+    put_object(page, call.programmer)?;
+    Ok(())
 }
 
 // An object before a space.
@@ -51,7 +53,8 @@ pub fn put_start(page: &mut Page, start: &Start) -> Result<(), AllocError>
     page.put_object(start.iobj)?;
     page.put(", ")?;
     page.put_text(&start.iobjstr)?;
-    page.put("}\n")
+    page.put("}\n")?;
+    Ok(())
 }
 
 // What comes before the preposition.

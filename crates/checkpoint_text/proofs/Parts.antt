@@ -28,6 +28,6 @@ pub part_written : {X : Type 0} (f : ℤ → X → List Text) (word : Text) (m :
     → new ≡ old ++ with_line_ends (counted word (length m) ∷ lines)
 part_written {X} f word m ks lines old counts new sorted keys all counting writing =
     let written : of_each f m ks ≡ lines = ap (of_each f m) keys ∙ each_is_all f m sorted ∙ all in
-    let count : length ks ≡ length m = ap length keys ∙ length-map (λ (e : ℤ × X). e.0) m in
+    let count : length ks ≡ length m = ap length keys ∙ length-map m (λ (e : ℤ × X). e.0) in
     lines_more old counts new (counted word (length ks) ∷ []) (of_each f m ks) counting writing
     ∙ (λ i. old ++ with_line_ends (counted word (count i) ∷ written i))

@@ -3,7 +3,7 @@ ghost use Rattle.std.specs.Prelude.{◌&&◌, pos, neg_ℤ, int_le, nat_le, IfOk
 ghost use Rattle.spec_world.specs.Agreeing.{ObjectsAgree};
 
 use crate::agree::all_agree;
-use crate::guess::guess;
+use crate::guess::guess_along;
 use crate::way::Way;
 use std::alloc::{AllocError, Global};
 use table_checks::rise::rise;
@@ -22,8 +22,8 @@ pub fn objects_are_sound(alloc: Global, draft: &Draft) -> Result<bool, AllocErro
     if !rise(numbers) || !is_greatest(draft.greatest()) {
         return Ok(false);
     }
-    let family = guess(alloc, draft, numbers, Way::Parent)?;
-    let whereabouts = guess(alloc, draft, numbers, Way::Location)?;
+    let family = guess_along(alloc, draft, numbers, Way::Parent)?;
+    let whereabouts = guess_along(alloc, draft, numbers, Way::Location)?;
     all_agree(alloc, draft, &family, &whereabouts, numbers)
 }
 

@@ -1,4 +1,3 @@
-pub mod Calls
 pub mod Entries
 pub mod Names
 pub mod Paths

@@ -48,9 +48,15 @@ fn slots_along<'a>(
             return Ok(found);
         };
         add_slots(&mut found, ancestor.defines().as_slice(), object)?;
-        above = ancestor.header().parent;
+        above = parent(ancestor);
     }
     Ok(found)
+}
+
+fn parent(object: &Object) -> i32
+    ensures { result ≡ object.now.header.parent }
+{
+    object.header().parent
 }
 
 // How many objects there are at most from one upwards.

@@ -20,6 +20,7 @@ pub fn stands_at_call(alloc: Global, frame: &Frame) -> Result<bool, AllocError>
 }
 
 // Whether it stands at the call that this path leads to.
+#[tactic(auto, using(crate::proofs::Placed::stands_there))]
 fn stands_at(frame: &Frame, path: &[usize]) -> Result<bool, AllocError>
     ensures { IfOk result (λ so. IsTrue so → StandsThere (kept_of frame.now)) }
 {

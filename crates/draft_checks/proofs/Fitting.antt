@@ -5,7 +5,7 @@ use Rattle.spec_world.specs.World.{World, Waiting, forked, timed, idle, reading_
 use Rattle.spec_world.specs.WellFormed.{waiting_fits, is_moment, TaskStands}
 use Rattle.moo_task.specs.Waits.{read_on, due_at}
 use Rattle.task_checks.specs.Tasks.{entries_fit, moment_fits, ForkStands}
-use Rattle.world_checks.specs.Tasks.{link_there, TaskFits}
+use Rattle.draft_checks.specs.Tasks.{link_there, TaskFits}
 
 waits : (w : World) (t : Task) (why : Waiting) → ForkStands why t.entries → moment_fits (due_at why) ≡ true → link_there w (read_on why) ≡ true
     → IsTrue (waiting_fits w t why)

@@ -1,7 +1,7 @@
 //! The tasks of a world.
 ghost use Rattle.std.specs.Prelude.{◌≡◌, ◌++◌, [], IfOk, OnOk, IsTrue};
 ghost use Rattle.std.specs.List.{All};
-ghost use Rattle.world_checks.specs.Tasks.{TaskFitsAt, TasksAreSound, all_read, before, read_at as read_at_of};
+ghost use Rattle.draft_checks.specs.Tasks.{TaskFitsAt, TasksAreSound, all_read, before, read_at as read_at_of};
 
 use crate::task::task_fits_at;
 use std::alloc::{AllocError, Global};
@@ -21,7 +21,8 @@ pub fn tasks_are_sound(alloc: Global, draft: &Draft) -> Result<bool, AllocError>
         return Ok(false);
     }
     let connections = connections_read(alloc, draft, ids)?;
-    is_once(alloc, &connections)
+    let once = is_once(alloc, &connections)?;
+    Ok(once)
 }
 
 fn all_fit(alloc: Global, draft: &Draft, ids: &[i32]) -> Result<bool, AllocError>

@@ -3,7 +3,7 @@ ghost use Rattle.std.specs.Prelude.{◌≡◌, ℕ, ◌*◌, ◌-◌, pos, int_l
 ghost use Rattle.spec_value.specs.Table.{at};
 ghost use Rattle.spec_world.specs.World.{Task as Meant};
 ghost use Rattle.moo_task.specs.Waits.{read_on};
-ghost use Rattle.world_checks.specs.Tasks.{TaskFits, TaskFitsAt, link_there};
+ghost use Rattle.draft_checks.specs.Tasks.{TaskFits, TaskFitsAt, link_there};
 
 use moo_task::task::Task;
 use std::alloc::{AllocError, Global};
@@ -31,7 +31,8 @@ fn task_fits(alloc: Global, draft: &Draft, id: i32, task: &Task) -> Result<bool,
     if !id_fits(id, draft.next()) || !moment_fits(task) || !is_linked(draft, task) {
         return Ok(false);
     }
-    entries_fit(alloc, task)
+    let fit = entries_fit(alloc, task)?;
+    Ok(fit)
 }
 
 // Whether a step before this one may have given the id.

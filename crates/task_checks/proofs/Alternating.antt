@@ -1,5 +1,5 @@
 -- The order of what waits, seen from the outermost to the innermost.
-use Rattle.std.proofs.Common.{◌≡◌, ◌∙◌, ap, refl, sym, ℕ, ◌+◌, ◌<◌, ◌≤◌, Bool, true, false, List, [], ◌∷◌, length, take, get_or}
+use Rattle.std.proofs.Common.{◌≡◌, ◌∙◌, ap, refl, ℕ, ◌+◌, ◌<◌, ◌≤◌, Bool, true, false, List, ◌∷◌, length, take, get_or}
 use Rattle.moo_code.specs.Machine as code
 use Rattle.moo_code.specs.Machine.{verb, native}
 use Rattle.moo_task.specs.Frames.{outer_of, outers_of}

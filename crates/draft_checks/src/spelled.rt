@@ -3,7 +3,7 @@ ghost use Rattle.std.specs.Prelude.{[], IfOk, IsTrue};
 ghost use Rattle.std.specs.List.{All, list_all};
 ghost use Rattle.spec_program.specs.Trees.{program_fits};
 ghost use Rattle.spec_holding.specs.Whole.{TextsSpell};
-ghost use Rattle.world_checks.specs.Spelled.{ObjectSpelledAt, TaskSpelledAt};
+ghost use Rattle.draft_checks.specs.Spelled.{ObjectSpelledAt, TaskSpelledAt};
 
 use std::alloc::{AllocError, Global};
 use task_checks::spelled::task_is_spelled;
@@ -21,7 +21,8 @@ pub fn is_spelled(alloc: Global, draft: &Draft) -> Result<bool, AllocError>
         return Ok(false);
     }
     let ids = draft.waiting()?;
-    tasks_are_spelled(alloc, draft, ids.as_slice())
+    let spelled = tasks_are_spelled(alloc, draft, ids.as_slice())?;
+    Ok(spelled)
 }
 
 fn objects_are_spelled(alloc: Global, draft: &Draft, numbers: &[i32]) -> Result<bool, AllocError>

@@ -4,7 +4,7 @@ use Rattle.spec_world.specs.World.{World}
 use Rattle.spec_holding.specs.Whole.{TextsSpell}
 use Rattle.spec_view.specs.Listings.{waiting_ids}
 use Rattle.table_checks.proofs.Numbered.{of_each}
-use Rattle.world_checks.specs.Spelled.{ObjectSpelledAt, TaskSpelledAt}
+use Rattle.draft_checks.specs.Spelled.{ObjectSpelledAt, TaskSpelledAt}
 
 pub texts_spell : (w : World) (numbers ids : List ℤ) → numbers ≡ map (λ e. e.0) w.objects → ids ≡ waiting_ids w
     → All (ObjectSpelledAt w) numbers → All (TaskSpelledAt w) ids → TextsSpell w

@@ -52,3 +52,10 @@ made_of player why k ks t c h st is =
 pub stand_more : (os : List Stored) (i : ℕ) (o : Stored) → i < length os → o ≡ get_or os i o → AllStand (outers_of (take i os)) → OuterStands (outer_of o)
     → AllStand (outers_of (take (i + 1) os))
 stand_more os i o small is h st = subst AllStand (one_copied os i o (outers_of (take i os)) _ small is refl refl) (st, h)
+
+-- the same of what waits as it was made
+pub made_from : (player p : ℤ) (why : Waiting) (k : Kept) (ks js : List Outer) (t : Task) → WaitsAtCalls why → StandsThere k → AllStand js → ks ≡ js → p ≡ player
+    → ((es : List Entry) → AllWait es (verb k ∷ ks) → FramesStand es → t ≡ waiting_task p why es) → t ≡ task_of player why (verb k ∷ js)
+made_from player p why k ks js t c h st same players is =
+    made_of player why k js t c h st
+    (λ es w f. is es (subst (λ z. AllWait es (verb k ∷ z)) (sym same) w) f ∙ ap (λ z. waiting_task z why es) players)

@@ -1,3 +1,4 @@
+pub mod Calls
 pub mod Entries
 pub mod Names
 pub mod Paths

@@ -18,7 +18,8 @@ pub fn put_call(page: &mut Page, call: &Call, count: usize) -> Result<(), AllocE
     page.put("frame ")?;
     put_pair(page, call.this, call.caller)?;
     put_pair(page, call.definer, call.programmer)?;
-    put_verb(page, &call.verb, call.debug, count)
+    put_verb(page, &call.verb, call.debug, count)?;
+    Ok(())
 }
 
 // Two objects, each before a space.

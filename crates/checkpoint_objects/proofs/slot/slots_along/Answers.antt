@@ -35,9 +35,9 @@ loop-step-preserved c =
     let w = c.args.draft.now in
     let n = to_z w32 (of_z w32 c.args.number) in
     let found = map (λ (s : Bor Slot). line_of_slot s.now) c.loop-step.found.items in
-    let up : to_z w32 (of_z w32 c.parent.result) ≡ c.parent.result = search rules in
+    let up : to_z w32 (of_z w32 c.parent-above.result) ≡ c.parent-above.result = search rules in
     more_found w n c.args.object.now (ap (object_at w) (to_z-of_z w32 c.args.number c.ranges.number) ∙ c.requires)
     found (map (λ (s : Bor Slot). line_of_slot s.now) c.add_slots.new.found.items)
-    (line_bound w - c.loop-step.step) (line_bound w - (c.loop-step.step + 1)) (to_z w32 c.loop-step.above-bits) (to_z w32 (of_z w32 c.parent.result)) c.in-Some.ancestor.now
-    (slots_along w n (ancestors w n)) (omega (arith, c.bound-step-end.ensures)) (sym c.in-Some.ensures) (up ∙ c.parent.ensures)
+    (line_bound w - c.loop-step.step) (line_bound w - (c.loop-step.step + 1)) (to_z w32 c.loop-step.above-bits) (to_z w32 (of_z w32 c.parent-above.result)) c.in-Some.ancestor.now
+    (slots_along w n (ancestors w n)) (omega (arith, c.bound-step-end.ensures)) (sym c.in-Some.ensures) (up ∙ c.parent-above.ensures)
     (c.in_ok-add_slots.ensures ∙ ap (λ ts. found ++ slots_of c.args.object.now ts) (c.as_slice.ensures ∙ c.defines.ensures)) c.loop-step.invariant

@@ -48,9 +48,12 @@ module _ (w : World) (family whereabouts : List ℕ × List ℕ) (each : (o : �
         definers = definers;
       }
 
-pub objects_agree : (w : World) (family whereabouts : List ℕ × List ℕ) → IsStrictlySortedBy int_cmp (map (λ e. e.0) w.objects)
-    → IsTrue (int_le (neg_ℤ (pos 1)) w.greatest && int_le w.greatest (pos 999999))
-    → All (λ o. (x : Object) → object_at w o ≡ Some x → ObjectAgrees family whereabouts w o x) (map (λ e. e.0) w.objects) → ObjectsAgree w
-objects_agree w family whereabouts rise range all =
+abbrev pub AgreesThere : List ℕ × List ℕ → List ℕ × List ℕ → World → ℤ → Type 0
+AgreesThere family whereabouts w o = (x : Object) → object_at w o ≡ Some x → ObjectAgrees family whereabouts w o x
+
+pub objects_agree : (w : World) (family whereabouts : List ℕ × List ℕ) (numbers : List ℤ) → numbers ≡ map (λ e. e.0) w.objects → IsStrictlySortedBy int_cmp numbers
+    → IsTrue (int_le (neg_ℤ (pos 1)) w.greatest && int_le w.greatest (pos 999999)) → All (AgreesThere family whereabouts w) numbers → ObjectsAgree w
+objects_agree w family whereabouts listed are rise range all =
     all_agree w family whereabouts
-    (λ o x e. of_each (λ q. (y : Object) → object_at w q ≡ Some y → ObjectAgrees family whereabouts w q y) w.objects all o x e x e) rise range
+    (λ o x e. of_each (AgreesThere family whereabouts w) w.objects (subst (λ (os : List ℤ). All (AgreesThere family whereabouts w) os) are all) o x e x e)
+    (subst (λ (os : List ℤ). IsStrictlySortedBy int_cmp os) are rise) range

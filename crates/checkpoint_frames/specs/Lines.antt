@@ -1,8 +1,8 @@
 -- The lines of parts of a verb that waits.
-use Rattle.std.specs.Prelude.{ℕ, List, [], ◌∷◌, ◌++◌, map, length, codes}
+use Rattle.std.specs.Prelude.{ℕ, List, [], ◌∷◌, ◌++◌, map, length, Option, Some, None, codes}
 use Rattle.std.specs.Fmt.{decimal}
 use Rattle.spec_value.specs.Datum.{Datum, Text}
-use Rattle.spec_value.specs.Table.{Named}
+use Rattle.spec_value.specs.Table.{Named, with_name}
 use Rattle.spec_world.specs.World.{Call, Start}
 use Rattle.spec_world.specs.Checkpoint.{fields, counted, list_literal, start_values, call_line, path, literal_lines, variable_lines}
 use Rattle.spec_program.specs.Tree.{Program}
@@ -36,3 +36,8 @@ lent_variable e = (e.name.now, e.value.now)
 
 abbrev pub lent_variables : List Lent → List (Text × Datum)
 lent_variables es = map lent_variable es
+
+-- a table with another value of a variable, if there is one
+abbrev pub with_value : Named Datum → Text → Option Datum → Named Datum
+with_value es x None = es
+with_value es x (Some v) = with_name es x v

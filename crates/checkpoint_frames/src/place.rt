@@ -23,7 +23,8 @@ fn put_path(page: &mut Page, path: &[usize]) -> Result<(), AllocError>
     match path.split_first() {
         Some((first, rest)) => {
             page.put_number(*first as u64)?;
-            put_further(page, rest)
+            put_further(page, rest)?;
+            Ok(())
         }
         None => page.put("0"),
     }

@@ -1,8 +1,8 @@
 //! The lines of links.
-ghost use Rattle.std.specs.Prelude.{◌≡◌, ◌++◌, Some, OnOk};
+ghost use Rattle.std.specs.Prelude.{◌≡◌, ◌++◌, Some, OnOk, option_map};
 ghost use Rattle.spec_value.specs.Literal.{literal};
 ghost use Rattle.spec_world.specs.Checkpoint.{lines_held, programming_held, with_line_ends};
-ghost use Rattle.checkpoint_fields.specs.Each.{of_each};
+ghost use Rattle.checkpoint_fields.specs.Each.{of_each, of_found};
 ghost use Rattle.checkpoint_objects.specs.Lines.{link_line};
 
 use checkpoint_fields::page::Page;
@@ -16,11 +16,18 @@ pub fn put_links(page: &mut Page, draft: &Draft, numbers: &[i32]) -> Result<(), 
     ensures { OnOk result (page.new ≡ page.old ++ with_line_ends (of_each link_line draft.now.links numbers.now)) }
 {
     for number in numbers {
-        if let Some(link) = draft.link(*number) {
-            put_link(page, *number, link)?;
-        }
+        put_found(page, *number, draft.link(*number))?;
     }
     Ok(())
+}
+
+fn put_found(page: &mut Page, number: i32, found: Option<&Link>) -> Result<(), AllocError>
+    ensures { OnOk result (page.new ≡ page.old ++ with_line_ends (of_found link_line number (option_map (λ k. k.now) found.entry))) }
+{
+    match found {
+        Some(link) => put_link(page, number, link),
+        None => Ok(()),
+    }
 }
 
 fn put_link(page: &mut Page, number: i32, link: &Link) -> Result<(), AllocError>
@@ -40,7 +47,7 @@ fn put_programming(page: &mut Page, programming: &Option<Programming>) -> Result
 {
     match programming {
         Some(programming) => put_program(page, programming),
-        None => page.put("0"),
+        None => page.put_signed(0),
     }
 }
 
@@ -62,6 +69,6 @@ fn put_lines(page: &mut Page, lines: &Option<Lines>) -> Result<(), AllocError>
 {
     match lines {
         Some(lines) => page.put_texts(lines.as_slice()),
-        None => page.put("0"),
+        None => page.put_signed(0),
     }
 }

@@ -2,8 +2,8 @@
 ghost use Rattle.std.specs.Prelude.{◌≡◌, ◌++◌, Some, OnOk};
 ghost use Rattle.spec_world.specs.World.{object_at};
 ghost use Rattle.spec_world.specs.Checkpoint.{object_lines, with_line_ends};
-ghost use Rattle.checkpoint_fields.specs.Each.{of_each};
-ghost use Rattle.checkpoint_objects.specs.Lines.{flags_of, header_lines, list_lines};
+ghost use Rattle.checkpoint_fields.specs.Each.{of_each, of_found};
+ghost use Rattle.checkpoint_objects.specs.Lines.{family_lines, flags_of, location_lines, name_lines, own_lines, owner_lines};
 
 use crate::slot::put_slots;
 use crate::verb::put_verbs;
@@ -23,11 +23,18 @@ pub fn put_objects(
     ensures { OnOk result (page.new ≡ page.old ++ with_line_ends (of_each (object_lines draft.now) draft.now.objects numbers.now)) }
 {
     for number in numbers {
-        if let Some(object) = draft.object(*number) {
-            put_object(page, alloc, draft, *number, object)?;
-        }
+        put_found(page, alloc, draft, *number)?;
     }
     Ok(())
+}
+
+fn put_found(page: &mut Page, alloc: Global, draft: &Draft, number: i32) -> Result<(), AllocError>
+    ensures { OnOk result (page.new ≡ page.old ++ with_line_ends (of_found (object_lines draft.now) number (object_at draft.now number))) }
+{
+    match draft.object(number) {
+        Some(object) => put_object(page, alloc, draft, number, object),
+        None => Ok(()),
+    }
 }
 
 fn put_object(
@@ -40,36 +47,58 @@ fn put_object(
     requires { object_at draft.now number ≡ Some object.now }
     ensures { OnOk result (page.new ≡ page.old ++ with_line_ends (object_lines draft.now number object.now)) }
 {
-    put_header(page, number, object.header())?;
-    put_lists(page, object)?;
+    put_name(page, number, object.header())?;
+    put_owner(page, object.header())?;
+    put_location(page, object.header())?;
+    put_family(page, object)?;
+    put_own(page, object)?;
     put_slots(page, alloc, draft, number, object)?;
-    put_verbs(page, alloc, object.verbs().as_slice())
+    put_verbs(page, alloc, object.verbs().as_slice())?;
+    Ok(())
 }
 
-fn put_header(page: &mut Page, number: i32, header: &Header) -> Result<(), AllocError>
-    ensures { OnOk result (page.new ≡ page.old ++ with_line_ends (header_lines number header.now)) }
+fn put_name(page: &mut Page, number: i32, header: &Header) -> Result<(), AllocError>
+    ensures { OnOk result (page.new ≡ page.old ++ with_line_ends (name_lines number header.now)) }
 {
     page.put("object ")?;
     page.put_signed(number)?;
     page.put("\nname ")?;
     page.put_text(&header.name)?;
-    page.put("\nowner ")?;
+    page.end_line()
+}
+
+fn put_owner(page: &mut Page, header: &Header) -> Result<(), AllocError>
+    ensures { OnOk result (page.new ≡ page.old ++ with_line_ends (owner_lines header.now)) }
+{
+    page.put("owner ")?;
     page.put_object(header.owner)?;
     page.put("\nparent ")?;
     page.put_object(header.parent)?;
-    page.put("\nlocation ")?;
+    page.end_line()
+}
+
+fn put_location(page: &mut Page, header: &Header) -> Result<(), AllocError>
+    ensures { OnOk result (page.new ≡ page.old ++ with_line_ends (location_lines header.now)) }
+{
+    page.put("location ")?;
     page.put_object(header.location)?;
     page.end_line()
 }
 
-fn put_lists(page: &mut Page, object: &Object) -> Result<(), AllocError>
-    ensures { OnOk result (page.new ≡ page.old ++ with_line_ends (list_lines object.now)) }
+fn put_family(page: &mut Page, object: &Object) -> Result<(), AllocError>
+    ensures { OnOk result (page.new ≡ page.old ++ with_line_ends (family_lines object.now)) }
 {
     page.put("children ")?;
     page.put_objects(object.children().as_slice())?;
     page.put("\ncontents ")?;
     page.put_objects(object.contents().as_slice())?;
-    page.put("\nflags ")?;
+    page.end_line()
+}
+
+fn put_own(page: &mut Page, object: &Object) -> Result<(), AllocError>
+    ensures { OnOk result (page.new ≡ page.old ++ with_line_ends (own_lines object.now)) }
+{
+    page.put("flags ")?;
     put_flags(page, object.header())?;
     page.put("\ndefines ")?;
     page.put_texts(object.defines().as_slice())?;

@@ -1,9 +1,9 @@
 //! The lines of slots.
-ghost use Rattle.std.specs.Prelude.{◌≡◌, ◌++◌, [], ◌∷◌, Some, OnOk, IfOk, map};
+ghost use Rattle.std.specs.Prelude.{◌≡◌, ◌++◌, [], ◌∷◌, Some, OnOk, IfOk, map, option_map};
 ghost use Rattle.std.specs.Borrow.{Bor};
 ghost use Rattle.spec_world.specs.World.{object_at, Slot as SlotOf};
 ghost use Rattle.spec_world.specs.Inherit.{ancestors, line_bound};
-ghost use Rattle.spec_world.specs.Checkpoint.{slot_lines, slots_along as lines_along, slot_bits, content_text, with_line_ends};
+ghost use Rattle.spec_world.specs.Checkpoint.{slot_line, slot_lines, slots_along as lines_along, slot_bits, content_text, with_line_ends};
 ghost use Rattle.checkpoint_objects.specs.Lines.{line_of_slot, slots_of};
 
 use checkpoint_fields::page::Page;
@@ -27,7 +27,8 @@ pub fn put_slots(
 {
     let found = slots_along(alloc, draft, number, object)?;
     page.put_count("slots", found.len())?;
-    put_each_slot(page, &found)
+    put_each_slot(page, &found)?;
+    Ok(())
 }
 
 // The slots of an object in the order of its ancestors.
@@ -42,14 +43,20 @@ fn slots_along<'a>(
 {
     let mut found = Vec::new(alloc);
     let mut above = number;
-    for _step in 0..bound(draft) {
+    for step in 0..bound(draft) {
         let Some(ancestor) = draft.object(above) else {
             return Ok(found);
         };
         add_slots(&mut found, ancestor.defines().as_slice(), object)?;
-        above = ancestor.header().parent;
+        above = parent(ancestor);
     }
     Ok(found)
+}
+
+fn parent(object: &Object) -> i32
+    ensures { result ≡ object.now.header.parent }
+{
+    object.header().parent
 }
 
 // How many objects there are at most from one upwards.
@@ -69,9 +76,18 @@ fn add_slots<'a>(
         ≡ map (λ (s : Bor SlotOf). line_of_slot s.now) found.old.items ++ slots_of object.now names.now) }
 {
     for name in names {
-        if let Some(slot) = object.slots().get(name) {
-            found.push(slot)?;
-        }
+        add_slot(found, object.slots().get(name))?;
+    }
+    Ok(())
+}
+
+// A slot, if there is one.
+fn add_slot<'a>(found: &mut Vec<&'a Slot>, slot: Option<&'a Slot>) -> Result<(), AllocError>
+    ensures { OnOk result (map (λ (s : Bor SlotOf). line_of_slot s.now) found.new.items
+        ≡ map (λ (s : Bor SlotOf). line_of_slot s.now) found.old.items ++ slot_line (option_map (λ s. s.now) slot.entry)) }
+{
+    if let Some(slot) = slot {
+        found.push(slot)?;
     }
     Ok(())
 }
@@ -97,6 +113,7 @@ fn put_slot(page: &mut Page, slot: &Slot) -> Result<(), AllocError>
     page.end_line()
 }
 
+#[tactic(auto, using(crate::proofs::Bits::no_slot_bits, crate::proofs::Bits::some_slot_bits))]
 fn put_bits(page: &mut Page, slot: &Slot) -> Result<(), AllocError>
     ensures { OnOk result (page.new ≡ page.old ++ slot_bits slot.now) }
 {

@@ -1,7 +1,7 @@
 //! The lines of verbs.
-ghost use Rattle.std.specs.Prelude.{◌≡◌, ◌++◌, [], ◌∷◌, OnOk, length};
-ghost use Rattle.spec_program.specs.Spelling.{canonical_lines};
+ghost use Rattle.std.specs.Prelude.{◌≡◌, ◌++◌, [], ◌∷◌, OnOk};
 ghost use Rattle.spec_world.specs.Checkpoint.{verb_lines, each_verb, verb_line, verb_bits, part_text, preposition_number, with_line_ends};
+ghost use Rattle.checkpoint_objects.specs.Lines.{program_lines, verb_arguments, verb_names};
 ghost use Rattle.world.specs.Parts.{object_part_of, preposition_part_of};
 
 use checkpoint_fields::page::Page;
@@ -27,8 +27,7 @@ fn put_each_verb(page: &mut Page, alloc: Global, verbs: &[Verb]) -> Result<(), A
 }
 
 fn put_verb(page: &mut Page, alloc: Global, verb: &Verb) -> Result<(), AllocError>
-    ensures { OnOk result (page.new ≡ page.old
-        ++ with_line_ends (verb_line verb.now (length (canonical_lines verb.now.program)) ∷ canonical_lines verb.now.program)) }
+    ensures { OnOk result (page.new ≡ page.old ++ with_line_ends (program_lines verb.now)) }
 {
     let lines = print(alloc, verb.program.tree())?;
     put_head(page, verb, lines.len())?;
@@ -39,23 +38,38 @@ fn put_verb(page: &mut Page, alloc: Global, verb: &Verb) -> Result<(), AllocErro
 fn put_head(page: &mut Page, verb: &Verb, count: usize) -> Result<(), AllocError>
     ensures { OnOk result (page.new ≡ page.old ++ with_line_ends (verb_line verb.now count ∷ [])) }
 {
+    put_names(page, verb)?;
+    put_arguments(page, verb)?;
+    page.put_number(count as u64)?;
+    page.end_line()
+}
+
+// What comes before the objects and the preposition.
+fn put_names(page: &mut Page, verb: &Verb) -> Result<(), AllocError>
+    ensures { OnOk result (page.new ≡ page.old ++ verb_names verb.now) }
+{
     page.put("verb ")?;
     page.put_text(&verb.names)?;
     page.put(" ")?;
     page.put_object(verb.owner)?;
     page.put(" ")?;
     put_bits(page, verb)?;
-    page.put(" ")?;
+    page.put(" ")
+}
+
+// Which objects and which preposition it wants.
+fn put_arguments(page: &mut Page, verb: &Verb) -> Result<(), AllocError>
+    ensures { OnOk result (page.new ≡ page.old ++ verb_arguments verb.now) }
+{
     put_part(page, verb.direct)?;
     page.put(" ")?;
     put_preposition(page, verb.preposition)?;
     page.put(" ")?;
     put_part(page, verb.indirect)?;
-    page.put(" ")?;
-    page.put_number(count as u64)?;
-    page.end_line()
+    page.put(" ")
 }
 
+#[tactic(auto, using(crate::proofs::Bits::no_verb_bits, crate::proofs::Bits::some_verb_bits))]
 fn put_bits(page: &mut Page, verb: &Verb) -> Result<(), AllocError>
     ensures { OnOk result (page.new ≡ page.old ++ verb_bits verb.now) }
 {

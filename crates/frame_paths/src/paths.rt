@@ -13,6 +13,7 @@ use std::alloc::{AllocError, Global};
 
 /// The path of what the instruction at a place belongs to: the part numbers, counted from 1, the outermost first. At the place of a
 /// call it is the path of the call. None where there is no such instruction.
+#[tactic(auto, using(crate::proofs::Placed::found_along))]
 pub fn call_path(
     alloc: Global,
     program: &Program,
@@ -25,6 +26,7 @@ pub fn call_path(
 
 /// The place of the last instruction of what stands at a path, which is that of the call at the path of a call. None where
 /// nothing stands there, or it has no code.
+#[tactic(auto, using(crate::proofs::Placed::placed_along))]
 pub fn call_place(program: &Program, path: &[usize]) -> Result<Option<usize>, AllocError>
     ensures { IfOk result (λ found. found ≡ place_at program.now path.now) }
 {

@@ -42,7 +42,7 @@ pub fn reach(steps: &[Step], path: &[usize]) -> Result<Option<usize>, AllocError
         base: 0,
     };
     for step in steps {
-        let bend = bend(step, way)?;
+        let bend = bend_at(step, way)?;
         match bend {
             Bend::Nowhere => return Ok(None),
             Bend::Arrives(base, size) => {
@@ -71,7 +71,7 @@ fn last_from(base: usize, size: usize) -> Result<Option<usize>, AllocError>
     Ok(Some(plus(base, size - 1)?))
 }
 
-fn bend(step: &Step, way: Way) -> Result<Bend, AllocError>
+fn bend_at(step: &Step, way: Way) -> Result<Bend, AllocError>
     ensures { IfOk result (λ b. (ss : List StepOf) (path : List ℕ) → reached_from (step.now ∷ ss) path way ≡ reaches ss path b) }
 {
     if way.passed > 1 {

@@ -45,7 +45,7 @@ pub fn seek(alloc: Global, steps: &[Step], offset: usize) -> Result<Option<Vec<u
         offset,
     };
     for step in steps {
-        let turn = turn(step, sought)?;
+        let turn = turn_at(step, sought)?;
         match turn {
             Turn::Nowhere => return Ok(None),
             Turn::Here => return Ok(Some(path)),
@@ -63,7 +63,7 @@ pub fn seek(alloc: Global, steps: &[Step], offset: usize) -> Result<Option<Vec<u
     Ok(None)
 }
 
-fn turn(step: &Step, sought: Sought) -> Result<Turn, AllocError>
+fn turn_at(step: &Step, sought: Sought) -> Result<Turn, AllocError>
     ensures { IfOk result (λ t. (ss : List StepOf) → sought_from (step.now ∷ ss) sought ≡ led sought.number ss t) }
 {
     if sought.passed > 1 {
@@ -176,10 +176,14 @@ fn in_part(count: usize, size: usize, number: usize, inside: usize) -> Result<Tu
 }
 
 /// An offset behind so many.
+#[tactic(auto, using(crate::proofs::Offsets::past_before, crate::proofs::Offsets::past_behind))]
 pub fn past(count: usize, offset: usize) -> Option<usize>
     ensures { result ≡ past_of count offset }
 {
-    offset.checked_sub(count)
+    if offset < count {
+        return None;
+    }
+    Some(offset - count)
 }
 
 /// 1 if so, or 0.

@@ -1,9 +1,8 @@
 -- Lines of what waits, as it is stored with the innermost last.
-use Rattle.std.proofs.Common.{◌≡◌, ◌∙◌, ap, sym, refl, subst, ℕ, ℤ, List, [], ◌∷◌, ◌++◌, length, map, reverse, append_assoc}
+use Rattle.std.proofs.Common.{◌≡◌, ◌∙◌, ap, sym, refl, subst, List, [], ◌∷◌, ◌++◌, length, map, reverse, append_assoc}
 use Rattle.std.specs.List.{flat_map}
 use Rattle.std.proofs.lemmas.List.{append-nil, reverse-append, length-map, length-reverse, map-append}
-use Rattle.spec_value.specs.Datum.{Text}
-use Rattle.spec_world.specs.World.{Entry, frame_entry, Waiting, forked, timed, idle, reading_on, Task}
+use Rattle.spec_world.specs.World.{frame_entry, Waiting, forked, timed, idle, reading_on, Task}
 use Rattle.spec_world.specs.Checkpoint.{each_entry}
 use Rattle.moo_code.specs.Machine as code
 use Rattle.moo_code.specs.Machine.{verb, native}

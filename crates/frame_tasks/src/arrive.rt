@@ -3,8 +3,10 @@ ghost use Rattle.std.specs.Prelude.{◌≡◌, option_map, IfOk};
 ghost use Rattle.spec_program.specs.Construct.{of_program};
 ghost use Rattle.spec_program.specs.Place as spec;
 ghost use Rattle.frame_laws.specs.Arriving.{arrives};
+ghost use Rattle.moo_code.specs.Paths.{past as past_of};
+ghost use Rattle.tree_parts.specs.Parts.{part_of};
 ghost use Rattle.tree_parts.specs.Nodes.{construct_of};
-ghost use Rattle.frame_tasks.specs.Arrived.{below_of, is_call_there, step_of};
+ghost use Rattle.frame_tasks.specs.Arrived.{below_of, is_call_there, step_of, with_left};
 
 use moo_tree::statement::Tree;
 use std::alloc::AllocError;
@@ -25,6 +27,7 @@ pub fn leads_to_call(tree: &Tree, path: &[usize], count: usize) -> Result<bool, 
 
 // What stands at a path, if the constructs on the way hold so many values in all. It is called once for each part number of a
 // path that is in the tree, and trees are at most a hundred constructs deep.
+#[tactic(auto, using(crate::proofs::Descent::arrives_from))]
 fn arrive<'a>(node: Node<'a>, path: &[usize], count: usize) -> Result<Option<Node<'a>>, AllocError>
     ensures { IfOk result (λ found. option_map construct_of found ≡ arrives (construct_of node.entry) path.now count) }
 {
@@ -62,7 +65,9 @@ fn step<'a>(node: Node<'a>, number: usize, left: usize) -> Result<Option<Below<'
     }
 }
 
-fn into_part<'a>(part: Part<'a>, left: usize) -> Result<Option<Below<'a>>, AllocError> {
+fn into_part<'a>(part: Part<'a>, left: usize) -> Result<Option<Below<'a>>, AllocError>
+    ensures { IfOk result (λ below. option_map below_of below ≡ step_of (Some (part_of part.entry)) left) }
+{
     match part.tree {
         Some(node) => {
             let held = part.holds.count()?;
@@ -72,9 +77,22 @@ fn into_part<'a>(part: Part<'a>, left: usize) -> Result<Option<Below<'a>>, Alloc
     }
 }
 
-fn behind<'a>(node: Node<'a>, held: usize, left: usize) -> Option<Below<'a>> {
-    match left.checked_sub(held) {
+fn behind<'a>(node: Node<'a>, held: usize, left: usize) -> Option<Below<'a>>
+    ensures { option_map below_of result ≡ with_left (construct_of node.entry) (past_of held left) }
+{
+    match past(held, left) {
         Some(left) => Some(Below { node, left }),
         None => None,
     }
+}
+
+// So many behind others.
+#[tactic(auto, using(frame_paths::proofs::Offsets::past_before, frame_paths::proofs::Offsets::past_behind))]
+fn past(count: usize, whole: usize) -> Option<usize>
+    ensures { result ≡ past_of count whole }
+{
+    if whole < count {
+        return None;
+    }
+    Some(whole - count)
 }

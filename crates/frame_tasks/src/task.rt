@@ -1,8 +1,9 @@
 //! Tasks that wait, of what is under way.
-ghost use Rattle.std.specs.Prelude.{◌≡◌, ◌∷◌, IfOk, IfSome, IsTrue, OnOk};
+ghost use Rattle.std.specs.Prelude.{◌≡◌, [], ◌∷◌, IfOk, IfSome, IsTrue, OnOk};
 ghost use Rattle.frame_laws.specs.Arriving.{StandsThere};
 ghost use Rattle.frame_laws.specs.Telling.{WaitsAtCalls};
 ghost use Rattle.moo_code.specs.Machine.{verb};
+ghost use Rattle.spec_world.specs.World.{forked as forked_until};
 ghost use Rattle.moo_task.specs.Effects.{waiting_of};
 ghost use Rattle.moo_task.specs.Frames.{kept_of, outer_of, outers_of};
 ghost use Rattle.moo_task.specs.Keeping.{task_of};
@@ -18,6 +19,7 @@ use std::alloc::{AllocError, Global};
 /// The task that waits so, of what is under way with the innermost last; if it may be: what was forked is one verb at its
 /// beginning, without operands, and otherwise the innermost is a verb, and each verb stands at a call of its program with as many
 /// operands as are held there.
+#[tactic(auto, using(moo_task::proofs::Waiting::one_more))]
 pub fn task_from(
     alloc: Global,
     player: i32,
@@ -62,7 +64,7 @@ fn forked(
     frame: Frame,
     outer: Vec<Outer>,
 ) -> Result<Option<Task>, AllocError>
-    ensures { IfOk result (λ made. IfSome made (λ t. t ≡ task_of player (forked due) (verb (kept_of frame) ∷ outers_of outer.items))) }
+    ensures { IfOk result (λ made. IfSome made (λ t. t ≡ task_of player (forked_until due) (verb (kept_of frame) ∷ outers_of outer.items))) }
 {
     if !outer.is_empty() || !is_at_beginning(&frame) {
         return Ok(None);
@@ -77,6 +79,7 @@ fn is_at_beginning(frame: &Frame) -> bool
     frame.state.place == 0 && frame.state.operands.len() == 0
 }
 
+#[tactic(auto, using(crate::proofs::Waiting::has_stopped, crate::proofs::Waiting::made_of))]
 fn stopped(
     alloc: Global,
     player: i32,
@@ -98,6 +101,7 @@ fn stopped(
 }
 
 // Whether each verb among these stands at a call.
+#[tactic(auto, using(crate::proofs::Waiting::stand_more))]
 fn all_stand(alloc: Global, outers: &[Outer]) -> Result<bool, AllocError>
     ensures { IfOk result (λ so. IsTrue so → AllStand (outers_of outers.now)) }
 {
@@ -119,6 +123,7 @@ fn stands(alloc: Global, outer: &Outer) -> Result<bool, AllocError>
     }
 }
 
+#[tactic(auto, using(moo_task::proofs::Waiting::one_more))]
 fn outers_from(alloc: Global, stack: Vec<Outer>) -> Result<Outers, AllocError>
     ensures { IfOk result (λ outers. outers ≡ outers_of stack.items) }
 {

@@ -1,11 +1,11 @@
 -- Where the constructs down a path hold what they must, the pieces that stand there do.
-use Rattle.std.proofs.Common.{◌≡◌, ℕ, ◌+◌, Bool, ◌&&◌, List, [], ◌∷◌, take, drop, Option, Some, None, IsTrue, subst, sym, ap, refl}
+use Rattle.std.proofs.Common.{◌≡◌, ℕ, ◌+◌, false, ◌&&◌, List, [], ◌∷◌, take, drop, Option, Some, None, IsTrue, subst, sym, refl}
 use Rattle.spec_value.specs.Datum.{Datum}
 use Rattle.spec_value.proofs.Entries.{first_holds, second_holds, both_hold}
 use Rattle.spec_program.specs.Construct.{Construct, Piece}
 use Rattle.spec_program.specs.Place.{Part, part_at, held_count, pieces_at, in_part, in_tree}
 use Rattle.spec_world.specs.WellFormed.{held_fits, is_loop, loops, part_fits, pieces_fit}
-use Rattle.held_checks.specs.Down.{on_part, on_tree, fits_down}
+use Rattle.held_checks.specs.Descent.{on_part, on_tree, fits_down}
 
 -- ---- a step down
 
@@ -20,6 +20,9 @@ fits_step around c n path vs x d e t h g =
 
 -- ---- the pieces
 
+nothing : {P : Type 0} → IsTrue false → P
+nothing h = absurd (cc)
+
 abbrev piece : Construct → ℕ → ℕ → List Datum → Piece
 piece c n k vs = record { construct = c; part = n; held = take k vs }
 
@@ -29,7 +32,7 @@ into : (c : Construct) (n : ℕ) (path : List ℕ) (vs : List Datum) (ps : List 
     → in_tree t (held_count x.held) (λ d k. pieces_at d path (drop k vs) (piece c n k vs ∷ ps)) ≡ Some r
     → ((d : Construct) (ws : List Datum) (qs : List Piece) → IsTrue (fits_down (loops qs) d path ws) → IsTrue (pieces_fit qs) → pieces_at d path ws qs ≡ Some r → IsTrue (pieces_fit r.1))
     → IsTrue (pieces_fit r.1)
-into c n path vs ps r x None e h f g on = absurd (second_holds (held_fits (loops ps) x.held (take (held_count x.held) vs)) _ h)
+into c n path vs ps r x None e h f g on = nothing (second_holds (held_fits (loops ps) x.held (take (held_count x.held) vs)) false h)
 into c n path vs ps r x (Some d) e h f g on =
     let held = first_holds (held_fits (loops ps) x.held (take (held_count x.held) vs)) _ h in
     let here : IsTrue (part_fits (loops ps) (take (held_count x.held) vs) (part_at c n)) = subst (λ o. IsTrue (part_fits (loops ps) (take (held_count x.held) vs) o)) (sym e) held in
@@ -42,7 +45,7 @@ through : (c : Construct) (n : ℕ) (path : List ℕ) (vs : List Datum) (ps : Li
     → in_part o (λ d k. pieces_at d path (drop k vs) (piece c n k vs ∷ ps)) ≡ Some r
     → ((d : Construct) (ws : List Datum) (qs : List Piece) → IsTrue (fits_down (loops qs) d path ws) → IsTrue (pieces_fit qs) → pieces_at d path ws qs ≡ Some r → IsTrue (pieces_fit r.1))
     → IsTrue (pieces_fit r.1)
-through c n path vs ps r None e h f g on = absurd h
+through c n path vs ps r None e h f g on = nothing h
 through c n path vs ps r (Some x) e h f g on = into c n path vs ps r x x.tree e h f g on
 
 pub pieces_down : (path : List ℕ) (c : Construct) (vs : List Datum) (ps : List Piece) (r : Construct × List Piece) → IsTrue (fits_down (loops ps) c path vs) → IsTrue (pieces_fit ps)

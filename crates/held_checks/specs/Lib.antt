@@ -1,2 +1,2 @@
-pub mod Down
+pub mod Descent
 pub mod Told

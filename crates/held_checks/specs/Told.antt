@@ -1,6 +1,6 @@
 -- What is told of how a body was left: values of one kind.
-use Rattle.std.specs.Prelude.{List, [], ◌∷◌, Bool, true, false, ◌&&◌, IsTrue}
-use Rattle.spec_value.specs.Datum.{Datum, object, text, list, Data}
+use Rattle.std.specs.Prelude.{Bool, true, false, ◌&&◌}
+use Rattle.spec_value.specs.Datum.{Datum, object, text, list}
 use Rattle.spec_world.specs.WellFormed.{nonempty, are_traced}
 
 abbrev pub is_text : Datum → Bool

@@ -2,7 +2,7 @@
 ghost use Rattle.std.specs.Prelude.{◌≡◌, ◌+◌, IfOk, IsTrue};
 ghost use Rattle.spec_world.specs.WellFormed.{is_loop};
 ghost use Rattle.tree_parts.specs.Nodes.{construct_of};
-ghost use Rattle.held_checks.specs.Down.{fits_down};
+ghost use Rattle.held_checks.specs.Descent.{fits_down};
 
 use crate::held::held_fits;
 use moo_tree::statement::StatementNode;
@@ -46,7 +46,8 @@ fn path_fits_within(
         return Ok(false);
     }
     let inside = plus(loop_count(node), around)?;
-    path_fits_within(inside, tree, deeper, &held[count..])
+    let deeper_fits = path_fits_within(inside, tree, deeper, &held[count..])?;
+    Ok(deeper_fits)
 }
 
 fn plus(a: usize, b: usize) -> Result<usize, AllocError>

@@ -1,7 +1,7 @@
 //! Held values against what is held while a part of a construct is under way.
-ghost use Rattle.std.specs.Prelude.{◌≡◌, ◌∷◌, ◌++◌, [], suc, length, pos, replicate, IfOk, IsTrue};
+ghost use Rattle.std.specs.Prelude.{◌≡◌, ◌∷◌, ◌++◌, [], List, suc, length, pos, take, IfOk, IsTrue};
 ghost use Rattle.spec_value.specs.Datum.{integer};
-ghost use Rattle.spec_program.specs.Place.{any_list, any_value, arm_kinds, codes_kind};
+ghost use Rattle.spec_program.specs.Place.{Kind, any_list, arm_kinds, codes_kind};
 ghost use Rattle.spec_world.specs.WellFormed as spec;
 ghost use Rattle.moo_tree.specs.ExpressionView.{codes_of};
 ghost use Rattle.moo_tree.specs.StatementView.{arms_of};
@@ -32,7 +32,10 @@ fn values_fit(values: Values<'_>, held: &[Value]) -> Result<bool, AllocError>
 {
     match values {
         Values::Any(count) => Ok(held.len() == usize::from(count)),
-        Values::AnyAndList(count) => Ok(ends_with_list(usize::from(count), held)),
+        Values::AnyAndList(count) => {
+            let count = usize::from(count);
+            Ok(ends_in_list(count, held))
+        }
         Values::Target(target) => {
             let count = target_arity(target)?;
             Ok(held.len() == count)
@@ -62,9 +65,10 @@ fn is_list(value: &Value) -> bool
     }
 }
 
-// So many values, and a list.
-fn ends_with_list(count: usize, held: &[Value]) -> bool
-    ensures { IsTrue result → IsTrue (spec.kinds_fit (replicate count any_value ++ any_list ∷ []) held.now) }
+// Whether a list comes behind so many values, and nothing behind it.
+fn ends_in_list(count: usize, held: &[Value]) -> bool
+    ensures length { IsTrue result → length held.now ≡ suc count }
+    ensures kinds { IsTrue result → (kinds : List Kind) → IsTrue (spec.kinds_fit kinds (take count held.now)) → IsTrue (spec.kinds_fit (kinds ++ any_list ∷ []) held.now) }
 {
     is_one_more(count, held) && is_list(&held[count])
 }
@@ -113,5 +117,5 @@ fn arms_and_list_fit(arms: &[Arm], held: &[Value]) -> bool
     ensures { IsTrue result → IsTrue (spec.kinds_fit (arm_kinds (arms_of arms.now) ++ any_list ∷ []) held.now) }
 {
     let count = arms.len();
-    is_one_more(count, held) && is_list(&held[count]) && arms_fit(arms, &held[..count])
+    ends_in_list(count, held) && arms_fit(arms, &held[..count])
 }

@@ -5,6 +5,7 @@ ghost use Rattle.spec_program.specs.Place.{why_left};
 ghost use Rattle.spec_world.specs.WellFormed as spec;
 ghost use Rattle.held_checks.specs.Told.{is_object, is_text, is_trace};
 
+use crate::count::as_count;
 use moo_value::value::{Shown, Value};
 
 /// Whether values are how a body was left, with so many loops around.
@@ -59,9 +60,9 @@ fn leaves_loops(around: usize, way: i32, count: &Value) -> bool
     let Shown::Integer(count) = count.shown() else {
         return false;
     };
-    match usize::try_from(count) {
-        Ok(count) => count < around,
-        Err(_) => false,
+    match as_count(count) {
+        Some(loops) => loops < around,
+        None => false,
     }
 }
 
@@ -89,9 +90,12 @@ fn trace_fits(value: &Value) -> bool
     let Shown::List(items) = value.shown() else {
         return false;
     };
-    if items.is_empty() {
-        return false;
-    }
+    !items.is_empty() && are_traced_items(items)
+}
+
+fn are_traced_items(items: &[Value]) -> bool
+    ensures { IsTrue result → IsTrue (spec.are_traced (of_list items.now)) }
+{
     for item in items {
         if !is_traced(item) {
             return false;

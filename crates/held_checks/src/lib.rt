@@ -2,6 +2,7 @@
 //! write (Programmer's Manual, "The MOO Programming Language").
 #![tactic(auto)]
 
+mod count;
 pub mod down;
 pub mod held;
 mod leaving;

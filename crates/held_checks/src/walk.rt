@@ -4,6 +4,7 @@ ghost use Rattle.spec_value.specs.Datum.{integer, object};
 ghost use Rattle.spec_program.specs.Place.{walks_list, walks_range};
 ghost use Rattle.spec_world.specs.WellFormed as spec;
 
+use crate::count::as_count;
 use moo_value::value::{Shown, Value};
 
 /// Whether values are a nonempty list, and how many turns of it were begun.
@@ -22,9 +23,9 @@ fn turns_fit(list: &Value, turns: &Value) -> bool
     let Shown::Integer(turns) = turns.shown() else {
         return false;
     };
-    match usize::try_from(turns) {
-        Ok(turns) => 1 <= turns && turns <= items.len(),
-        Err(_) => false,
+    match as_count(turns) {
+        Some(count) => 1 <= count && count <= items.len(),
+        None => false,
     }
 }
 

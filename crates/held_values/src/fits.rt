@@ -7,7 +7,7 @@ pub fn fits(wanted: Wanted, value: &Value, before: Option<&Value>) -> bool {
     match wanted {
         Wanted::Any => true,
         Wanted::List => is_list(value),
-        Wanted::AllCodes => integer_in(value) == Some(0),
+        Wanted::AllCodes => is_integer(value, 0),
         Wanted::WalkedList => has_items(value),
         Wanted::Turns => is_turn_of(value, before),
         Wanted::Current => is_counted(value),
@@ -20,6 +20,13 @@ fn integer_in(value: &Value) -> Option<i32> {
     match value.shown() {
         Shown::Integer(number) => Some(number),
         _ => None,
+    }
+}
+
+fn is_integer(value: &Value, number: i32) -> bool {
+    match value.shown() {
+        Shown::Integer(own) => own == number,
+        _ => false,
     }
 }
 
@@ -109,21 +116,20 @@ fn tells_leaving(value: &Value, loops: usize) -> bool {
 
 fn items_tell_leaving(items: &[Value], loops: usize) -> bool {
     match items {
-        [way] => integer_in(way) == Some(0),
+        [way] => is_integer(way, 0),
         [way, value] => tells_value_or_loops(way, value, loops),
         [way, _code, message, _value, trace] => {
-            integer_in(way) == Some(2) && is_text(message) && is_trace(trace)
+            is_integer(way, 2) && is_text(message) && is_trace(trace)
         }
         _ => false,
     }
 }
 
 fn tells_value_or_loops(way: &Value, value: &Value, loops: usize) -> bool {
-    match integer_in(way) {
-        Some(1) => true,
-        Some(3) | Some(4) => is_below(value, loops),
-        _ => false,
-    }
+    let Some(way) = integer_in(way) else {
+        return false;
+    };
+    way == 1 || ((way == 3 || way == 4) && is_below(value, loops))
 }
 
 fn is_below(value: &Value, count: usize) -> bool {

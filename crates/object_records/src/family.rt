@@ -1,5 +1,5 @@
 //! From records of objects to objects.
-use crate::names::{Upwards, names_of, upwards};
+use crate::names::{look_upwards, names_of};
 use crate::object::ObjectRecord;
 use moo_value::text::Text;
 use std::alloc::{AllocError, Global};
@@ -33,7 +33,7 @@ fn all_names(
     alloc: Global,
     records: &[ObjectRecord],
 ) -> Result<Option<Vec<Vec<Text>>>, AllocError> {
-    let Some(upwards) = upwards(alloc, records)? else {
+    let Some(upwards) = look_upwards(alloc, records)? else {
         return Ok(None);
     };
     let mut all = Vec::with_capacity(alloc, records.len())?;

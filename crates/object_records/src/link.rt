@@ -5,8 +5,6 @@ use checkpoint_lines::lines::Lines;
 use moo_value::text::Text;
 use moo_value::value::{Shown, Value};
 use std::alloc::{AllocError, Global};
-use world::change::Change;
-use world::draft::Draft;
 use world::link::{Link, Programming};
 use world::lists::{Lines as ProgramLines, Names};
 
@@ -19,27 +17,13 @@ enum Held {
     Other,
 }
 
-/// So many links, from the next lines, into a draft.
-pub fn read_links(
-    alloc: Global,
-    lines: &mut Lines<'_>,
-    count: u64,
-    draft: &mut Draft,
-) -> Result<(), DecodeError> {
-    for _link in 0..count {
-        let (number, link) = next_link(alloc, lines)?;
-        draft.put(Change::Link(number, Some(link)))?;
-    }
-    Ok(())
-}
-
-// A link with its number, from the next line.
-fn next_link(alloc: Global, lines: &mut Lines<'_>) -> Result<(i32, Link), DecodeError> {
+/// A link with its number, from the next line.
+pub fn next_link(alloc: Global, lines: &mut Lines<'_>) -> Result<(i32, Link), DecodeError> {
     let row = lines.next_with(alloc, b"link", 3)?;
     let number = row.integer(1, 1, LAST_CONNECTION)?;
     let person = row.object(2)?;
     let value = row.value(alloc, 3)?;
-    match held(alloc, &value)? {
+    match held_in(alloc, &value)? {
         Held::Nothing => Ok((number, Link::new(person))),
         Held::Programming(programming) => Ok((number, programmed(person, programming))),
         Held::Other => Err(row.fault(FaultKind::Value)),
@@ -57,11 +41,20 @@ fn programmed(person: i32, programming: Programming) -> Link {
 }
 
 // What the value says that a link is programming.
-fn held(alloc: Global, value: &Value) -> Result<Held, AllocError> {
+fn held_in(alloc: Global, value: &Value) -> Result<Held, AllocError> {
     match value.shown() {
-        Shown::Integer(0) => Ok(Held::Nothing),
+        Shown::Integer(number) => Ok(nothing(number)),
         Shown::List([object, verb, lines]) => programming(alloc, object, verb, lines),
         _ => Ok(Held::Other),
+    }
+}
+
+// 0 is nothing.
+fn nothing(number: i32) -> Held {
+    if number == 0 {
+        Held::Nothing
+    } else {
+        Held::Other
     }
 }
 
@@ -100,5 +93,8 @@ fn with_lines(alloc: Global, object: i32, verb: Text, lines: &Value) -> Result<H
 }
 
 fn is_zero(value: &Value) -> bool {
-    matches!(value.shown(), Shown::Integer(0))
+    match value.shown() {
+        Shown::Integer(number) => number == 0,
+        _ => false,
+    }
 }

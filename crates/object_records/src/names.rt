@@ -86,7 +86,10 @@ impl Upwards {
 }
 
 /// What stands above each record, or None where parents go round.
-pub fn upwards(alloc: Global, records: &[ObjectRecord]) -> Result<Option<Upwards>, AllocError> {
+pub fn look_upwards(
+    alloc: Global,
+    records: &[ObjectRecord],
+) -> Result<Option<Upwards>, AllocError> {
     let mut all = Upwards {
         parents: parents(alloc, records)?,
         nearest: definers(alloc, records)?,

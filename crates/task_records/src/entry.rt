@@ -75,7 +75,7 @@ fn next_entry(alloc: Global, lines: &mut Lines<'_>, place: Place) -> Result<Oute
 // The first line of an entry, which may stand there.
 fn next_begun(alloc: Global, lines: &mut Lines<'_>, place: Place) -> Result<Begun, DecodeError> {
     let row = lines.next_row(alloc)?;
-    let begun = begun(alloc, &row)?;
+    let begun = begun_by(alloc, &row)?;
     if may_stand(&begun, place) {
         Ok(begun)
     } else {
@@ -83,7 +83,7 @@ fn next_begun(alloc: Global, lines: &mut Lines<'_>, place: Place) -> Result<Begu
     }
 }
 
-fn begun(alloc: Global, row: &Row<'_>) -> Result<Begun, DecodeError> {
+fn begun_by(alloc: Global, row: &Row<'_>) -> Result<Begun, DecodeError> {
     if row.has(b"frame", 7) {
         return Ok(Begun::Verb(frame_head(alloc, row)?));
     }

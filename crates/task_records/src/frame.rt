@@ -98,14 +98,14 @@ fn next_stand(
     let row = lines.next_with(alloc, b"place", 1)?;
     let path = row.path(alloc, 1)?;
     let found = if is_fork {
-        beginning(alloc, &path)
+        at_beginning(alloc, &path)
     } else {
-        stand(alloc, program, &path)?
+        at_call(alloc, program, &path)?
     };
     found.ok_or(row.fault(FaultKind::Frame))
 }
 
-fn beginning(alloc: Global, path: &[usize]) -> Option<Stand> {
+fn at_beginning(alloc: Global, path: &[usize]) -> Option<Stand> {
     if !path.is_empty() {
         return None;
     }
@@ -115,7 +115,7 @@ fn beginning(alloc: Global, path: &[usize]) -> Option<Stand> {
     })
 }
 
-fn stand(alloc: Global, program: &Program, path: &[usize]) -> Result<Option<Stand>, AllocError> {
+fn at_call(alloc: Global, program: &Program, path: &[usize]) -> Result<Option<Stand>, AllocError> {
     let Some(wanted) = wanted_at(alloc, program.tree(), path)? else {
         return Ok(None);
     };

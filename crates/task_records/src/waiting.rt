@@ -24,13 +24,13 @@ enum Manner {
 /// A task's id and how it waits, from the next line.
 pub fn next_waiting(alloc: Global, lines: &mut Lines<'_>) -> Result<(i32, Waiting), DecodeError> {
     let row = lines.next_row(alloc)?;
-    let manner = manner(&row)?;
+    let manner = manner_of(&row)?;
     let id = row.integer(1, 1, LAST_TASK)?;
     let waiting = waiting(alloc, &row, manner)?;
     Ok((id, waiting))
 }
 
-fn manner(row: &Row<'_>) -> Result<Manner, DecodeError> {
+fn manner_of(row: &Row<'_>) -> Result<Manner, DecodeError> {
     let (manner, count) = match row.field(2) {
         b"fork" => (Manner::Fork, 3),
         b"wait" => (Manner::Wait, 4),

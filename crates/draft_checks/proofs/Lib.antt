@@ -1,0 +1,4 @@
+pub mod Fitting
+pub mod Listed
+pub mod Reading
+pub mod Spelling

@@ -53,7 +53,7 @@ AgreesThere family whereabouts w o = (x : Object) → object_at w o ≡ Some x �
 
 pub objects_agree : (w : World) (family whereabouts : List ℕ × List ℕ) (numbers : List ℤ) → numbers ≡ map (λ e. e.0) w.objects → IsStrictlySortedBy int_cmp numbers
     → IsTrue (int_le (neg_ℤ (pos 1)) w.greatest && int_le w.greatest (pos 999999)) → All (AgreesThere family whereabouts w) numbers → ObjectsAgree w
-objects_agree w family whereabouts numbers are rise range all =
+objects_agree w family whereabouts listed are rise range all =
     all_agree w family whereabouts
     (λ o x e. of_each (AgreesThere family whereabouts w) w.objects (subst (λ (os : List ℤ). All (AgreesThere family whereabouts w) os) are all) o x e x e)
     (subst (λ (os : List ℤ). IsStrictlySortedBy int_cmp os) are rise) range

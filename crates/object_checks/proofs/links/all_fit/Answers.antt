@@ -1,4 +1,4 @@
-use Rattle.std.proofs.Common.{◌≡◌, ℤ, pos, List, get_or, take, All, subst, refl, w32, to_z, of_z, rules}
+use Rattle.std.proofs.Common.{◌≡◌, ℤ, pos, List, get_or, All, subst, refl, w32, to_z, of_z, rules}
 use Rattle.std.proofs.lemmas.List.{take_all}
 use Rattle.std.proofs.lemmas.List.Elements.{All-more}
 use Rattle.object_checks.proofs.Linked.{FitsThere}

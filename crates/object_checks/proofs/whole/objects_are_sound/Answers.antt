@@ -1,4 +1,4 @@
-use Rattle.std.proofs.Common.{◌≡◌, map, refl, IsTrue, rules}
+use Rattle.std.proofs.Common.{◌≡◌, map, refl, rules}
 use Rattle.std.proofs.lemmas.Result.{IfOk-weaker}
 use Rattle.object_checks.proofs.Agreed.{objects_agree}
 use Rattle.object_checks.proofs.whole.objects_are_sound.Goals as goal

@@ -1,5 +1,4 @@
-use Rattle.std.proofs.Common.{◌≡◌, ◌-◌, ◌≤◌, ◌⊎◌, inl, inr, ⊎_elim, arith, length, map, option_map, Bor}
-use Rattle.std.specs.Prelude.{min}
+use Rattle.std.proofs.Common.{◌-◌, ◌≤◌, ◌⊎◌, inl, inr, ⊎_elim, arith, length, option_map, Bor}
 use Rattle.std.proofs.lemmas.Bool.{cases_lt}
 use Rattle.spec_value.specs.Datum.{Datum}
 use Rattle.moo_program.specs.Names.{known}

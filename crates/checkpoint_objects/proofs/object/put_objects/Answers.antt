@@ -1,4 +1,4 @@
-use Rattle.std.proofs.Common.{◌≡◌, ◌<◌, ℤ, pos, ◌++◌, length, get_or, rules, w32, to_z, of_z}
+use Rattle.std.proofs.Common.{◌≡◌, pos, ◌++◌, get_or, rules, w32, to_z, of_z}
 use Rattle.std.proofs.lemmas.List.{get_or_default}
 use Rattle.spec_world.specs.Checkpoint.{object_lines, with_line_ends}
 use Rattle.checkpoint_fields.specs.Each.{of_each}

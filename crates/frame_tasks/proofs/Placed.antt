@@ -1,8 +1,7 @@
 -- Verbs at the places of calls.
-use Rattle.std.proofs.Common.{◌≡◌, ◌∙◌, ap, sym, refl, subst, ℕ, zero, suc, pred, ◌+◌, Bool, true, false, List, [], ◌∷◌, length, Option, Some, None, IsTrue, arith}
+use Rattle.std.proofs.Common.{◌≡◌, ◌∙◌, ap, sym, refl, subst, ℕ, zero, suc, pred, ◌+◌, Bool, List, [], ◌∷◌, length, Option, Some, None, IsTrue}
 use Rattle.spec_program.specs.Tree.{Program}
 use Rattle.spec_program.specs.Construct.{Construct, of_program}
-use Rattle.spec_program.specs.Place.{is_call}
 use Rattle.moo_code.specs.Layout.{outermost, layout, size}
 use Rattle.moo_code.specs.Machine.{Kept}
 use Rattle.moo_code.specs.Paths.{last_at}

@@ -1,5 +1,5 @@
 -- What is under way waits, where each verb stands at a call.
-use Rattle.std.proofs.Common.{◌≡◌, ◌∙◌, ap, sym, refl, subst, ℕ, suc, ◌+◌, ◌<◌, ◌≤◌, ℤ, List, [], ◌∷◌, ◌++◌, length, take, get_or, arith}
+use Rattle.std.proofs.Common.{◌≡◌, ◌∙◌, ap, sym, refl, subst, ℕ, ◌+◌, ◌<◌, ℤ, List, [], ◌∷◌, length, take, get_or}
 use Rattle.spec_world.specs.World.{Entry, frame_entry, native_entry, Waiting, forked, timed, idle, reading_on, Task}
 use Rattle.spec_world.specs.WellFormed.{FramesStand}
 use Rattle.spec_moo.specs.Steps.Running.{waiting_task}
@@ -40,7 +40,7 @@ has_stopped (timed due v) k ks c h st = at_call k ks h st
 has_stopped idle k ks c h st = at_call k ks h st
 has_stopped (reading_on n) k ks c h st = at_call k ks h st
 
-pub made_of : (player : ℤ) (why : Waiting) (k : Kept) (ks : List Outer) (t : Task) → WaitsAtCalls why → StandsThere k → AllStand ks
+made_of : (player : ℤ) (why : Waiting) (k : Kept) (ks : List Outer) (t : Task) → WaitsAtCalls why → StandsThere k → AllStand ks
     → ((es : List Entry) → AllWait es (verb k ∷ ks) → FramesStand es → t ≡ waiting_task player why es) → t ≡ task_of player why (verb k ∷ ks)
 made_of player why k ks t c h st is =
     let more = entries_for ks st in

@@ -1,5 +1,5 @@
 -- What is seen of one task is what its world asks of it.
-use Rattle.std.proofs.Common.{◌≡◌, refl, ℕ, ◌*◌, ◌-◌, ℤ, pos, int_le, true, ◌&&◌, List, IsTrue}
+use Rattle.std.proofs.Common.{◌≡◌, refl, ◌*◌, ◌-◌, ℤ, pos, int_le, true, ◌&&◌, IsTrue}
 use Rattle.spec_value.proofs.Entries.{both_hold}
 use Rattle.spec_world.specs.World.{World, Waiting, forked, timed, idle, reading_on, Task}
 use Rattle.spec_world.specs.WellFormed.{waiting_fits, is_moment, TaskStands}

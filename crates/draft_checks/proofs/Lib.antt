@@ -1,4 +1,3 @@
 pub mod Fitting
-pub mod Listed
 pub mod Reading
 pub mod Spelling

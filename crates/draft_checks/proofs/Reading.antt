@@ -1,5 +1,5 @@
 -- The connections on which tasks read, and all that is asked of tasks.
-use Rattle.std.proofs.Common.{◌≡◌, ◌∙◌, ap, refl, sym, subst, ℕ, zero, suc, ℤ, List, [], ◌∷◌, ◌++◌, map, Option, Some, None, IsTrue, All}
+use Rattle.std.proofs.Common.{◌≡◌, ◌∙◌, ap, refl, subst, ℕ, suc, ℤ, List, [], ◌∷◌, ◌++◌, map, Option, Some, IsTrue, All}
 use Rattle.std.specs.Prelude.{slice_get}
 use Rattle.std.specs.Option.{option_and_then}
 use Rattle.std.specs.Ordering.{int_cmp}
@@ -10,7 +10,7 @@ use Rattle.spec_world.specs.WellFormed.{once, read_by, links_read}
 use Rattle.spec_view.specs.Listings.{waiting_ids}
 use Rattle.moo_task.specs.Waits.{read_on}
 use Rattle.table_checks.proofs.Numbered.{numbered_from, of_each, found_there}
-use Rattle.draft_checks.specs.Tasks.{read_at, before, all_read, TaskFits, TaskFitsAt, TasksAreSound}
+use Rattle.draft_checks.specs.Tasks.{before, all_read, TaskFits, TaskFitsAt, TasksAreSound}
 
 one_read : (why : Waiting) (cs : List ℤ) → before (read_on why) cs ≡ read_by why ++ cs
 one_read (forked m) cs = refl

@@ -17,7 +17,8 @@ pub fn is_spelled(alloc: Global, draft: &Draft) -> Result<bool, AllocError>
     ensures { IfOk result (λ spelled. IsTrue spelled → TextsSpell draft.now) }
 {
     let numbers = draft.object_numbers()?;
-    if !objects_are_spelled(alloc, draft, numbers.as_slice())? {
+    let objects = objects_are_spelled(alloc, draft, numbers.as_slice())?;
+    if !objects {
         return Ok(false);
     }
     let ids = draft.waiting()?;

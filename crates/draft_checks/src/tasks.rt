@@ -17,7 +17,11 @@ pub fn tasks_are_sound(alloc: Global, draft: &Draft) -> Result<bool, AllocError>
 {
     let waiting = draft.waiting()?;
     let ids = waiting.as_slice();
-    if !rise(ids) || !all_fit(alloc, draft, ids)? {
+    if !rise(ids) {
+        return Ok(false);
+    }
+    let fit = all_fit(alloc, draft, ids)?;
+    if !fit {
         return Ok(false);
     }
     let connections = connections_read(alloc, draft, ids)?;
@@ -29,7 +33,8 @@ fn all_fit(alloc: Global, draft: &Draft, ids: &[i32]) -> Result<bool, AllocError
     ensures { IfOk result (λ fit. IsTrue fit → All (TaskFitsAt draft.now) ids.now) }
 {
     for id in ids {
-        if !task_fits_at(alloc, draft, *id)? {
+        let fits = task_fits_at(alloc, draft, *id)?;
+        if !fits {
             return Ok(false);
         }
     }

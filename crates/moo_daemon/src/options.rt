@@ -24,6 +24,8 @@ pub struct Options<'a> {
     pub workers: &'a str,
     /// The key of every step, 64 zeros where nothing was said.
     pub key: &'a str,
+    /// The file that gets the checkpoints of the world.
+    pub out: Option<&'a str>,
 }
 
 /// Reads `moo-server WORLD --port P --workers N --key H --out FILE`. The first word is the program's own name.
@@ -53,7 +55,7 @@ pub fn read_options<'a>(alloc: Global, words: &'a [&'a str]) -> Result<Options<'
         alloc,
         "out",
         "FILE",
-        "Gets the checkpoints of the world; today the word is read and nothing is written",
+        "Gets a checkpoint of the world when a task asks for one, and at the end",
     );
     let command = Command::new(alloc, "moo-server")
         .bin_name("moo-server")?
@@ -69,6 +71,7 @@ pub fn read_options<'a>(alloc: Global, words: &'a [&'a str]) -> Result<Options<'
         port: matches.get_str("port").unwrap_or(PORT),
         workers: matches.get_str("workers").unwrap_or("1"),
         key: matches.get_str("key").unwrap_or(KEY),
+        out: matches.get_str("out"),
     })
 }
 

@@ -1,21 +1,20 @@
 //! One run of the program.
 use crate::options::{Options, read_options, read_port};
 use moo_script::number::read_key;
-use moo_server::command_line::{
-    as_texts, cannot_read, read_words, refuse, refuse_options, refuse_words,
-};
+use moo_server::command_line::{as_texts, read_words, refuse, refuse_options, refuse_words};
 use moo_server::fixture::fixture;
 use moo_server::play::{read_workers, stopped};
 use server_loop::serving::serve;
 use speculate::gate::Free;
-use std::alloc::{AllocError, Global};
+use std::alloc::AllocError;
 use std::io;
 use std::io::Write;
 use std::net::{Net, TcpListener, TcpStream};
-use std::rt::{Clock, Env};
+use std::rt::{Clock, Env, Files};
 use std::sync::Wait;
 use std::thread::Threads;
 use world::worlds::World;
+use world_files::reading::read_world_file;
 
 /// The program's name.
 const PROGRAM: &str = "moo-server";
@@ -25,6 +24,7 @@ pub fn run<
     R: Print
         + Eprint
         + AllocGlobal
+        + Files
         + Env
         + Threads
         + Wait
@@ -52,6 +52,7 @@ pub fn run<
 // Reads what the words name, and serves. Of several faults the first one is told.
 fn run_options<
     R: AllocGlobal
+        + Files
         + Threads
         + Wait
         + Clock
@@ -72,7 +73,7 @@ fn run_options<
     let Some(key) = read_key(options.key.as_bytes()) else {
         return refuse(errors, PROGRAM, "key");
     };
-    let mut world = match read_world(alloc, options.world) {
+    let mut world = match read_world(&rt, options.world) {
         Ok(Ok(world)) => world,
         Ok(Err(fault)) => return refuse(errors, PROGRAM, fault.as_str()),
         Err(_) => return stopped(errors, 0),
@@ -84,7 +85,18 @@ fn run_options<
     if say_where(errors, &listener).is_err() {
         return refuse(errors, PROGRAM, "port");
     }
-    serve(rt, alloc, &Free, world, listener, &rt, key, workers, errors)
+    serve(
+        rt,
+        alloc,
+        &Free,
+        world,
+        listener,
+        &rt,
+        key,
+        workers,
+        options.out,
+        errors,
+    )
 }
 
 fn say_where<E: Write>(errors: &mut E, listener: &TcpListener) -> io::Result<()> {
@@ -92,10 +104,13 @@ fn say_where<E: Write>(errors: &mut E, listener: &TcpListener) -> io::Result<()>
     writeln!(errors, "{PROGRAM}: listening on {address}")
 }
 
-// The fixture. No other world can be read yet.
-fn read_world(alloc: Global, name: &str) -> Result<Result<World, String>, AllocError> {
+// The fixture, or the world of a file.
+fn read_world<R: AllocGlobal + Files>(
+    rt: &R,
+    name: &str,
+) -> Result<Result<World, String>, AllocError> {
     if name == "fixture" {
-        return Ok(Ok(fixture(alloc)?));
+        return Ok(Ok(fixture(rt.alloc())?));
     }
-    Ok(Err(cannot_read(alloc, name)?))
+    read_world_file(rt, name)
 }

@@ -1,9 +1,32 @@
-//! What the words name: the bytes of files and of the standard input.
+//! What the words name: files, and the standard input.
+use checkpoint_beside::encoder::{Encoder, Plain};
 use moo_server::command_line::cannot_read;
+use moo_server::fixture::fixture;
 use std::alloc::AllocError;
 use std::io::Read;
 use std::rt::Files;
 use std::{fs, io};
+use whole_files::writing::write_file;
+use world::worlds::World;
+use world_files::reading::read_world_file;
+
+/// The fixture, or the world of a file. A file that cannot be read, and one that is no world's text, give the line of that fault.
+pub fn read_world<R: AllocGlobal + Files>(
+    rt: &R,
+    name: &str,
+) -> Result<Result<World, String>, AllocError> {
+    if name == "fixture" {
+        return Ok(Ok(fixture(rt.alloc())?));
+    }
+    read_world_file(rt, name)
+}
+
+/// Writes the text of a world into a file.
+pub fn write_world<R: AllocGlobal + Files>(rt: &R, name: &str, world: &World) -> io::Result<()> {
+    let snapshot = world.snapshot()?;
+    let text = Plain.encode(rt.alloc(), &snapshot)?;
+    write_file(rt, name, text.as_slice())
+}
 
 /// All bytes of a script, from a file or, at the word `stdin`, the standard input. A script that cannot be read gives the line of that fault.
 pub fn read_script<R: Input + AllocGlobal + Files>(

@@ -1,12 +1,10 @@
 //! One run of the program.
-use crate::files::read_script;
-use moo_server::command_line::{as_texts, cannot_read, read_words, refuse_options, refuse_words};
-use moo_server::fixture::fixture;
+use crate::files::{read_script, read_world, write_world};
+use moo_server::command_line::{as_texts, read_words, refuse_options, refuse_words};
 use moo_server::given::Options;
-use moo_server::play::{play_script, read_workers, refuse, stopped};
+use moo_server::play::{DONE, FAULT, play_script, read_workers, refuse, stopped};
 use moo_server::words::options;
 use speculate::gate::Free;
-use std::alloc::{AllocError, Global};
 use std::io;
 use std::io::{BufWriter, Write};
 use std::rt::{Env, Files};
@@ -42,8 +40,10 @@ fn run_options<R: Print + Input + AllocGlobal + Files + Threads + Wait + Sync, E
     if read_workers(options.workers).is_none() {
         return refuse(errors, "workers");
     }
-    let Ok(world) = read_world(alloc, options.world) else {
-        return stopped(errors, 0);
+    let world = match read_world(rt, options.world) {
+        Ok(Ok(world)) => world,
+        Ok(Err(fault)) => return refuse(errors, fault.as_str()),
+        Err(_) => return stopped(errors, 0),
     };
     let Ok(script) = read_script(rt, options.script) else {
         return stopped(errors, 0);
@@ -51,23 +51,27 @@ fn run_options<R: Print + Input + AllocGlobal + Files + Threads + Wait + Sync, E
     let Ok(mut out) = BufWriter::new(alloc, io::writer(rt)) else {
         return stopped(errors, 0);
     };
-    let (_, status) = play_script(
+    let (world, status) = play_script(
         rt,
         alloc,
         &Free,
         options.workers,
-        world,
+        Ok(world),
         script,
         &mut out,
         errors,
     );
-    status
+    match (world, options.out) {
+        (Some(world), Some(name)) if status == DONE => save(rt, name, &world, errors),
+        _ => status,
+    }
 }
 
-// The fixture. No other world can be read yet.
-fn read_world(alloc: Global, name: &str) -> Result<Result<World, String>, AllocError> {
-    if name == "fixture" {
-        return Ok(Ok(fixture(alloc)?));
+// Writes the world at the end.
+fn save<R: AllocGlobal + Files, E: Write>(rt: &R, name: &str, world: &World, errors: &mut E) -> u8 {
+    if write_world(rt, name, world).is_ok() {
+        return DONE;
     }
-    Ok(Err(cannot_read(alloc, name)?))
+    let _ = writeln!(errors, "moo-play: cannot write {name}");
+    FAULT
 }

@@ -20,9 +20,7 @@ pub fn options<'a>(alloc: Global, words: &'a [&'a str]) -> Result<Options<'a>, E
         .long("out")
         .value_name("FILE")
         .action(ArgAction::Set)
-        .help(
-            "Gets the checkpoint of the world at the end; today the word is read and nothing is written",
-        );
+        .help("Gets the checkpoint of the world at the end");
     let command = Command::new(alloc, "moo-play")
         .bin_name("moo-play")?
         .about("Runs a script of steps over a world")

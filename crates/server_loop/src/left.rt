@@ -1,6 +1,6 @@
 //! Links that a world has from before a server serves it.
 use crate::draft::{Draft, LONGEST_LIST};
-use crate::playing::{End, Plan, Played, moment, next_number, play, unless_ending};
+use crate::playing::{End, Plan, Played, Reached, asks_checkpoint, moment, next_number, play};
 use speculate::gate::Gate;
 use std::alloc::{AllocError, Global};
 use std::rt::Clock;
@@ -18,26 +18,31 @@ pub fn close_left<G: Gate, R: Threads + Wait + Sync, C: Clock>(
     clock: &C,
     plan: Plan,
     mut world: World,
-) -> Result<World, End> {
+) -> Reached {
+    let mut asks = false;
     let Ok(left) = left_links(alloc, &world) else {
-        return Err(End::Memory(0));
+        return Reached::end(world, asks, End::Memory(0));
     };
     'list: for part in left.chunks(LONGEST_LIST) {
-        let next = next_number(&world)?;
+        let next = match next_number(&world) {
+            Ok(next) => next,
+            Err(end) => return Reached::end(world, asks, end),
+        };
         let Ok(draft) = closing(alloc, next, moment(clock), plan.key, part) else {
-            return Err(End::Memory(0));
+            return Reached::end(world, asks, End::Memory(0));
         };
         let Played {
             world: after,
+            outcomes,
             end,
-            ..
         } = play(rt, alloc, gate, world, draft.steps.as_slice(), 1);
+        asks = asks || asks_checkpoint(outcomes.as_slice());
         match end {
             None => world = after,
-            Some(end) => return Err(end),
+            Some(end) => return Reached::end(after, asks, end),
         }
     }
-    unless_ending(world)
+    Reached::unless_ending(world, asks)
 }
 
 // The list that closes these links.

@@ -7,5 +7,6 @@ mod gather;
 mod left;
 mod pace;
 mod playing;
+mod saving;
 pub mod serving;
 mod turn;

@@ -32,6 +32,42 @@ pub enum End {
     Memory(usize),
 }
 
+/// How far a server has come.
+#[derive(Drop)]
+pub struct Reached {
+    pub world: World,
+    /// Whether a task has asked for a checkpoint of this world.
+    pub asks: bool,
+    /// Why it does not go on.
+    pub end: Option<End>,
+}
+
+impl Reached {
+    /// It does not go on.
+    pub fn end(world: World, asks: bool, end: End) -> Reached {
+        Reached {
+            world,
+            asks,
+            end: Some(end),
+        }
+    }
+
+    /// It goes on, unless a task asked for the end of the server.
+    pub fn unless_ending(world: World, asks: bool) -> Reached {
+        let end = match world.ask(&Question::Ending) {
+            Ok(Answer::Ending(true)) => Some(End::Asked),
+            Ok(_) => None,
+            Err(_) => Some(End::Memory(0)),
+        };
+        Reached { world, asks, end }
+    }
+}
+
+/// Whether one of these asked for a checkpoint.
+pub fn asks_checkpoint(outcomes: &[Outcome]) -> bool {
+    outcomes.iter().any(|outcome| outcome.checkpoint)
+}
+
 /// What a list left and gave, as far as it was run.
 #[derive(Drop)]
 pub struct Played {
@@ -99,14 +135,5 @@ pub fn moment<C: Clock>(clock: &C) -> u32 {
     match clock.since_1970() {
         Ok(since) => since.as_secs().min(u64::from(GREATEST_MOMENT)) as u32,
         Err(_) => 0,
-    }
-}
-
-/// The world, unless a task asked for the end of the server.
-pub fn unless_ending(world: World) -> Result<World, End> {
-    match world.ask(&Question::Ending) {
-        Ok(Answer::Ending(true)) => Err(End::Asked),
-        Ok(_) => Ok(world),
-        Err(_) => Err(End::Memory(0)),
     }
 }

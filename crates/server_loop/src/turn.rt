@@ -3,7 +3,8 @@ use crate::draft::Draft;
 use crate::due::add_due;
 use crate::gather::gather;
 use crate::pace::Pace;
-use crate::playing::{End, Plan, Played, moment, next_number, play, unless_ending};
+use crate::playing::{End, Plan, Played, Reached, asks_checkpoint, moment, next_number, play};
+use crate::saving::Saver;
 use connections::door::Door;
 use connections::links::Links;
 use speculate::gate::Gate;
@@ -25,6 +26,8 @@ pub struct Edge {
     pub links: Links,
     /// What wakes the loop.
     pub bell: Arc<Parker, Global>,
+    /// The checkpoints, if they have a file.
+    pub saver: Option<Saver>,
 }
 
 /// Runs what has come and what is due, and tells what that tells. Where there is nothing, waits until something comes or is due.
@@ -37,22 +40,34 @@ pub fn run_turn<G: Gate, R: Threads + Wait + Copy + Send + Sync + 'static, C: Cl
     world: World,
     pace: &mut Pace,
     edge: &mut Edge,
-) -> Result<World, End> {
-    let next = next_number(&world)?;
-    let Ok(mut draft) = Draft::new(alloc, next, moment(clock), plan.key) else {
-        return Err(End::Memory(0));
+) -> Reached {
+    let next = match next_number(&world) {
+        Ok(next) => next,
+        Err(end) => return Reached::end(world, false, end),
     };
-    let Edge { door, links, bell } = edge;
+    let Ok(mut draft) = Draft::new(alloc, next, moment(clock), plan.key) else {
+        return Reached::end(world, false, End::Memory(0));
+    };
+    let Edge {
+        door,
+        links,
+        bell,
+        ..
+    } = edge;
     let Ok(next_due) = add_due(alloc, &mut draft, &world) else {
-        return Err(End::Memory(0));
+        return Reached::end(world, false, End::Memory(0));
     };
     if gather(rt, alloc, &mut draft, door, links, bell).is_err() {
-        return Err(End::Memory(0));
+        return Reached::end(world, false, End::Memory(0));
     }
     links.sweep(&rt);
     if draft.steps.is_empty() {
         wait(&rt, bell, next_due, draft.moment());
-        return Ok(world);
+        return Reached {
+            world,
+            asks: false,
+            end: None,
+        };
     }
     let workers = if pace.is_long(draft.steps.len()) {
         plan.workers
@@ -67,17 +82,18 @@ pub fn run_turn<G: Gate, R: Threads + Wait + Copy + Send + Sync + 'static, C: Cl
     if end.is_none() {
         pace.learn(outcomes.as_slice());
     }
+    let asks = asks_checkpoint(outcomes.as_slice());
     if tell_all(&rt, links, outcomes).is_err() {
-        return Err(End::Memory(0));
+        return Reached::end(world, asks, End::Memory(0));
     }
     'closed: for number in &draft.closed {
         if links.release(&rt, *number).is_err() {
-            return Err(End::Memory(0));
+            return Reached::end(world, asks, End::Memory(0));
         }
     }
     match end {
-        None => unless_ending(world),
-        Some(end) => Err(end),
+        None => Reached::unless_ending(world, asks),
+        Some(end) => Reached::end(world, asks, end),
     }
 }
 

@@ -1,0 +1,55 @@
+//! A world from its text.
+ghost use Rattle.std.specs.Prelude.{◌≡◌, IfOk, IfSome};
+ghost use Rattle.spec_world.specs.Checkpoint.{checkpoint_text};
+
+use crate::draft::next_draft;
+use checkpoint_lines::fault::{DecodeError, FaultKind};
+use checkpoint_lines::lines::Lines;
+use checkpoint_text::encode::encode;
+use std::alloc::{AllocError, Global};
+use world::draft::Draft;
+use world::worlds::World;
+use world_checks::sound::is_sound;
+
+/// The world whose text the bytes are.
+///
+/// An `Err` tells the first faulty line with the least of its faults, or that memory ran out. A text without other faults
+/// that no well-formed world has is told at its last line.
+pub fn decode(alloc: Global, bytes: &[u8]) -> Result<World, DecodeError>
+    ensures text { IfOk result (λ w. bytes.now ≡ checkpoint_text w.plain) }
+    ensures opened { IfOk result (λ w. w.opened ≡ 0) }
+{
+    let mut lines = Lines::new(bytes);
+    let draft = next_draft(alloc, &mut lines)?;
+    let world = world_of(alloc, draft, bytes)?;
+    match world {
+        Some(world) => Ok(world),
+        None => Err(lines.fault(FaultKind::World)),
+    }
+}
+
+// The world of a draft, if there is a draft, it is sound, and the bytes are its text.
+fn world_of(alloc: Global, draft: Option<Draft>, bytes: &[u8]) -> Result<Option<World>, AllocError>
+    ensures text { IfOk result (λ o. IfSome o (λ w. bytes.now ≡ checkpoint_text w.plain)) }
+    ensures opened { IfOk result (λ o. IfSome o (λ w. w.opened ≡ 0)) }
+{
+    match draft {
+        Some(draft) => checked(alloc, draft, bytes),
+        None => Ok(None),
+    }
+}
+
+fn checked(alloc: Global, draft: Draft, bytes: &[u8]) -> Result<Option<World>, AllocError>
+    ensures text { IfOk result (λ o. IfSome o (λ w. bytes.now ≡ checkpoint_text w.plain)) }
+    ensures opened { IfOk result (λ o. IfSome o (λ w. w.opened ≡ 0)) }
+{
+    let sound = is_sound(alloc, &draft)?;
+    if !sound {
+        return Ok(None);
+    }
+    let text = encode(alloc, &draft)?;
+    if text.as_str().as_bytes() != bytes {
+        return Ok(None);
+    }
+    Ok(Some(World::of_draft(draft)))
+}

@@ -1,0 +1,6 @@
+//! The text of a world as it is being written: fields, values and lines.
+#![tactic(auto)]
+
+mod lines;
+mod list;
+pub mod page;

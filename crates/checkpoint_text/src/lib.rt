@@ -1,0 +1,5 @@
+//! The text of a world.
+#![tactic(auto)]
+
+pub mod encode;
+mod tasks;

@@ -1,0 +1,6 @@
+//! Tasks that wait, made of verbs that stand at calls of their programs.
+#![tactic(auto)]
+
+mod arrive;
+pub mod standing;
+pub mod task;

@@ -1,0 +1,5 @@
+//! Whether a verb that waits fits: its variables and what it holds (Programmer's Manual, "The MOO Programming Language").
+#![tactic(auto)]
+
+pub mod fit;
+mod variables;

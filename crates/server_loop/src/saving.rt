@@ -1,0 +1,210 @@
+//! The checkpoints of a server.
+use checkpoint_beside::beside::Beside;
+use checkpoint_beside::encoder::{Encoder, Plain};
+use std::alloc::{AllocError, Global};
+use std::io::Write;
+use std::rt::Files;
+use std::sync::Arc;
+use std::sync::atomic::{AtomicBool, Ordering};
+use std::thread::{JoinHandle, Parker, Threads};
+use std::{io, thread};
+use whole_files::writing::write_file;
+use world::worlds::{Snapshot, World};
+
+/// The file of a server's checkpoints, and the next of them on its way. It is made on one thread and written on another while the server goes on, one
+/// at a time; of the worlds that wait for it the newest alone is kept.
+#[derive(Drop)]
+pub struct Saver {
+    file: Arc<String, Global>,
+    // The world that is to be written next.
+    waiting: Option<Snapshot>,
+    // Whether the world of the next turn is to be written, as none could be kept or begun.
+    is_owed: bool,
+    encoding: Option<Beside>,
+    writing: Option<JoinHandle<bool>>,
+    signal: Signal,
+}
+
+impl Saver {
+    /// Nothing is to be written yet. The bell rings when something has been done.
+    pub fn new(alloc: Global, file: &str, bell: &Arc<Parker, Global>) -> Result<Saver, AllocError> {
+        Ok(Saver {
+            file: Arc::new(alloc, String::from_str(alloc, file)?)?,
+            waiting: None,
+            is_owed: false,
+            encoding: None,
+            writing: None,
+            signal: Signal {
+                is_done: Arc::new(alloc, AtomicBool::new(false))?,
+                bell: Arc::try_clone(bell)?,
+            },
+        })
+    }
+
+    /// Keeps the world if a task asked for that, says what has been written, and goes on with what is to be written.
+    pub fn tend<R: AllocGlobal + Files + Threads + Copy + Send + 'static, E: Write>(
+        &mut self,
+        rt: R,
+        world: &World,
+        is_asked: bool,
+        errors: &mut E,
+    ) {
+        if is_asked || self.is_owed {
+            self.keep(world);
+        }
+        if self.signal.is_given() {
+            self.go_on(rt, errors);
+        }
+        if self.encoding.is_none() && self.writing.is_none() {
+            self.begin(&rt);
+        }
+    }
+
+    // Keeps the world, in place of one that waits.
+    fn keep(&mut self, world: &World) {
+        match world.snapshot() {
+            Ok(snapshot) => {
+                self.waiting = Some(snapshot);
+                self.is_owed = false;
+            }
+            Err(_) => self.is_owed = true,
+        }
+    }
+
+    // Begins with the world that waits.
+    fn begin<R: AllocGlobal + Threads>(&mut self, rt: &R) {
+        let Some(snapshot) = self.waiting.take() else {
+            return;
+        };
+        let Ok(signal) = self.signal.share() else {
+            self.is_owed = true;
+            return;
+        };
+        match Beside::start(rt, rt.alloc(), signal, snapshot) {
+            Ok(beside) => self.encoding = Some(beside),
+            Err(_) => self.is_owed = true,
+        }
+    }
+
+    // A thread has done its work: writes what was encoded, or says how the writing went.
+    fn go_on<R: AllocGlobal + Files + Threads + Copy + Send + 'static, E: Write>(
+        &mut self,
+        rt: R,
+        errors: &mut E,
+    ) {
+        if let Some(encoding) = self.encoding.take() {
+            match encoding.join(&rt) {
+                Ok(text) => self.write(rt, text),
+                Err(_) => say(errors, self.file.as_str(), false),
+            }
+        } else if let Some(writing) = self.writing.take() {
+            say(errors, self.file.as_str(), writing.join(&rt));
+        }
+    }
+
+    // Writes a text on a thread of its own.
+    fn write<R: AllocGlobal + Files + Threads + Copy + Send + 'static>(
+        &mut self,
+        rt: R,
+        text: Vec<u8>,
+    ) {
+        let (Ok(file), Ok(signal)) = (Arc::try_clone(&self.file), self.signal.share()) else {
+            self.is_owed = true;
+            return;
+        };
+        let job = move || {
+            let is_written = write_file(&rt, file.as_str(), text.as_slice()).is_ok();
+            signal.give();
+            is_written
+        };
+        match thread::spawn(&rt, job) {
+            Ok(writing) => self.writing = Some(writing),
+            Err(_) => self.is_owed = true,
+        }
+    }
+
+    /// Waits for what is on its way, and writes the last world. Gives whether that went well.
+    pub fn end<R: AllocGlobal + Files + Threads, E: Write>(
+        self,
+        rt: &R,
+        world: &World,
+        errors: &mut E,
+    ) -> bool {
+        let Saver {
+            file,
+            encoding,
+            writing,
+            ..
+        } = self;
+        if let Some(encoding) = encoding {
+            if let Ok(text) = encoding.join(rt) {
+                say(
+                    errors,
+                    file.as_str(),
+                    write_file(rt, file.as_str(), text.as_slice()).is_ok(),
+                );
+            }
+        }
+        if let Some(writing) = writing {
+            say(errors, file.as_str(), writing.join(rt));
+        }
+        let is_written = write_world(rt, file.as_str(), world).is_ok();
+        say(errors, file.as_str(), is_written);
+        is_written
+    }
+}
+
+fn write_world<R: AllocGlobal + Files>(rt: &R, file: &str, world: &World) -> io::Result<()> {
+    let snapshot = world.snapshot()?;
+    let text = Plain.encode(rt.alloc(), &snapshot)?;
+    write_file(rt, file, text.as_slice())
+}
+
+// Says how the writing of a file went.
+fn say<E: Write>(errors: &mut E, file: &str, is_written: bool) {
+    let _ = if is_written {
+        writeln!(errors, "moo-server: wrote {file}")
+    } else {
+        writeln!(errors, "moo-server: cannot write {file}")
+    };
+}
+
+// What a thread gives when it has done its work.
+#[derive(Drop)]
+struct Signal {
+    is_done: Arc<AtomicBool, Global>,
+    bell: Arc<Parker, Global>,
+}
+
+impl Signal {
+    // The same one, for a thread.
+    fn share(&self) -> Result<Signal, AllocError> {
+        Ok(Signal {
+            is_done: Arc::try_clone(&self.is_done)?,
+            bell: Arc::try_clone(&self.bell)?,
+        })
+    }
+
+    // Gives it, and rings the bell.
+    fn give(&self) {
+        self.is_done.store(true, Ordering::SeqCst);
+        self.bell.unpark();
+    }
+
+    // Whether it was given, each time once.
+    fn is_given(&self) -> bool {
+        let is_given = self.is_done.load(Ordering::SeqCst);
+        if is_given {
+            self.is_done.store(false, Ordering::SeqCst);
+        }
+        is_given
+    }
+}
+
+impl Encoder for Signal {
+    fn encode(&self, alloc: Global, snapshot: &Snapshot) -> Result<Vec<u8>, AllocError> {
+        let text = Plain.encode(alloc, snapshot);
+        self.give();
+        text
+    }
+}

@@ -1,0 +1,4 @@
+//! Whether texts spell a program: its tree is spelled, and the text is read again.
+#![tactic(auto)]
+
+pub mod tree;

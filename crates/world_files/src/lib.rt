@@ -1,0 +1,4 @@
+//! Worlds in files, each as its text.
+#![tactic(auto)]
+
+pub mod reading;

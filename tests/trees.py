@@ -40,36 +40,51 @@ def variable(name):
 A, B, C, P = variable("a"), variable("b"), variable("c"), ("Text", "p")
 
 SAMPLES = [
-    ("Integer", 1), ("Integer", -2147483648), ("Object", 0), ("Object", -1), ("Text", "p"), ("Text", "if"), ("Text", "a b"), ("Error", "E_PERM"), A, ("Length",),
-    ("Unary", "-", A), ("Unary", "!", A), *(("Binary", sign, A, B) for sign in SIGNS), ("Choice", A, B, C), ("List", []), ("List", [("", A), ("@", B)]),
-    ("Call", "foo", [("@", A), ("", B)]), ("Property", A, P), ("Property", A, B), ("Property", ("Object", 0), P), ("Property", ("Object", 0), ("Text", "if")),
-    ("Verb", A, P, []), ("Verb", A, B, [("", C)]), ("Verb", ("Object", 0), P, [("@", C)]), ("Index", A, B), ("Range", A, B, C), ("Catch", A, None, None),
-    ("Catch", A, [("", B), ("@", C)], A), ("Set", A, B), ("Set", ("Property", A, P), B), ("Set", ("Property", ("Object", 0), P), B),
-    ("Set", ("Index", A, B), C), ("Set", ("Range", ("Index", A, B), B, C), C), ("Scatter", [("", "a", None), ("?", "b", None), ("?", "c", A), ("@", "x", None)], B),
+    ("Integer", 1), ("Integer", -2147483648), ("Object", 0), ("Object", -1), ("Text", "p"), ("Text", "if"), ("Text", "a b"), ("Error", "E_PERM"), A,
+    ("Length",), ("Unary", "-", A), ("Unary", "!", A), *(("Binary", sign, A, B) for sign in SIGNS), ("Choice", A, B, C), ("List", []),
+    ("List", [("", A), ("@", B)]), ("Call", "foo", [("@", A), ("", B)]), ("Property", A, P), ("Property", A, B), ("Property", ("Object", 0), P),
+    ("Property", ("Object", 0), ("Text", "if")), ("Verb", A, P, []), ("Verb", A, B, [("", C)]), ("Verb", ("Object", 0), P, [("@", C)]), ("Index", A, B),
+    ("Range", A, B, C), ("Catch", A, None, None), ("Catch", A, [("", B), ("@", C)], A), ("Set", A, B), ("Set", ("Property", A, P), B),
+    ("Set", ("Property", ("Object", 0), P), B), ("Set", ("Index", A, B), C), ("Set", ("Range", ("Index", A, B), B, C), C),
+    ("Scatter", [("", "a", None), ("?", "b", None), ("?", "c", A), ("@", "x", None)], B),
 ]
 
 PLACES = [
     *(lambda it, sign=sign: ("Unary", sign, it) for sign in "-!"), *(lambda it, sign=sign: ("Binary", sign, it, B) for sign in SIGNS),
-    *(lambda it, sign=sign: ("Binary", sign, A, it) for sign in SIGNS), lambda it: ("Choice", it, B, C), lambda it: ("Choice", A, it, C), lambda it: ("Choice", A, B, it),
-    lambda it: ("List", [("", it)]), lambda it: ("List", [("", A), ("@", it), ("", B)]), lambda it: ("Call", "foo", [("@", it), ("", A)]), lambda it: ("Call", "foo", [("", A), ("", it)]),
-    lambda it: ("Property", it, P), lambda it: ("Property", it, A), lambda it: ("Property", A, it), lambda it: ("Property", ("Object", 0), it), lambda it: ("Verb", it, P, []),
-    lambda it: ("Verb", A, it, []), lambda it: ("Verb", ("Object", 0), it, []), lambda it: ("Verb", A, P, [("", it)]), lambda it: ("Index", it, A), lambda it: ("Index", A, it),
-    lambda it: ("Range", it, A, B), lambda it: ("Range", A, it, B), lambda it: ("Range", A, B, it), lambda it: ("Catch", it, None, None), lambda it: ("Catch", A, [("", it)], None),
-    lambda it: ("Catch", A, [("@", it), ("", B)], None), lambda it: ("Catch", A, None, it), lambda it: ("Set", A, it), lambda it: ("Set", ("Property", it, P), A),
-    lambda it: ("Set", ("Property", A, it), B), lambda it: ("Set", ("Property", ("Object", 0), it), B), lambda it: ("Set", ("Index", A, it), B),
-    lambda it: ("Set", ("Index", ("Property", it, P), B), C), lambda it: ("Set", ("Range", A, it, B), C), lambda it: ("Set", ("Range", A, B, it), C),
-    lambda it: ("Scatter", [("?", "a", it), ("", "b", None)], B), lambda it: ("Scatter", [("@", "a", None)], it),
+    *(lambda it, sign=sign: ("Binary", sign, A, it) for sign in SIGNS), lambda it: ("Choice", it, B, C), lambda it: ("Choice", A, it, C),
+    lambda it: ("Choice", A, B, it), lambda it: ("List", [("", it)]), lambda it: ("List", [("", A), ("@", it), ("", B)]),
+    lambda it: ("Call", "foo", [("@", it), ("", A)]), lambda it: ("Call", "foo", [("", A), ("", it)]), lambda it: ("Property", it, P),
+    lambda it: ("Property", it, A), lambda it: ("Property", A, it), lambda it: ("Property", ("Object", 0), it), lambda it: ("Verb", it, P, []),
+    lambda it: ("Verb", A, it, []), lambda it: ("Verb", ("Object", 0), it, []), lambda it: ("Verb", A, P, [("", it)]), lambda it: ("Index", it, A),
+    lambda it: ("Index", A, it), lambda it: ("Range", it, A, B), lambda it: ("Range", A, it, B), lambda it: ("Range", A, B, it),
+    lambda it: ("Catch", it, None, None), lambda it: ("Catch", A, [("", it)], None), lambda it: ("Catch", A, [("@", it), ("", B)], None),
+    lambda it: ("Catch", A, None, it), lambda it: ("Set", A, it), lambda it: ("Set", ("Property", it, P), A), lambda it: ("Set", ("Property", A, it), B),
+    lambda it: ("Set", ("Property", ("Object", 0), it), B), lambda it: ("Set", ("Index", A, it), B), lambda it: ("Set", ("Index", ("Property", it, P), B), C),
+    lambda it: ("Set", ("Range", A, it, B), C), lambda it: ("Set", ("Range", A, B, it), C), lambda it: ("Scatter", [("?", "a", it), ("", "b", None)], B),
+    lambda it: ("Scatter", [("@", "a", None)], it),
 ]
 
 STATEMENTS = [
-    lambda it: ("Do", it), lambda it: ("Return", it), lambda it: ("If", [(it, [])], None), lambda it: ("If", [(A, []), (it, [("Do", A)])], []), lambda it: ("For", "a", [it], []),
-    lambda it: ("For", "a", [it, B], []), lambda it: ("For", "a", [B, it], []), lambda it: ("While", None, it, []), lambda it: ("While", "a", it, []), lambda it: ("Fork", None, it, []),
-    lambda it: ("Fork", "a", it, []), lambda it: ("Try", [], [(None, [("", it)], [])]), lambda it: ("Try", [], [("a", [("@", it), ("", A)], [])]),
+    lambda it: ("Do", it), lambda it: ("Return", it), lambda it: ("If", [(it, [])], None), lambda it: ("If", [(A, []), (it, [("Do", A)])], []),
+    lambda it: ("For", "a", [it], []), lambda it: ("For", "a", [it, B], []), lambda it: ("For", "a", [B, it], []), lambda it: ("While", None, it, []),
+    lambda it: ("While", "a", it, []), lambda it: ("Fork", None, it, []), lambda it: ("Fork", "a", it, []), lambda it: ("Try", [], [(None, [("", it)], [])]),
+    lambda it: ("Try", [], [("a", [("@", it), ("", A)], [])]),
+]
+
+HIGHER = [
+    lambda body: ("While", None, A, body), lambda body: ("For", "a", [B], body), lambda body: ("If", [(A, [])], body), lambda body: ("If", [(A, body)], None),
+    lambda body: ("Fork", "a", B, body), lambda body: ("Try", body, [(None, None, [])]), lambda body: ("Try", [], [("a", [("", B)], body)]),
+    lambda body: ("Finally", [], body), lambda body: ("Finally", body, []),
 ]
 
 # `$` stands in brackets alone.
 PAIRS = [[]] + [[("Do", ("Index", A, place(it)) if it == ("Length",) else place(it))] for place in PLACES for it in SAMPLES]
 PAIRS += [[place(it)] for place in STATEMENTS for it in SAMPLES if it != ("Length",)]
+
+
+# The kinds of random trees, as often as each comes.
+EXPRESSION_KINDS = "leaf leaf Unary Unary Binary Binary Binary Binary Choice List Call Property Verb Index Range Catch Set Set Scatter".split()
+STATEMENT_KINDS = "Do Do Do Return If If For For While Fork Try Finally Leave Leave".split()
 
 
 def height(it):
@@ -154,7 +169,7 @@ class Maker:
     def expression(self, inside=False):
         """An expression, in brackets or not."""
         self.left -= 1
-        kind = self.chance.choice(["leaf", "leaf", "Unary", "Unary", *4 * ["Binary"], "Choice", "List", "Call", "Property", "Verb", "Index", "Range", "Catch", "Set", "Set", "Scatter"])
+        kind = self.chance.choice(EXPRESSION_KINDS)
         if self.left < 0 or kind == "leaf":
             return self.leaf(inside)
         if kind == "Unary":
@@ -192,7 +207,7 @@ class Maker:
     def statement(self, loops):
         """A statement in loops of these names."""
         self.left -= 1
-        kind = self.chance.choice(["Do", "Do", "Do", "Return", "If", "If", "For", "For", "While", "Fork", "Try", "Finally", "Leave", "Leave"])
+        kind = self.chance.choice(STATEMENT_KINDS)
         if kind == "Leave" and loops:
             return (self.chance.choice(["Break", "Continue"]), self.chance.choice(loops) if self.is_now(0.5) else None)
         if self.left < 0 or kind in ("Do", "Leave"):
@@ -233,8 +248,7 @@ class Maker:
             tree = self.chance.choice(PLACES)(tree)
         body = [("Return", tree)]
         while height(body) < highest:
-            body = [self.chance.choice([("While", None, A, body), ("For", "a", [B], body), ("If", [(A, [])], body), ("If", [(A, body)], None), ("Fork", "a", B, body),
-                                        ("Try", body, [(None, None, [])]), ("Try", [], [("a", [("", B)], body)]), ("Finally", [], body), ("Finally", body, [])])]
+            body = [self.chance.choice(HIGHER)(body)]
         return body
 
 

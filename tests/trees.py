@@ -553,7 +553,7 @@ class Run:
         call = f';{{set_verb_code(#7, "{verb}", {texts(lines)}), verb_code(#7, "{verb}")}}'
         if not as_command and len(call) <= LONGEST_LINE:
             self.add(number, call, f"value {{{answer}, {texts(code)}}}")
-        elif max(map(len, lines), default=0) <= LONGEST_LINE:
+        else:
             self.add(number, f".program #7:{verb}", "none", f"> 1 Now programming #7:{verb}.")
             for line in lines:
                 self.add(number, line, "none")
@@ -575,7 +575,7 @@ def run(play, numbers):
         loose.body(tree, 0)
         lines, as_command = spelled.canonical(), chance.random() < 0.1
         if height(tree) > GREATEST_HEIGHT:
-            script.program(number, "t", [" ".join(lines)], '{"Line 1: Nesting"}', last, as_command)
+            script.program(number, "t", [" ".join(line.strip() for line in lines)], '{"Line 1: Nesting"}', last, as_command)
             continue
         script.program(number, "t", lines, "{}", lines, as_command)
         script.program(number, "u", loose.loose(), "{}", lines, as_command)

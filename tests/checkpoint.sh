@@ -170,7 +170,7 @@ cmp -s "$work/fixture" "$work/old" && [ "$(cat "$work/old.new0")" = mine ] || fa
 
 # A stop in the middle of writing leaves the old file: the file system takes 8 blocks and no more.
 printf 'old\n' >"$work/old"
-{ printf 'key %064d\nopen 9\nline 9 connect #2\n' 0; printf 'line 9 ;s = "0123456789"; while (length(s) < 40000) s = s + s; endwhile return add_property(#3, "wide", s, {#2, "r"});\n'; } >"$work/large"
+{ printf 'key %064d\n' 0; printf 'line 1 ;add_property(#3, "wide", "%03900d", {#2, "r"})\n' 0; } >"$work/large"
 (ulimit -f 8; trap '' XFSZ; exec "$play" fixture "$work/large" --out "$work/old") >"$work/out" 2>"$work/errors" </dev/null
 status=$?
 [ "$(cat "$work/old")" = old ] || fail "a stop in the middle changed the file"
@@ -191,7 +191,7 @@ if command -v python3 >/dev/null 2>&1; then
 import os, socket, sys, time
 port, served = int(sys.argv[1]), sys.argv[2]
 link = socket.create_connection(("127.0.0.1", port), timeout=10)
-link.sendall(b"connect #2\r\n")
+link.sendall(b"connect #4\r\n")
 time.sleep(0.5)
 link.sendall(b";dump_database()\r\n")
 for _ in range(100):

@@ -1,3 +1,4 @@
 pub mod Each
 pub mod Joined
 pub mod Plain
+pub mod Turns

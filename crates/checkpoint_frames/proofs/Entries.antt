@@ -1,5 +1,5 @@
 -- Variables that are lent, as a table.
-use Rattle.std.proofs.Common.{◌≡◌, ℕ, suc, ◌+◌, ◌<◌, ◌≤◌, List, [], ◌∷◌, ◌++◌, length, map, Option, Some, None, Bool, true, false, refl, sym, ap, ◌∙◌, cond, get_or, take, drop, ◌⊎◌, inl, inr, arith, nat_cmp, Less, Equal, Greater}
+use Rattle.std.proofs.Common.{◌≡◌, ℕ, suc, ◌+◌, ◌<◌, ◌≤◌, List, [], ◌∷◌, ◌++◌, length, Option, Some, None, refl, sym, ap, ◌∙◌, cond, get_or, take, drop, ◌⊎◌, inl, inr, arith, nat_cmp, Less, Equal, Greater}
 use Rattle.std.specs.Prelude.{slice_get}
 use Rattle.std.proofs.Math.Seq.{drop-cons}
 use Rattle.std.proofs.lemmas.Option.{slice_get-get_or}
@@ -17,14 +17,14 @@ use Rattle.checkpoint_frames.proofs.Spots.{Behind, comes_behind, comes_before, s
 pub one_inserted : (es : List Lent) (i : ℕ) (e : Lent) → lent_variables (take i es ++ e ∷ drop i es) ≡ take i (lent_variables es) ++ lent_variable e ∷ drop i (lent_variables es)
 one_inserted es i e =
     map-append lent_variable (take i es) (e ∷ drop i es)
-    ∙ (λ j. take-map lent_variable i es (~ j) ++ lent_variable e ∷ drop-map lent_variable i es (~ j))
+    ∙ (λ j. sym (take-map lent_variable i es) j ++ lent_variable e ∷ sym (drop-map lent_variable i es) j)
 
 -- ---- where a variable stands
 
 module _ (es : List Lent) (k : Text) (v : Datum) where
   module _ (i : ℕ) (e : Lent) (inside : i < length es) (is : e ≡ get_or es i e) where
     within : i < length (lent_variables es)
-    within = omega (arith, length-map lent_variable es)
+    within = omega (arith, length-map es lent_variable)
 
     there : lent_variable e ≡ get_or (lent_variables es) i (lent_variable e)
     there = ap lent_variable is ∙ sym (get_or-map lent_variable es i e (lent_variable e) inside)
@@ -42,7 +42,7 @@ module _ (es : List Lent) (k : Text) (v : Datum) where
   pub lent_last : (i : ℕ) → length es ≤ i → Behind (lent_variables es) k v i
       → with_name (lent_variables es) k v ≡ take (length es) (lent_variables es) ++ (k, v) ∷ drop (length es) (lent_variables es)
   lent_last i past so_far =
-      comes_last (lent_variables es) k v i (length es) (omega (arith, length-map lent_variable es)) (omega (arith, length-map lent_variable es)) so_far
+      comes_last (lent_variables es) k v i (length es) (omega (arith, length-map es lent_variable)) (omega (arith, length-map es lent_variable)) so_far
 
 -- ---- variables without slots
 
@@ -72,7 +72,7 @@ slot_more base names slots i left o old new next inside within value put so_far 
     put x (slice_get-get_or names i [] inside) ∙ ap (λ t. with_value t x o) before
     ∙ ap (λ v. with_value (variables_over base (drop (suc i) names) (drop (suc i) slots)) x v) (value ∙ ap in_slot (slice_get-get_or slots i None within))
     ∙ over_one base x (drop (suc i) names) u (drop (suc i) slots)
-    ∙ (λ j. variables_over base (drop-cons names i [] inside (~ j)) (drop-cons slots i None within (~ j)))
+    ∙ (λ j. variables_over base (sym (drop-cons names i [] inside) j) (sym (drop-cons slots i None within) j))
 
 past_slots : (base : Named Datum) (names : List Text) → variables_over base names [] ≡ base
 unfolding variables_over

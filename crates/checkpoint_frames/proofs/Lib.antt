@@ -1,3 +1,5 @@
+pub mod Calls
 pub mod Entries
+pub mod Names
 pub mod Paths
 pub mod Spots

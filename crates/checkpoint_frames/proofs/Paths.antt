@@ -1,8 +1,8 @@
 -- The text of a path, number by number.
-use Rattle.std.proofs.Common.{◌≡◌, ℕ, List, [], ◌∷◌, ◌++◌, map, refl, sym, ap, ◌∙◌}
+use Rattle.std.proofs.Common.{◌≡◌, ℕ, List, [], ◌∷◌, ◌++◌, map, sym, ap}
 use Rattle.std.proofs.lemmas.List.{append-nil}
 use Rattle.std.specs.Fmt.{decimal}
-use Rattle.spec_world.specs.Checkpoint.{with_dots, path}
+use Rattle.spec_world.specs.Checkpoint.{path}
 use Rattle.checkpoint_frames.specs.Lines.{dotted}
 
 pub path_dotted : (n : ℕ) (ns : List ℕ) → path (map decimal (n ∷ ns)) ≡ decimal n ++ dotted ns

@@ -1,11 +1,10 @@
 -- The lines of parts of a verb that waits.
 use Rattle.std.specs.Prelude.{ℕ, List, [], ◌∷◌, ◌++◌, map, length, Option, Some, None, codes}
 use Rattle.std.specs.Fmt.{decimal}
-use Rattle.spec_value.specs.Datum.{Datum, text, Text}
-use Rattle.spec_value.specs.Literal.{literal}
+use Rattle.spec_value.specs.Datum.{Datum, Text}
 use Rattle.spec_value.specs.Table.{Named, with_name}
 use Rattle.spec_world.specs.World.{Call, Start}
-use Rattle.spec_world.specs.Checkpoint.{fields, object_text, counted, list_literal, start_values, call_line, path, literal_lines, variable_lines}
+use Rattle.spec_world.specs.Checkpoint.{fields, counted, list_literal, start_values, call_line, path, literal_lines, variable_lines}
 use Rattle.spec_program.specs.Tree.{Program}
 use Rattle.spec_program.specs.Spelling.{canonical_lines}
 use Rattle.checkpoint_frames.specs.declared.lent.Lent.{Lent}
@@ -13,17 +12,6 @@ use Rattle.checkpoint_frames.specs.declared.lent.Lent.{Lent}
 -- its call and its program
 abbrev pub program_lines : Call → Program → List Text
 program_lines c p = call_line c (length (canonical_lines p)) ∷ canonical_lines p
-
--- the line of a call before the name of the verb
-abbrev pub call_objects : Call → Text
-call_objects c =
-    codes "frame "
-    ++ ((object_text c.this ++ 32 ∷ []) ++ ((object_text c.caller ++ 32 ∷ []) ++ ((object_text c.definer ++ 32 ∷ []) ++ (object_text c.programmer ++ 32 ∷ []))))
-
--- the line of what the command line gave, before the preposition
-abbrev pub direct_items : Start → Text
-direct_items s =
-    codes "start {" ++ ((literal (text s.argstr) ++ codes ", ") ++ (object_text s.dobj ++ (codes ", " ++ (literal (text s.dobjstr) ++ codes ", "))))
 
 abbrev pub start_line : Start → Text
 start_line s = fields (codes "start" ∷ list_literal (start_values s) ∷ [])

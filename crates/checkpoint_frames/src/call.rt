@@ -1,9 +1,10 @@
 //! Who runs a verb for whom, and what the command line gave.
 ghost use Rattle.std.specs.Prelude.{◌≡◌, ◌++◌, [], ◌∷◌, OnOk};
+ghost use Rattle.std.specs.Fmt.{decimal};
 ghost use Rattle.spec_value.specs.Datum.{text as text_of};
 ghost use Rattle.spec_value.specs.Literal.{literal};
-ghost use Rattle.spec_world.specs.Checkpoint.{call_line, object_text, with_line_ends};
-ghost use Rattle.checkpoint_frames.specs.Lines.{call_objects, direct_items, start_line};
+ghost use Rattle.spec_world.specs.Checkpoint.{call_line, flag, object_text, with_line_ends};
+ghost use Rattle.checkpoint_frames.specs.Lines.{start_line};
 
 use checkpoint_fields::page::Page;
 use moo_machine::call::{Call, Start};
@@ -14,61 +15,55 @@ use std::alloc::AllocError;
 pub fn put_call(page: &mut Page, call: &Call, count: usize) -> Result<(), AllocError>
     ensures { OnOk result (page.new ≡ page.old ++ with_line_ends (call_line call.now count ∷ [])) }
 {
-    put_objects(page, call)?;
-    page.put_text(&call.verb)?;
+    page.put("frame ")?;
+    put_pair(page, call.this, call.caller)?;
+    put_pair(page, call.definer, call.programmer)?;
+    put_verb(page, &call.verb, call.debug, count)?;
+    Ok(())
+}
+
+// Two objects, each before a space.
+fn put_pair(page: &mut Page, first: i32, second: i32) -> Result<(), AllocError>
+    ensures { OnOk result (page.new ≡ page.old ++ (object_text first ++ (32 ∷ (object_text second ++ 32 ∷ [])))) }
+{
+    page.put_object(first)?;
     page.put(" ")?;
-    page.put_flag(call.debug)?;
+    page.put_object(second)?;
+    page.put(" ")
+}
+
+// The end of the line.
+fn put_verb(page: &mut Page, verb: &Text, debug: bool, count: usize) -> Result<(), AllocError>
+    ensures { OnOk result (page.new ≡ page.old
+        ++ (literal (text_of verb.now) ++ (32 ∷ (flag debug ++ (32 ∷ (decimal count ++ 10 ∷ [])))))) }
+{
+    page.put_text(verb)?;
+    page.put(" ")?;
+    page.put_flag(debug)?;
     page.put(" ")?;
     page.put_number(count as u64)?;
     page.end_line()
-}
-
-// What comes before the name of the verb.
-fn put_objects(page: &mut Page, call: &Call) -> Result<(), AllocError>
-    ensures { OnOk result (page.new ≡ page.old ++ call_objects call.now) }
-{
-    page.put("frame ")?;
-    put_object(page, call.this)?;
-    put_object(page, call.caller)?;
-    put_object(page, call.definer)?;
-    put_object(page, call.programmer)
-}
-
-// An object before a space.
-fn put_object(page: &mut Page, object: i32) -> Result<(), AllocError>
-    ensures { OnOk result (page.new ≡ page.old ++ (object_text object ++ 32 ∷ [])) }
-{
-    page.put_object(object)?;
-    page.put(" ")
 }
 
 /// Writes the line of what the command line gave.
 pub fn put_start(page: &mut Page, start: &Start) -> Result<(), AllocError>
     ensures { OnOk result (page.new ≡ page.old ++ with_line_ends (start_line start.now ∷ [])) }
 {
-    put_direct(page, start)?;
-    put_item(page, &start.prepstr)?;
-    page.put_object(start.iobj)?;
+    page.put("start {")?;
+    put_items(page, &start.argstr, start.dobj, &start.dobjstr)?;
     page.put(", ")?;
-    page.put_text(&start.iobjstr)?;
+    put_items(page, &start.prepstr, start.iobj, &start.iobjstr)?;
     page.put("}\n")
 }
 
-// What comes before the preposition.
-fn put_direct(page: &mut Page, start: &Start) -> Result<(), AllocError>
-    ensures { OnOk result (page.new ≡ page.old ++ direct_items start.now) }
+// A text, an object and a text, as items of a list.
+fn put_items(page: &mut Page, first: &Text, object: i32, second: &Text) -> Result<(), AllocError>
+    ensures { OnOk result (page.new ≡ page.old
+        ++ (literal (text_of first.now) ++ (44 ∷ 32 ∷ (object_text object ++ (44 ∷ 32 ∷ literal (text_of second.now)))))) }
 {
-    page.put("start {")?;
-    put_item(page, &start.argstr)?;
-    page.put_object(start.dobj)?;
+    page.put_text(first)?;
     page.put(", ")?;
-    put_item(page, &start.dobjstr)
-}
-
-// A text before a comma.
-fn put_item(page: &mut Page, text: &Text) -> Result<(), AllocError>
-    ensures { OnOk result (page.new ≡ page.old ++ (literal (text_of text.now) ++ 44 ∷ 32 ∷ [])) }
-{
-    page.put_text(text)?;
-    page.put(", ")
+    page.put_object(object)?;
+    page.put(", ")?;
+    page.put_text(second)
 }

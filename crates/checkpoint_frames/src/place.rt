@@ -17,14 +17,14 @@ pub fn put_place(page: &mut Page, path: &[usize]) -> Result<(), AllocError>
     page.end_line()
 }
 
-#[tactic(auto, using(crate::proofs::Paths::path_dotted))]
 fn put_path(page: &mut Page, path: &[usize]) -> Result<(), AllocError>
     ensures { OnOk result (page.new ≡ page.old ++ path_text (map decimal path.now)) }
 {
     match path.split_first() {
         Some((first, rest)) => {
             page.put_number(*first as u64)?;
-            put_further(page, rest)
+            put_further(page, rest)?;
+            Ok(())
         }
         None => page.put("0"),
     }

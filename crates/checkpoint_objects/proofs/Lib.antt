@@ -1,3 +1,3 @@
 pub mod Along
 pub mod Bits
-pub mod Turns
+pub mod Wholes

@@ -1,11 +1,12 @@
 -- The lines of parts of a world.
-use Rattle.std.specs.Prelude.{ℤ, List, [], ◌∷◌, ◌++◌, codes}
+use Rattle.std.specs.Prelude.{ℤ, List, [], ◌∷◌, ◌++◌, length, codes}
 use Rattle.std.specs.Fmt.{signed_decimal}
 use Rattle.spec_value.specs.Datum.{Text, text, fold_case}
 use Rattle.spec_value.specs.Literal.{literal}
+use Rattle.spec_program.specs.Spelling.{canonical_lines}
 use Rattle.spec_value.specs.Table.{named}
 use Rattle.spec_world.specs.World.{Header, Link, Object, Slot, Verb}
-use Rattle.spec_world.specs.Checkpoint.{fields, flag, object_text, list_literal, object_list, text_list, programming_held, slot_bits, content_text, slot_line, verb_bits, part_text, preposition_number}
+use Rattle.spec_world.specs.Checkpoint.{fields, flag, object_text, list_literal, object_list, text_list, programming_held, slot_bits, content_text, slot_line, verb_line, verb_bits, part_text, preposition_number}
 
 -- the line of a link
 abbrev pub link_line : ℤ → Link → List Text
@@ -21,6 +22,10 @@ slots_of x [] = []
 slots_of x (t ∷ ts) = slot_line (named x.slots (fold_case t)) ++ slots_of x ts
 
 -- ---- verbs
+
+-- the line of a verb with its program
+abbrev pub program_lines : Verb → List Text
+program_lines v = verb_line v (length (canonical_lines v.program)) ∷ canonical_lines v.program
 
 -- the line of a verb before the objects and the preposition that it wants
 abbrev pub verb_names : Verb → Text
@@ -38,12 +43,11 @@ flags_of h =
 abbrev pub name_lines : ℤ → Header → List Text
 name_lines o h = fields (codes "object" ∷ signed_decimal o ∷ []) ∷ fields (codes "name" ∷ literal (text h.name) ∷ []) ∷ []
 
-abbrev pub place_lines : Header → List Text
-place_lines h =
-    fields (codes "owner" ∷ object_text h.owner ∷ [])
-    ∷ fields (codes "parent" ∷ object_text h.parent ∷ [])
-    ∷ fields (codes "location" ∷ object_text h.location ∷ [])
-    ∷ []
+abbrev pub owner_lines : Header → List Text
+owner_lines h = fields (codes "owner" ∷ object_text h.owner ∷ []) ∷ fields (codes "parent" ∷ object_text h.parent ∷ []) ∷ []
+
+abbrev pub location_lines : Header → List Text
+location_lines h = fields (codes "location" ∷ object_text h.location ∷ []) ∷ []
 
 abbrev pub family_lines : Object → List Text
 family_lines x =

@@ -47,7 +47,7 @@ fn put_programming(page: &mut Page, programming: &Option<Programming>) -> Result
 {
     match programming {
         Some(programming) => put_program(page, programming),
-        None => page.put("0"),
+        None => page.put_signed(0),
     }
 }
 
@@ -69,6 +69,6 @@ fn put_lines(page: &mut Page, lines: &Option<Lines>) -> Result<(), AllocError>
 {
     match lines {
         Some(lines) => page.put_texts(lines.as_slice()),
-        None => page.put("0"),
+        None => page.put_signed(0),
     }
 }

@@ -3,7 +3,7 @@ ghost use Rattle.std.specs.Prelude.{◌≡◌, ◌++◌, Some, OnOk};
 ghost use Rattle.spec_world.specs.World.{object_at};
 ghost use Rattle.spec_world.specs.Checkpoint.{object_lines, with_line_ends};
 ghost use Rattle.checkpoint_fields.specs.Each.{of_each, of_found};
-ghost use Rattle.checkpoint_objects.specs.Lines.{family_lines, flags_of, name_lines, own_lines, place_lines};
+ghost use Rattle.checkpoint_objects.specs.Lines.{family_lines, flags_of, location_lines, name_lines, own_lines, owner_lines};
 
 use crate::slot::put_slots;
 use crate::verb::put_verbs;
@@ -48,11 +48,13 @@ fn put_object(
     ensures { OnOk result (page.new ≡ page.old ++ with_line_ends (object_lines draft.now number object.now)) }
 {
     put_name(page, number, object.header())?;
-    put_places(page, object.header())?;
+    put_owner(page, object.header())?;
+    put_location(page, object.header())?;
     put_family(page, object)?;
     put_own(page, object)?;
     put_slots(page, alloc, draft, number, object)?;
-    put_verbs(page, alloc, object.verbs().as_slice())
+    put_verbs(page, alloc, object.verbs().as_slice())?;
+    Ok(())
 }
 
 fn put_name(page: &mut Page, number: i32, header: &Header) -> Result<(), AllocError>
@@ -65,14 +67,20 @@ fn put_name(page: &mut Page, number: i32, header: &Header) -> Result<(), AllocEr
     page.end_line()
 }
 
-fn put_places(page: &mut Page, header: &Header) -> Result<(), AllocError>
-    ensures { OnOk result (page.new ≡ page.old ++ with_line_ends (place_lines header.now)) }
+fn put_owner(page: &mut Page, header: &Header) -> Result<(), AllocError>
+    ensures { OnOk result (page.new ≡ page.old ++ with_line_ends (owner_lines header.now)) }
 {
     page.put("owner ")?;
     page.put_object(header.owner)?;
     page.put("\nparent ")?;
     page.put_object(header.parent)?;
-    page.put("\nlocation ")?;
+    page.end_line()
+}
+
+fn put_location(page: &mut Page, header: &Header) -> Result<(), AllocError>
+    ensures { OnOk result (page.new ≡ page.old ++ with_line_ends (location_lines header.now)) }
+{
+    page.put("location ")?;
     page.put_object(header.location)?;
     page.end_line()
 }

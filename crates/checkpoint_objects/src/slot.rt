@@ -27,7 +27,8 @@ pub fn put_slots(
 {
     let found = slots_along(alloc, draft, number, object)?;
     page.put_count("slots", found.len())?;
-    put_each_slot(page, &found)
+    put_each_slot(page, &found)?;
+    Ok(())
 }
 
 // The slots of an object in the order of its ancestors.
@@ -42,14 +43,20 @@ fn slots_along<'a>(
 {
     let mut found = Vec::new(alloc);
     let mut above = number;
-    for _step in 0..bound(draft) {
+    for step in 0..bound(draft) {
         let Some(ancestor) = draft.object(above) else {
             return Ok(found);
         };
         add_slots(&mut found, ancestor.defines().as_slice(), object)?;
-        above = ancestor.header().parent;
+        above = parent(ancestor);
     }
     Ok(found)
+}
+
+fn parent(object: &Object) -> i32
+    ensures { result ≡ object.now.header.parent }
+{
+    object.header().parent
 }
 
 // How many objects there are at most from one upwards.

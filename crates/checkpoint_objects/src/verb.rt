@@ -1,8 +1,7 @@
 //! The lines of verbs.
-ghost use Rattle.std.specs.Prelude.{◌≡◌, ◌++◌, [], ◌∷◌, OnOk, length};
-ghost use Rattle.spec_program.specs.Spelling.{canonical_lines};
+ghost use Rattle.std.specs.Prelude.{◌≡◌, ◌++◌, [], ◌∷◌, OnOk};
 ghost use Rattle.spec_world.specs.Checkpoint.{verb_lines, each_verb, verb_line, verb_bits, part_text, preposition_number, with_line_ends};
-ghost use Rattle.checkpoint_objects.specs.Lines.{verb_arguments, verb_names};
+ghost use Rattle.checkpoint_objects.specs.Lines.{program_lines, verb_arguments, verb_names};
 ghost use Rattle.world.specs.Parts.{object_part_of, preposition_part_of};
 
 use checkpoint_fields::page::Page;
@@ -18,7 +17,6 @@ pub fn put_verbs(page: &mut Page, alloc: Global, verbs: &[Verb]) -> Result<(), A
     put_each_verb(page, alloc, verbs)
 }
 
-#[tactic(auto, using(checkpoint_fields::proofs::Joined::lines_behind))]
 fn put_each_verb(page: &mut Page, alloc: Global, verbs: &[Verb]) -> Result<(), AllocError>
     ensures { OnOk result (page.new ≡ page.old ++ with_line_ends (each_verb verbs.now)) }
 {
@@ -29,8 +27,7 @@ fn put_each_verb(page: &mut Page, alloc: Global, verbs: &[Verb]) -> Result<(), A
 }
 
 fn put_verb(page: &mut Page, alloc: Global, verb: &Verb) -> Result<(), AllocError>
-    ensures { OnOk result (page.new ≡ page.old
-        ++ with_line_ends (verb_line verb.now (length (canonical_lines verb.now.program)) ∷ canonical_lines verb.now.program)) }
+    ensures { OnOk result (page.new ≡ page.old ++ with_line_ends (program_lines verb.now)) }
 {
     let lines = print(alloc, verb.program.tree())?;
     put_head(page, verb, lines.len())?;

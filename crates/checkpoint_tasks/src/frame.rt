@@ -29,5 +29,6 @@ pub fn put_frame(
     let path = frame_path(alloc, waiting, frame)?;
     put_place(page, &path)?;
     put_variables(page, alloc, frame)?;
-    put_held(page, frame_held(waiting, frame))
+    put_held(page, frame_held(waiting, frame))?;
+    Ok(())
 }

@@ -18,9 +18,10 @@ pub fn put_task(page: &mut Page, alloc: Global, id: i32, task: &Task) -> Result<
     let waiting = task.waiting();
     let outers = told(task);
     put_waiting(page, id, waiting)?;
-    put_player(page, task.player())?;
+    put_player(page, task)?;
     page.put_count("entries", outers.len())?;
-    put_outers(page, alloc, waiting, outers)
+    put_outers(page, alloc, waiting, outers)?;
+    Ok(())
 }
 
 // How a task of this id waits.
@@ -30,7 +31,8 @@ fn put_waiting(page: &mut Page, id: i32, waiting: &Waiting) -> Result<(), AllocE
     page.put("task ")?;
     page.put_signed(id)?;
     put_reason(page, waiting)?;
-    page.end_line()
+    page.end_line()?;
+    Ok(())
 }
 
 fn put_reason(page: &mut Page, waiting: &Waiting) -> Result<(), AllocError>
@@ -55,10 +57,10 @@ fn put_reason(page: &mut Page, waiting: &Waiting) -> Result<(), AllocError>
     }
 }
 
-fn put_player(page: &mut Page, player: i32) -> Result<(), AllocError>
-    ensures { OnOk result (page.new ≡ page.old ++ with_line_ends (player_line player ∷ [])) }
+fn put_player(page: &mut Page, task: &Task) -> Result<(), AllocError>
+    ensures { OnOk result (page.new ≡ page.old ++ with_line_ends (player_line task.now.player ∷ [])) }
 {
     page.put("player ")?;
-    page.put_object(player)?;
+    page.put_object(task.player())?;
     page.end_line()
 }

@@ -1,14 +1,16 @@
 -- The parts of a world's text, record by record.
-use Rattle.std.proofs.Common.{◌≡◌, ℤ, List, [], ◌∷◌, ◌++◌, length, map, IsTrue, refl, sym, ap, ◌∙◌}
+use Rattle.std.proofs.Common.{◌≡◌, ℕ, ℤ, List, [], ◌∷◌, ◌++◌, length, map, IsTrue, refl, ap, ◌∙◌}
+use Rattle.std.specs.Prelude.{codes}
 use Rattle.std.proofs.lemmas.List.{length-map}
 use Rattle.spec_value.specs.Datum.{Text}
 use Rattle.spec_value.specs.Table.{Numbered, is_numbered}
 use Rattle.spec_world.specs.World.{World, Object, Task, Link}
-use Rattle.spec_world.specs.Checkpoint.{counted, link_lines, object_lines, each_object, task_lines, each_task, with_line_ends}
+use Rattle.spec_world.specs.Checkpoint.{counted, link_lines, object_lines, each_object, task_lines, each_task, with_line_ends, checkpoint_text}
 use Rattle.checkpoint_fields.specs.Each.{of_each, of_all}
 use Rattle.checkpoint_fields.proofs.Each.{each_is_all}
 use Rattle.checkpoint_fields.proofs.Joined.{lines_more}
 use Rattle.checkpoint_objects.specs.Lines.{link_line}
+use Rattle.checkpoint_text.specs.Parts.{head_lines, state_lines, link_part, object_part, task_part}
 
 pub all_links : (es : Numbered Link) → of_all link_line es ≡ link_lines es
 all_links [] = refl
@@ -23,11 +25,21 @@ all_tasks [] = refl
 all_tasks (e ∷ es) = ap (λ ts. task_lines e.0 e.1 ++ ts) (all_tasks es)
 
 -- how many records there are, and what is written of each
-pub part_written : {X : Type 0} (f : ℤ → X → List Text) (word : Text) (m : Numbered X) (ks : List ℤ) (lines : List Text) (old counts new : Text) → IsTrue (is_numbered m)
-    → ks ≡ map (λ e. e.0) m → of_all f m ≡ lines → counts ≡ old ++ with_line_ends (counted word (length ks) ∷ []) → new ≡ counts ++ with_line_ends (of_each f m ks)
-    → new ≡ old ++ with_line_ends (counted word (length m) ∷ lines)
-part_written {X} f word m ks lines old counts new sorted keys all counting writing =
-    let written : of_each f m ks ≡ lines = ap (of_each f m) keys ∙ each_is_all f m sorted ∙ all in
-    let count : length ks ≡ length m = ap length keys ∙ length-map (λ (e : ℤ × X). e.0) m in
-    lines_more old counts new (counted word (length ks) ∷ []) (of_each f m ks) counting writing
-    ∙ (λ i. old ++ with_line_ends (counted word (count i) ∷ written i))
+pub part_written : {X : Type 0} (f : ℤ → X → List Text) (word : Text) (m : Numbered X) (ks js : List ℤ) (lines : List Text) (n : ℕ) (old counts new : Text) → IsTrue (is_numbered m)
+    → ks ≡ map (λ e. e.0) m → js ≡ map (λ e. e.0) m → n ≡ length ks → of_all f m ≡ lines → counts ≡ old ++ with_line_ends (counted word n ∷ [])
+    → new ≡ counts ++ with_line_ends (of_each f m js) → new ≡ old ++ with_line_ends (counted word (length m) ∷ lines)
+part_written {X} f word m ks js lines n old counts new sorted keys again count all counting writing =
+    let written : of_each f m js ≡ lines = ap (of_each f m) again ∙ each_is_all f m sorted ∙ all in
+    let number : n ≡ length m = count ∙ ap length keys ∙ length-map m (λ (e : ℤ × X). e.0) in
+    lines_more old counts new (counted word n ∷ []) (of_each f m js) counting writing
+    ∙ (λ i. old ++ with_line_ends (counted word (number i) ∷ written i))
+
+pub whole_written : (w : World) (p1 p2 p3 p4 p5 p6 : Text) → p1 ≡ [] ++ with_line_ends (head_lines w) → p2 ≡ p1 ++ with_line_ends (state_lines w)
+    → p3 ≡ p2 ++ with_line_ends (link_part w) → p4 ≡ p3 ++ with_line_ends (object_part w) → p5 ≡ p4 ++ with_line_ends (task_part w)
+    → p6 ≡ p5 ++ with_line_ends (codes "end" ∷ []) → p6 ≡ checkpoint_text w
+unfolding checkpoint_text
+whole_written w p1 p2 p3 p4 p5 p6 e1 e2 e3 e4 e5 e6 =
+    lines_more [] p1 p6 (head_lines w) (state_lines w ++ (link_part w ++ (object_part w ++ (task_part w ++ codes "end" ∷ [])))) e1
+    (lines_more p1 p2 p6 (state_lines w) (link_part w ++ (object_part w ++ (task_part w ++ codes "end" ∷ []))) e2
+    (lines_more p2 p3 p6 (link_part w) (object_part w ++ (task_part w ++ codes "end" ∷ [])) e3
+    (lines_more p3 p4 p6 (object_part w) (task_part w ++ codes "end" ∷ []) e4 (lines_more p4 p5 p6 (task_part w) (codes "end" ∷ []) e5 e6))))

@@ -6,12 +6,10 @@ use Rattle.spec_world.specs.World.{World}
 use Rattle.spec_world.specs.Checkpoint.{fields, flag, counted, link_lines, each_object, each_task}
 
 abbrev pub head_lines : World → List Text
-head_lines w =
-    codes "MOO-CHECKPOINT 1"
-    ∷ counted (codes "next") w.next
-    ∷ fields (codes "greatest" ∷ signed_decimal w.greatest ∷ [])
-    ∷ fields (codes "ending" ∷ flag w.ending ∷ [])
-    ∷ []
+head_lines w = codes "MOO-CHECKPOINT 1" ∷ counted (codes "next") w.next ∷ []
+
+abbrev pub state_lines : World → List Text
+state_lines w = fields (codes "greatest" ∷ signed_decimal w.greatest ∷ []) ∷ fields (codes "ending" ∷ flag w.ending ∷ []) ∷ []
 
 abbrev pub link_part : World → List Text
 link_part w = counted (codes "links") (length w.links) ∷ link_lines w.links

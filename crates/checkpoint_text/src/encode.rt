@@ -2,7 +2,7 @@
 ghost use Rattle.std.specs.Prelude.{◌≡◌, ◌++◌, OnOk, IfOk, IsTrue, string_bytes};
 ghost use Rattle.spec_value.specs.Table.{is_numbered};
 ghost use Rattle.spec_world.specs.Checkpoint.{checkpoint_text, with_line_ends};
-ghost use Rattle.checkpoint_text.specs.Parts.{head_lines, link_part, object_part, task_part};
+ghost use Rattle.checkpoint_text.specs.Parts.{head_lines, link_part, object_part, state_lines, task_part};
 
 use crate::tasks::put_tasks;
 use checkpoint_fields::page::Page;
@@ -20,6 +20,7 @@ pub fn encode(alloc: Global, draft: &Draft) -> Result<String, AllocError>
 {
     let mut page = Page::new(alloc);
     put_head(&mut page, draft)?;
+    put_state(&mut page, draft)?;
     put_link_part(&mut page, draft)?;
     put_object_part(&mut page, alloc, draft)?;
     put_task_part(&mut page, alloc, draft)?;
@@ -27,13 +28,18 @@ pub fn encode(alloc: Global, draft: &Draft) -> Result<String, AllocError>
     Ok(page.into_string())
 }
 
-// What comes before the links.
 fn put_head(page: &mut Page, draft: &Draft) -> Result<(), AllocError>
     ensures { OnOk result (page.new ≡ page.old ++ with_line_ends (head_lines draft.now)) }
 {
     page.put("MOO-CHECKPOINT 1\nnext ")?;
     page.put_number(draft.next())?;
-    page.put("\ngreatest ")?;
+    page.end_line()
+}
+
+fn put_state(page: &mut Page, draft: &Draft) -> Result<(), AllocError>
+    ensures { OnOk result (page.new ≡ page.old ++ with_line_ends (state_lines draft.now)) }
+{
+    page.put("greatest ")?;
     page.put_signed(draft.greatest())?;
     page.put("\nending ")?;
     page.put_flag(draft.is_ending())?;
@@ -46,7 +52,8 @@ fn put_link_part(page: &mut Page, draft: &Draft) -> Result<(), AllocError>
 {
     let numbers = draft.link_numbers()?;
     page.put_count("links", numbers.as_slice().len())?;
-    put_links(page, draft, numbers.as_slice())
+    put_links(page, draft, numbers.as_slice())?;
+    Ok(())
 }
 
 fn put_object_part(page: &mut Page, alloc: Global, draft: &Draft) -> Result<(), AllocError>
@@ -55,7 +62,8 @@ fn put_object_part(page: &mut Page, alloc: Global, draft: &Draft) -> Result<(), 
 {
     let numbers = draft.object_numbers()?;
     page.put_count("objects", numbers.as_slice().len())?;
-    put_objects(page, alloc, draft, numbers.as_slice())
+    put_objects(page, alloc, draft, numbers.as_slice())?;
+    Ok(())
 }
 
 fn put_task_part(page: &mut Page, alloc: Global, draft: &Draft) -> Result<(), AllocError>
@@ -64,5 +72,6 @@ fn put_task_part(page: &mut Page, alloc: Global, draft: &Draft) -> Result<(), Al
 {
     let ids = draft.waiting()?;
     page.put_count("tasks", ids.as_slice().len())?;
-    put_tasks(page, alloc, draft, ids.as_slice())
+    put_tasks(page, alloc, draft, ids.as_slice())?;
+    Ok(())
 }

@@ -1,12 +1,11 @@
 -- Down a tree, step by step.
-use Rattle.std.proofs.Common.{◌≡◌, ◌∙◌, ap, sym, refl, subst, ℕ, zero, suc, ◌+◌, ◌<◌, ◌≤◌, List, [], ◌∷◌, ◌++◌, length, drop, drop-cons, get_or, Option, Some, None, append_assoc, arith}
-use Rattle.std.specs.Prelude.{option_map}
+use Rattle.std.proofs.Common.{◌≡◌, ◌∙◌, ap, sym, refl, subst, ℕ, zero, suc, ◌+◌, ◌<◌, List, [], ◌∷◌, ◌++◌, length, drop, drop-cons, get_or, Option, Some, None, append_assoc, arith}
 use Rattle.std.proofs.lemmas.List.{append-nil}
 use Rattle.spec_program.specs.Construct.{Construct, Piece}
 use Rattle.spec_program.specs.Place.{Part, part_at, tree_of, held_count, Linked}
 use Rattle.moo_code.specs.Paths.{past, path_of}
 use Rattle.frame_laws.specs.Arriving.{with_rest, into, arrives}
-use Rattle.frame_tasks.specs.Arrived.{with_left, in_tree, step_of}
+use Rattle.frame_tasks.specs.Arrived.{in_tree, step_of}
 
 -- ---- a step
 

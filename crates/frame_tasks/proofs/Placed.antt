@@ -1,8 +1,7 @@
 -- Verbs at the places of calls.
-use Rattle.std.proofs.Common.{◌≡◌, ◌∙◌, ap, sym, refl, ℕ, zero, suc, pred, ◌+◌, Bool, true, false, List, [], ◌∷◌, length, Option, Some, None, IsTrue, arith}
+use Rattle.std.proofs.Common.{◌≡◌, ◌∙◌, ap, sym, refl, subst, ℕ, zero, suc, pred, ◌+◌, Bool, List, [], ◌∷◌, length, Option, Some, None, IsTrue}
 use Rattle.spec_program.specs.Tree.{Program}
 use Rattle.spec_program.specs.Construct.{Construct, of_program}
-use Rattle.spec_program.specs.Place.{is_call}
 use Rattle.moo_code.specs.Layout.{outermost, layout, size}
 use Rattle.moo_code.specs.Machine.{Kept}
 use Rattle.moo_code.specs.Paths.{last_at}
@@ -31,10 +30,15 @@ same_place p c path m h e =
     ∙ last_is (start h.pieces) (size (body h.pieces c)) m
     (sym (path_is_reached p c h.pieces h.linked) ∙ ap (λ l. last_at_path l 0 (layout outermost (of_program p))) h.path_is ∙ some_path p path m e)
 
-pub stands_there : (k : Kept) (path : List ℕ) → place_at k.program path ≡ Some k.place → IsTrue (is_call_there (arrives (of_program k.program) path (length k.operands)))
-    → StandsThere k
-stands_there k path at call = go (arrives (of_program k.program) path (length k.operands)) refl call
+stands_by : (k : Kept) (path : List ℕ) → place_at k.program path ≡ Some k.place → IsTrue (is_call_there (arrives (of_program k.program) path (length k.operands))) → StandsThere k
+stands_by k path at call = go (arrives (of_program k.program) path (length k.operands)) refl call
   where
     go : (o : Option Construct) → arrives (of_program k.program) path (length k.operands) ≡ o → IsTrue (is_call_there o) → StandsThere k
     go None e i = cc
     go (Some c) e i = calls_stand k path c e i (same_place k.program c path k.place (chain (of_program k.program) c path (length k.operands) e) at)
+
+pub stands_there : (k : Kept) (path : List ℕ) (tree : Program) (count place : ℕ) (so : Bool) → place_at k.program path ≡ Some place → place ≡ k.place → tree ≡ k.program → count ≡ length k.operands
+    → so ≡ is_call_there (arrives (of_program tree) path count) → IsTrue so → StandsThere k
+stands_there k path tree count place so at same whole all is h =
+    stands_by k path (at ∙ ap Some same)
+    (subst IsTrue (is ∙ ap (λ t. is_call_there (arrives (of_program t) path count)) whole ∙ ap (λ n. is_call_there (arrives (of_program k.program) path n)) all) h)

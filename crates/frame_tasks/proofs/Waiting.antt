@@ -1,5 +1,5 @@
 -- What is under way waits, where each verb stands at a call.
-use Rattle.std.proofs.Common.{◌≡◌, ◌∙◌, ap, sym, refl, subst, ℕ, suc, ◌+◌, ◌<◌, ◌≤◌, ℤ, List, [], ◌∷◌, ◌++◌, length, take, get_or, arith}
+use Rattle.std.proofs.Common.{◌≡◌, ◌∙◌, ap, sym, refl, subst, ℕ, ◌+◌, ◌<◌, ℤ, List, [], ◌∷◌, length, take, get_or}
 use Rattle.spec_world.specs.World.{Entry, frame_entry, native_entry, Waiting, forked, timed, idle, reading_on, Task}
 use Rattle.spec_world.specs.WellFormed.{FramesStand}
 use Rattle.spec_moo.specs.Steps.Running.{waiting_task}
@@ -40,7 +40,7 @@ has_stopped (timed due v) k ks c h st = at_call k ks h st
 has_stopped idle k ks c h st = at_call k ks h st
 has_stopped (reading_on n) k ks c h st = at_call k ks h st
 
-pub made_of : (player : ℤ) (why : Waiting) (k : Kept) (ks : List Outer) (t : Task) → WaitsAtCalls why → StandsThere k → AllStand ks
+made_of : (player : ℤ) (why : Waiting) (k : Kept) (ks : List Outer) (t : Task) → WaitsAtCalls why → StandsThere k → AllStand ks
     → ((es : List Entry) → AllWait es (verb k ∷ ks) → FramesStand es → t ≡ waiting_task player why es) → t ≡ task_of player why (verb k ∷ ks)
 made_of player why k ks t c h st is =
     let more = entries_for ks st in
@@ -52,3 +52,10 @@ made_of player why k ks t c h st is =
 pub stand_more : (os : List Stored) (i : ℕ) (o : Stored) → i < length os → o ≡ get_or os i o → AllStand (outers_of (take i os)) → OuterStands (outer_of o)
     → AllStand (outers_of (take (i + 1) os))
 stand_more os i o small is h st = subst AllStand (one_copied os i o (outers_of (take i os)) _ small is refl refl) (st, h)
+
+-- the same of what waits as it was made
+pub made_from : (player p : ℤ) (why : Waiting) (k : Kept) (ks js : List Outer) (t : Task) → WaitsAtCalls why → StandsThere k → AllStand js → ks ≡ js → p ≡ player
+    → ((es : List Entry) → AllWait es (verb k ∷ ks) → FramesStand es → t ≡ waiting_task p why es) → t ≡ task_of player why (verb k ∷ js)
+made_from player p why k ks js t c h st same players is =
+    made_of player why k js t c h st
+    (λ es w f. is es (subst (λ z. AllWait es (verb k ∷ z)) (sym same) w) f ∙ ap (λ z. waiting_task z why es) players)

@@ -25,8 +25,7 @@ pub fn leads_to_call(tree: &Tree, path: &[usize], count: usize) -> Result<bool, 
     }
 }
 
-// What stands at a path, if the constructs on the way hold so many values in all. It is called once for each part number of a
-// path that is in the tree, and trees are at most a hundred constructs deep.
+// What stands at a path, if the constructs on the way hold so many values in all.
 #[tactic(auto, using(crate::proofs::Descent::arrives_from))]
 fn arrive<'a>(node: Node<'a>, path: &[usize], count: usize) -> Result<Option<Node<'a>>, AllocError>
     ensures { IfOk result (λ found. option_map construct_of found ≡ arrives (construct_of node.entry) path.now count) }

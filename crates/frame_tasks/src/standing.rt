@@ -1,6 +1,7 @@
 //! Verbs that stand at calls of their programs.
 ghost use Rattle.std.specs.Prelude.{◌≡◌, IfOk, IsTrue};
 ghost use Rattle.frame_laws.specs.Arriving.{StandsThere};
+ghost use Rattle.frame_paths.specs.Places.{place_at};
 ghost use Rattle.moo_task.specs.Frames.{kept_of};
 
 use crate::arrive::leads_to_call;
@@ -20,14 +21,25 @@ pub fn stands_at_call(alloc: Global, frame: &Frame) -> Result<bool, AllocError>
 }
 
 // Whether it stands at the call that this path leads to.
-#[tactic(auto, using(crate::proofs::Placed::stands_there))]
 fn stands_at(frame: &Frame, path: &[usize]) -> Result<bool, AllocError>
     ensures { IfOk result (λ so. IsTrue so → StandsThere (kept_of frame.now)) }
 {
-    let place = call_place(&frame.program, path)?;
-    if place != Some(frame.state.place) {
+    let found = call_place(&frame.program, path)?;
+    match found {
+        Some(place) => stands_at_place(frame, path, place),
+        None => Ok(false),
+    }
+}
+
+// Whether it stands there, which is this place.
+fn stands_at_place(frame: &Frame, path: &[usize], place: usize) -> Result<bool, AllocError>
+    requires { place_at frame.now.program path.now ≡ Some place }
+    ensures { IfOk result (λ so. IsTrue so → StandsThere (kept_of frame.now)) }
+{
+    if place != frame.state.place {
         return Ok(false);
     }
     let count = frame.state.operands.len();
-    leads_to_call(frame.program.tree(), path, count)
+    let so = leads_to_call(frame.program.tree(), path, count)?;
+    Ok(so)
 }

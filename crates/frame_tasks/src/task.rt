@@ -79,7 +79,7 @@ fn is_at_beginning(frame: &Frame) -> bool
     frame.state.place == 0 && frame.state.operands.len() == 0
 }
 
-#[tactic(auto, using(crate::proofs::Waiting::has_stopped, crate::proofs::Waiting::made_of))]
+#[tactic(auto, using(crate::proofs::Waiting::has_stopped))]
 fn stopped(
     alloc: Global,
     player: i32,

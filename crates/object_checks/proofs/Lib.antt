@@ -1,4 +1,3 @@
-pub mod There
 pub mod Follow
-pub mod Whole
+pub mod Agreed
 pub mod Linked

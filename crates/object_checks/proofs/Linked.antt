@@ -1,5 +1,5 @@
 -- Links that each fit, no two of one person.
-use Rattle.std.proofs.Common.{◌≡◌, ℕ, zero, suc, ℤ, List, [], ◌∷◌, map, Option, Some, None, refl, sym, ap, ◌∙◌, subst, IsTrue, All}
+use Rattle.std.proofs.Common.{◌≡◌, ℕ, suc, ℤ, List, [], ◌∷◌, map, Some, refl, ap, ◌∙◌, subst, IsTrue, All}
 use Rattle.std.specs.Prelude.{slice_get}
 use Rattle.std.specs.Ordering.{int_cmp}
 use Rattle.std.specs.List.Sorted.{IsStrictlySortedBy}
@@ -20,13 +20,17 @@ module _ (all : Numbered Link) where
   pub persons_found : IsTrue (is_numbered all) → map (λ c. person_of (at all c)) (map (λ e. e.0) all) ≡ map (λ e. (e.1).person) all
   persons_found sorted = found all (λ n e is. found_there all n e sorted is)
 
-pub links_agree : (w : World) → IsStrictlySortedBy int_cmp (map (λ e. e.0) w.links)
-    → All (λ c. (k : Link) → at w.links c ≡ Some k → IsTrue (link_fits w c k)) (map (λ e. e.0) w.links)
-    → IsTrue (once (map (λ c. person_of (at w.links c)) (map (λ e. e.0) w.links))) → LinksAgree w
-links_agree w rise all single =
-    let sorted : IsTrue (is_numbered w.links) = numbered_from w.links rise in
+abbrev pub FitsThere : World → ℤ → Type 0
+FitsThere w c = (k : Link) → at w.links c ≡ Some k → IsTrue (link_fits w c k)
+
+pub links_agree : (w : World) (numbers persons list : List ℤ) → numbers ≡ map (λ e. e.0) w.links → IsStrictlySortedBy int_cmp numbers → All (FitsThere w) numbers
+    → persons ≡ map (λ c. person_of (at w.links c)) numbers → list ≡ persons → IsTrue (once list) → LinksAgree w
+links_agree w numbers persons list are rise all found_persons same single =
+    let sorted : IsTrue (is_numbered w.links) = numbered_from w.links (subst (λ (cs : List ℤ). IsStrictlySortedBy int_cmp cs) are rise) in
+    let whole : All (FitsThere w) (map (λ e. e.0) w.links) = subst (λ (cs : List ℤ). All (FitsThere w) cs) are all in
+    let those : list ≡ map (λ e. (e.1).person) w.links = same ∙ found_persons ∙ ap (map (λ c. person_of (at w.links c))) are ∙ persons_found w.links sorted in
     record {
       links_in_order = sorted;
-      links = λ c k e. of_each (λ d. (l : Link) → at w.links d ≡ Some l → IsTrue (link_fits w d l)) w.links all c k e k e;
-      persons = subst (λ ps. IsTrue (once ps)) (persons_found w.links sorted) single;
+      links = λ c k e. of_each (FitsThere w) w.links whole c k e k e;
+      persons = subst (λ (ps : List ℤ). IsTrue (once ps)) those single;
     }

@@ -24,7 +24,8 @@ pub fn all_agree(
     ensures { IfOk result (λ b. IsTrue b → All (λ o. (x : Meant) → object_at draft.now o ≡ Some x → ObjectAgrees family.now.ranks whereabouts.now.ranks draft.now o x) numbers.now) }
 {
     for number in numbers {
-        if !agrees_at(alloc, draft, family, whereabouts, *number)? {
+        let agrees = agrees_at(alloc, draft, family, whereabouts, *number)?;
+        if !agrees {
             return Ok(false);
         }
     }

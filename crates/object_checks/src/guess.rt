@@ -13,7 +13,12 @@ pub struct Guess {
 }
 
 /// A guess that is right if there is a right one.
-pub fn guess(alloc: Global, draft: &Draft, numbers: &[i32], way: Way) -> Result<Guess, AllocError> {
+pub fn guess_along(
+    alloc: Global,
+    draft: &Draft,
+    numbers: &[i32],
+    way: Way,
+) -> Result<Guess, AllocError> {
     let ranks = ranks(alloc, draft, numbers, way)?;
     let places = places(alloc, draft, numbers, way)?;
     Ok(Guess { ranks, places })

@@ -1,16 +1,19 @@
 //! Whether the slots of an object are those of its parent and of what it defines.
-ghost use Rattle.std.specs.Prelude.{IfOk, IsTrue, is_some};
+ghost use Rattle.std.specs.Prelude.{◌≡◌, [], map, IfOk, IsTrue, is_some};
 ghost use Rattle.std.specs.List.{list_all};
 ghost use Rattle.spec_value.specs.Datum.{fold_case};
 ghost use Rattle.spec_value.specs.Table.{named};
 ghost use Rattle.spec_world.specs.Inherit.{content_of};
-ghost use Rattle.spec_world.specs.Locally.{slots_follow};
+ghost use Rattle.spec_world.specs.World.{object_at};
+ghost use Rattle.spec_world.specs.Locally.{names_of, inherited_names, slots_follow};
 
+use crate::way::{Way, up};
 use moo_value::text::Text;
 use std::alloc::{AllocError, Global};
 use table_checks::merge::is_merge;
 use world::draft::Draft;
 use world::object::Object;
+use world::slot::Slot;
 use world::slots::Slots;
 
 /// Whether an object defines each property once, its parent has no slot of that name, and it has a slot for each of these and of its
@@ -25,9 +28,25 @@ pub fn slots_follow(
 {
     let names = object.defines().as_slice();
     let slots = object.slots().as_slice();
-    match draft.object(object.header().parent) {
-        Some(parent) => is_merge(alloc, names, parent.slots().as_slice(), slots),
-        None => is_merge(alloc, names, &slots[..0], slots),
+    let others = inherited(draft, object, &slots[..0]);
+    is_merge(alloc, names, others, slots)
+}
+
+// The slots of the parent, or none.
+fn inherited<'a>(draft: &'a Draft, object: &Object, none: &'a [(Text, Slot)]) -> &'a [(Text, Slot)]
+    requires { none.now ≡ [] }
+    ensures { map (λ e. e.0) result.now ≡ inherited_names draft.now object.now }
+{
+    slots_at(draft, up(Way::Parent, object), none)
+}
+
+fn slots_at<'a>(draft: &'a Draft, number: i32, none: &'a [(Text, Slot)]) -> &'a [(Text, Slot)]
+    requires { none.now ≡ [] }
+    ensures { map (λ e. e.0) result.now ≡ names_of (object_at draft.now number) }
+{
+    match draft.object(number) {
+        Some(object) => object.slots().as_slice(),
+        None => none,
     }
 }
 

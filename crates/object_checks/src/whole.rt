@@ -3,7 +3,7 @@ ghost use Rattle.std.specs.Prelude.{◌&&◌, pos, neg_ℤ, int_le, nat_le, IfOk
 ghost use Rattle.spec_world.specs.Agreeing.{ObjectsAgree};
 
 use crate::agree::all_agree;
-use crate::guess::guess;
+use crate::guess::guess_along;
 use crate::way::Way;
 use std::alloc::{AllocError, Global};
 use table_checks::rise::rise;
@@ -19,17 +19,18 @@ pub fn objects_are_sound(alloc: Global, draft: &Draft) -> Result<bool, AllocErro
 {
     let listed = draft.object_numbers()?;
     let numbers = listed.as_slice();
-    if !rise(numbers) || !is_greatest(draft.greatest()) {
+    if !rise(numbers) || !greatest_is_sound(draft) {
         return Ok(false);
     }
-    let family = guess(alloc, draft, numbers, Way::Parent)?;
-    let whereabouts = guess(alloc, draft, numbers, Way::Location)?;
+    let family = guess_along(alloc, draft, numbers, Way::Parent)?;
+    let whereabouts = guess_along(alloc, draft, numbers, Way::Location)?;
     all_agree(alloc, draft, &family, &whereabouts, numbers)
 }
 
-fn is_greatest(greatest: i32) -> bool
-    ensures { IsTrue result → IsTrue (int_le (neg_ℤ (pos 1)) greatest && int_le greatest (pos 999999)) }
+fn greatest_is_sound(draft: &Draft) -> bool
+    ensures { IsTrue result → IsTrue (int_le (neg_ℤ (pos 1)) draft.now.greatest && int_le draft.now.greatest (pos 999999)) }
 {
+    let greatest = draft.greatest();
     -1 <= greatest && greatest <= LAST_OBJECT
 }
 

@@ -22,8 +22,10 @@ call_holds k path e h f w s =
 pub frame_holds : (k : Kept) → IsTrue (is_named k.variables) → IsTrue (list_all (λ e. is_variable e.0) k.variables) → (f : Frame) → k.variables ≡ f.variables → IsTrue (pieces_fit f.pieces)
     → IsTrue (frame_fits f)
 frame_holds k sorted named f e held =
-    both_hold (is_named f.variables) _ (subst (λ vars. IsTrue (is_named vars)) e sorted)
-    (both_hold (list_all (λ y. is_variable y.0) f.variables) _ (subst (λ vars. IsTrue (list_all (λ y. is_variable y.0) vars)) e named) held)
+    both_hold (is_named f.variables && list_all (λ y. is_variable y.0) f.variables) (pieces_fit f.pieces)
+    (both_hold (is_named f.variables) (list_all (λ y. is_variable y.0) f.variables) (subst (λ vars. IsTrue (is_named vars)) e sorted)
+    (subst (λ vars. IsTrue (list_all (λ y. is_variable y.0) vars)) e named))
+    held
 
 -- for which a verb waits
 pub waiting_holds : (k : Kept) → IsTrue (is_named k.variables) → IsTrue (list_all (λ e. is_variable e.0) k.variables) → OfCall k → (f : Frame) → Waits f k → StandsAtCall f → IsTrue (frame_fits f)

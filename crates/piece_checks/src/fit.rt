@@ -18,6 +18,7 @@ use tree_parts::node::Node;
 
 /// Whether a verb fits that waits at a call of its program: its variables have names that a program can write, and each construct around the
 /// call holds what it must in the part that is under way.
+#[tactic(auto, using(crate::proofs::Calls::waiting_holds))]
 pub fn frame_fits(alloc: Global, frame: &Frame) -> Result<bool, AllocError>
     ensures { IfOk result (λ fits. IsTrue fits → (f : Waiting) → Waits f (kept_of frame.now) → spec.StandsAtCall f → IsTrue (spec.frame_fits f)) }
 {

@@ -1,5 +1,6 @@
+pub mod Alternating
 pub mod Each
+pub mod Forks
 pub mod Natives
-pub mod Order
 pub mod TaskTold
 pub mod Told

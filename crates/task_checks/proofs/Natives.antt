@@ -1,5 +1,5 @@
 -- Arguments of the kinds that a stage of a built-in function has fit it.
-use Rattle.std.proofs.Common.{◌≡◌, sym, refl, subst, ℕ, ◌||◌, List, [], ◌∷◌, IsTrue}
+use Rattle.std.proofs.Common.{◌≡◌, sym, refl, subst, ℕ, List, [], ◌∷◌, IsTrue}
 use Rattle.spec_value.specs.Datum.{Datum, object, text}
 use Rattle.spec_world.specs.World.{NativeName, move_native, create_native, recycle_native, eval_native}
 use Rattle.spec_world.specs.WellFormed.{native_fits}

@@ -1,7 +1,7 @@
 -- What is seen of all that waits is true of the entries of the task.
-use Rattle.std.proofs.Common.{◌≡◌, ap, refl, sym, subst, ℤ, Bool, true, false, List, [], ◌∷◌, Option, Some, None, IsTrue}
+use Rattle.std.proofs.Common.{◌≡◌, refl, sym, subst, ℤ, true, false, List, [], ◌∷◌, Option, Some, None, IsTrue}
 use Rattle.std.specs.List.{list_all}
-use Rattle.spec_world.specs.World.{Entry, frame_entry, native_entry, Waiting, forked, timed, idle, reading_on, Task}
+use Rattle.spec_world.specs.World.{Entry, frame_entry, Waiting, forked, timed, idle, reading_on, Task}
 use Rattle.spec_world.specs.WellFormed.{FramesStand, TaskStands, fork_fits}
 use Rattle.spec_holding.specs.Whole.{entry_spelled}
 use Rattle.moo_code.specs.Machine.{Outer, verb, native, entries}

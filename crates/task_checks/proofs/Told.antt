@@ -1,15 +1,15 @@
 -- What is seen of a machine that waits is true of the entries of its task.
-use Rattle.std.proofs.Common.{◌≡◌, ap, refl, sym, subst, ℕ, suc, ◌≤◌, Bool, true, false, List, [], ◌∷◌, Option, Some, None, IsTrue, ◌&&◌, arith, nat_le}
+use Rattle.std.proofs.Common.{◌≡◌, refl, sym, subst, ℕ, ◌≤◌, List, [], ◌∷◌, Option, Some, None, IsTrue, ◌&&◌, arith, nat_le}
 use Rattle.std.proofs.lemmas.Bool.Decides.{nat_tests}
 use Rattle.std.specs.List.{list_all}
 use Rattle.spec_program.specs.Construct.{Construct, Piece}
 use Rattle.spec_program.specs.Trees.{program_fits}
-use Rattle.spec_world.specs.World.{Frame, Entry, frame_entry, native_entry, Native}
+use Rattle.spec_world.specs.World.{Entry, frame_entry, native_entry, Native}
 use Rattle.spec_world.specs.WellFormed.{begins_with_frame, goes_on_after_frame, frames, entry_fits, native_fits, FramesStand}
 use Rattle.spec_value.proofs.Entries.{both_hold}
 use Rattle.spec_holding.specs.Whole.{entry_spelled}
 use Rattle.moo_code.specs.Machine.{Kept, Outer, verb, native, verbs, entries}
-use Rattle.moo_code.specs.Rebuilding.{entries_of, entry_of, before_all, rebuilt, with_pieces}
+use Rattle.moo_code.specs.Rebuilding.{entries_of, before_all, rebuilt, with_pieces}
 use Rattle.moo_code.specs.Stands.{AllWait}
 use Rattle.moo_code.proofs.Waiting.{same_frames}
 use Rattle.task_checks.specs.Waiting.{begins_with_verb, goes_on_after_verb, AllFit, OutersFit, AllSpelled}

@@ -1,5 +1,5 @@
 -- What is looked at where verbs and built-in functions wait: in which order they stand, what each holds, and whether a text spells its program.
-use Rattle.std.specs.Prelude.{ℕ, suc, ◌≤◌, Bool, true, false, List, [], ◌∷◌, IsTrue}
+use Rattle.std.specs.Prelude.{◌≤◌, Bool, true, false, List, [], ◌∷◌, IsTrue}
 use Rattle.std.specs.List.{AllByRecursion}
 use Rattle.spec_program.specs.Trees.{program_fits}
 use Rattle.spec_world.specs.World.{Frame}

@@ -6,7 +6,7 @@ ghost use Rattle.task_checks.specs.Waiting.{begins_with_verb as begins, is_verb 
 use moo_task::frame::Outer;
 
 /// Whether a verb stands first and last, and no two built-in functions stand together.
-#[tactic(auto, using(crate::proofs::Order::one_verb_more, crate::proofs::Order::one_native_more, crate::proofs::Order::all_seen))]
+#[tactic(auto, using(crate::proofs::Alternating::one_verb_more, crate::proofs::Alternating::one_native_more, crate::proofs::Alternating::all_seen))]
 pub fn begins_with_verb(outers: &[Outer]) -> bool
     ensures { result ≡ begins (outers_of outers.now) }
 {

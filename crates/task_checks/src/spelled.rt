@@ -15,7 +15,9 @@ use tree_checks::tree::tree_is_spelled;
 pub fn task_is_spelled(alloc: Global, task: &Task) -> Result<bool, AllocError>
     ensures { IfOk result (λ spelled. IsTrue spelled → IsTrue (list_all entry_spelled task.now.entries)) }
 {
-    all_spelled(alloc, task.verbs().as_slice())
+    let verbs = task.verbs();
+    let spelled = all_spelled(alloc, verbs.as_slice())?;
+    Ok(spelled)
 }
 
 #[tactic(auto, using(crate::proofs::Each::one_more, crate::proofs::Each::all_of_them))]

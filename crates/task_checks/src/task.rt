@@ -3,9 +3,10 @@ ghost use Rattle.std.specs.Prelude.{◌≡◌, IfOk, IsTrue};
 ghost use Rattle.spec_world.specs.WellFormed.{TaskStands};
 ghost use Rattle.moo_code.specs.Machine.{entries};
 ghost use Rattle.moo_task.specs.Effects.{waiting_of};
+ghost use Rattle.moo_task.specs.Frames.{outer_of};
 ghost use Rattle.moo_task.specs.Keeping.{BeginsAlone};
 ghost use Rattle.moo_task.specs.Waits.{due_at};
-ghost use Rattle.task_checks.specs.Tasks.{is_fork as is_fork_of, entries_fit as entries_fit_of, moment_fits as moment_fits_of, ForkStands};
+ghost use Rattle.task_checks.specs.Tasks.{is_fork as is_fork_of, entries_fit as entries_fit_of, moment_fits as moment_fits_of, ForkStands, BeginsFitting};
 
 use crate::outers::outers_fit;
 use moo_task::effect::Waiting;
@@ -25,19 +26,30 @@ pub fn entries_fit(alloc: Global, task: &Task) -> Result<bool, AllocError>
     ensures { IfOk result (λ fit. IsTrue fit → IsTrue (entries_fit_of task.now.entries)) }
 {
     if is_fork(task.waiting()) {
-        fork_fits(alloc, task.verbs())
+        Ok(fork_fits(task.verbs()))
     } else {
-        outers_fit(alloc, task.verbs())
+        let fit = outers_fit(alloc, task.verbs())?;
+        Ok(fit)
     }
 }
 
 // What waits is known to be one verb at its beginning.
-fn fork_fits(alloc: Global, outers: &Outers) -> Result<bool, AllocError>
-    ensures { IfOk result (λ fits. IsTrue fits → BeginsAlone outers.now → IsTrue (entries_fit_of (entries outers.now))) }
+#[tactic(auto, using(crate::proofs::Forks::one_stored, crate::proofs::Forks::alone_fits))]
+fn fork_fits(outers: &Outers) -> bool
+    ensures { IsTrue result → BeginsAlone outers.now → IsTrue (entries_fit_of (entries outers.now)) }
 {
-    match outers.as_slice().first() {
-        Some(Outer::Verb(frame)) => beginning_fits(alloc, frame),
-        _ => Ok(false),
+    let [only] = outers.as_slice() else {
+        return false;
+    };
+    begins_fitting(only)
+}
+
+fn begins_fitting(outer: &Outer) -> bool
+    ensures { IsTrue result → BeginsFitting (outer_of outer.now) }
+{
+    match outer {
+        Outer::Verb(frame) => beginning_fits(frame),
+        Outer::Native(_) => false,
     }
 }
 

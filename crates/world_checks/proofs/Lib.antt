@@ -1,4 +1,1 @@
-pub mod Fitting
-pub mod Listed
-pub mod Reading
-pub mod Spelling
+pub mod Whole

@@ -2,21 +2,24 @@
 ghost use Rattle.std.specs.Prelude.{IfOk, IsTrue};
 ghost use Rattle.world.specs.Sound.{IsSound};
 
-use crate::spelled::is_spelled;
-use crate::tasks::tasks_are_sound;
-use object_checks::whole::{links_are_sound, objects_are_sound};
+use draft_checks::spelled::is_spelled;
+use draft_checks::tasks::tasks_are_sound;
+use object_checks::links::links_are_sound;
+use object_checks::whole::{next_is_sound, objects_are_sound};
 use std::alloc::{AllocError, Global};
 use world::draft::Draft;
 
 /// Whether a draft may be a world: it is well formed, and texts spell its programs.
+#[tactic(auto, using(crate::proofs::Whole::all_sound))]
 pub fn is_sound(alloc: Global, draft: &Draft) -> Result<bool, AllocError>
     ensures { IfOk result (λ sound. IsTrue sound → IsSound draft.now) }
 {
-    if !objects_are_sound(alloc, draft)? || !links_are_sound(alloc, draft)? {
+    if !next_is_sound(draft) || !objects_are_sound(alloc, draft)? {
         return Ok(false);
     }
-    if !tasks_are_sound(alloc, draft)? {
+    if !links_are_sound(alloc, draft)? || !tasks_are_sound(alloc, draft)? {
         return Ok(false);
     }
-    is_spelled(alloc, draft)
+    let spelled = is_spelled(alloc, draft)?;
+    Ok(spelled)
 }

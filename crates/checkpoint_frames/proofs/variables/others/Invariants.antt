@@ -7,3 +7,6 @@ use Rattle.checkpoint_frames.proofs.variables.others.Given as goal
 
 abbrev pub invariant-loop-left : goal.invariant-loop-left
 invariant-loop-left l = (l.left ≤ length l.further) × (lent_variables l.found.items ≡ others (known l.own) (drop l.left (map variable_of l.further)))
+
+abbrev pub decreases-loop-left : goal.decreases-loop-left
+decreases-loop-left l = l.left

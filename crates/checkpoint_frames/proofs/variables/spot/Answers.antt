@@ -1,6 +1,6 @@
 use Rattle.std.proofs.Common.{◌≡◌, ◌<◌, length, arith, rules, nat_cmp, Less, Equal, Greater}
 use Rattle.std.specs.Cmp.Lexicographic.{slice_cmp}
-use Rattle.checkpoint_frames.proofs.Entries.{lent_before, lent_there, lent_behind, lent_last}
+use Rattle.checkpoint_frames.proofs.Entries.{lent_before, lent_there, lent_behind}
 use Rattle.checkpoint_frames.proofs.variables.spot.Goals as goal
 
 pub returns-in-Less-clause-before : goal.returns-in-Less-clause-before

@@ -5,7 +5,7 @@ use Rattle.spec_world.specs.Checkpoint.{slots_along}
 use Rattle.checkpoint_objects.specs.Lines.{line_of_slot}
 use Rattle.checkpoint_objects.proofs.slot.slots_along.Given as goal
 
-abbrev pub invariant-loop-_step : goal.invariant-loop-_step
-invariant-loop-_step l =
-    map (λ (s : Bor Slot). line_of_slot s.now) l.found.items ++ slots_along l.draft l.number (line (line_bound l.draft - l._step) l.draft l.above)
+abbrev pub invariant-loop-step : goal.invariant-loop-step
+invariant-loop-step l =
+    map (λ (s : Bor Slot). line_of_slot s.now) l.found.items ++ slots_along l.draft l.number (line (line_bound l.draft - l.step) l.draft l.above)
     ≡ slots_along l.draft l.number (ancestors l.draft l.number)

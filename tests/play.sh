@@ -37,7 +37,7 @@ run fixture "$work/key" --workers 64
 wants "the key line alone" 0 '' ''
 
 run "$work/key" "$work/key"
-wants "another world" 2 '' "moo-play: cannot read $work/key\n"
+wants "a script as a world" 2 '' "moo-play: world: line 1: Header\n"
 
 run fixture "$work/none"
 wants "no such script" 2 '' "moo-play: cannot read $work/none\n"
@@ -52,17 +52,12 @@ run fixture
 [ "$status" -eq 2 ] || fail "no script: status $status"
 grep -q '^Usage: moo-play ' "$work/errors" || fail "no script: no usage of moo-play"
 
-# The help names the program, and says that FILE is not written yet.
+# The help names the program.
 run --help
 [ "$status" -eq 0 ] || fail "help: status $status"
 grep -q '^Usage: moo-play ' "$work/out" || fail "help: no usage of moo-play"
-grep -q 'nothing is written' "$work/out" || fail "help: nothing said of --out"
 [ -s "$work/errors" ] && fail "help: $(head -c 200 "$work/errors")"
 
-# FILE is read and unused.
-run fixture "$work/key" --out "$work/file"
-wants "a file for the checkpoint" 0 '' ''
-[ -e "$work/file" ] && fail "a file for the checkpoint was written"
 
 # A word that is not UTF-8 names no file.
 run fixture "$(printf 'caf\351')" --workers 2

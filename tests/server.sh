@@ -60,7 +60,7 @@ run
 [ "$status" -eq 2 ] && grep -q '^Usage: moo-server ' "$work/errors" || fail "no world: status $status, told $(cat "$work/errors")"
 "$server" --help >"$work/out" 2>"$work/errors"
 status=$?
-[ "$status" -eq 0 ] && grep -q '^Usage: moo-server ' "$work/out" && grep -q 'nothing is written' "$work/out" || fail "help: status $status, told $(cat "$work/out")"
+[ "$status" -eq 0 ] && grep -q '^Usage: moo-server ' "$work/out" || fail "help: status $status, told $(cat "$work/out")"
 
 if ! command -v python3 >/dev/null 2>&1; then
     command -v nc >/dev/null 2>&1 || { echo "tests/server.sh: neither python3 nor nc here, so no client connects" >&2; [ "$failures" -eq 0 ]; exit; }

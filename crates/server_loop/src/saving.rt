@@ -2,26 +2,25 @@
 use checkpoint_beside::beside::Beside;
 use checkpoint_beside::encoder::{Encoder, Plain};
 use std::alloc::{AllocError, Global};
+use std::io;
 use std::io::Write;
 use std::rt::Files;
 use std::sync::Arc;
 use std::sync::atomic::{AtomicBool, Ordering};
-use std::thread::{JoinHandle, Parker, Threads};
-use std::{io, thread};
+use std::thread::{Parker, Threads};
 use whole_files::writing::write_file;
 use world::worlds::{Snapshot, World};
 
-/// The file of a server's checkpoints, and the next of them on its way. It is made on one thread and written on another while the server goes on, one
-/// at a time; of the worlds that wait for it the newest alone is kept.
+/// The file of a server's checkpoints, and the next of them on its way. Its text is made on a thread of its own while the
+/// server goes on, one at a time; of the worlds that wait for it the newest alone is kept.
 #[derive(Drop)]
 pub struct Saver {
-    file: Arc<String, Global>,
+    file: String,
     // The world that is to be written next.
     waiting: Option<Snapshot>,
     // Whether the world of the next turn is to be written, as none could be kept or begun.
     is_owed: bool,
     encoding: Option<Beside>,
-    writing: Option<JoinHandle<bool>>,
     signal: Signal,
 }
 
@@ -29,11 +28,10 @@ impl Saver {
     /// Nothing is to be written yet. The bell rings when something has been done.
     pub fn new(alloc: Global, file: &str, bell: &Arc<Parker, Global>) -> Result<Saver, AllocError> {
         Ok(Saver {
-            file: Arc::new(alloc, String::from_str(alloc, file)?)?,
+            file: String::from_str(alloc, file)?,
             waiting: None,
             is_owed: false,
             encoding: None,
-            writing: None,
             signal: Signal {
                 is_done: Arc::new(alloc, AtomicBool::new(false))?,
                 bell: Arc::try_clone(bell)?,
@@ -41,10 +39,10 @@ impl Saver {
         })
     }
 
-    /// Keeps the world if a task asked for that, says what has been written, and goes on with what is to be written.
-    pub fn tend<R: AllocGlobal + Files + Threads + Copy + Send + 'static, E: Write>(
+    /// Keeps the world if a task asked for that, writes what has been made, and goes on with what is to be made.
+    pub fn tend<R: AllocGlobal + Files + Threads, E: Write>(
         &mut self,
-        rt: R,
+        rt: &R,
         world: &World,
         is_asked: bool,
         errors: &mut E,
@@ -53,10 +51,10 @@ impl Saver {
             self.keep(world);
         }
         if self.signal.is_given() {
-            self.go_on(rt, errors);
+            self.write(rt, errors);
         }
-        if self.encoding.is_none() && self.writing.is_none() {
-            self.begin(&rt);
+        if self.encoding.is_none() {
+            self.begin(rt);
         }
     }
 
@@ -86,70 +84,27 @@ impl Saver {
         }
     }
 
-    // A thread has done its work: writes what was encoded, or says how the writing went.
-    fn go_on<R: AllocGlobal + Files + Threads + Copy + Send + 'static, E: Write>(
-        &mut self,
-        rt: R,
-        errors: &mut E,
-    ) {
+    // The thread has done its work: writes the text that it made, and says how that went.
+    fn write<R: AllocGlobal + Files + Threads, E: Write>(&mut self, rt: &R, errors: &mut E) {
         if let Some(encoding) = self.encoding.take() {
-            match encoding.join(&rt) {
-                Ok(text) => self.write(rt, text),
-                Err(_) => say(errors, self.file.as_str(), false),
-            }
-        } else if let Some(writing) = self.writing.take() {
-            say(errors, self.file.as_str(), writing.join(&rt));
-        }
-    }
-
-    // Writes a text on a thread of its own.
-    fn write<R: AllocGlobal + Files + Threads + Copy + Send + 'static>(
-        &mut self,
-        rt: R,
-        text: Vec<u8>,
-    ) {
-        let (Ok(file), Ok(signal)) = (Arc::try_clone(&self.file), self.signal.share()) else {
-            self.is_owed = true;
-            return;
-        };
-        let job = move || {
-            let is_written = write_file(&rt, file.as_str(), text.as_slice()).is_ok();
-            signal.give();
-            is_written
-        };
-        match thread::spawn(&rt, job) {
-            Ok(writing) => self.writing = Some(writing),
-            Err(_) => self.is_owed = true,
+            let is_written = match encoding.join(rt) {
+                Ok(text) => write_file(rt, self.file.as_str(), text.as_slice()).is_ok(),
+                Err(_) => false,
+            };
+            say(errors, self.file.as_str(), is_written);
         }
     }
 
     /// Waits for what is on its way, and writes the last world. Gives whether that went well.
     pub fn end<R: AllocGlobal + Files + Threads, E: Write>(
-        self,
+        mut self,
         rt: &R,
         world: &World,
         errors: &mut E,
     ) -> bool {
-        let Saver {
-            file,
-            encoding,
-            writing,
-            ..
-        } = self;
-        if let Some(encoding) = encoding {
-            if let Ok(text) = encoding.join(rt) {
-                say(
-                    errors,
-                    file.as_str(),
-                    write_file(rt, file.as_str(), text.as_slice()).is_ok(),
-                );
-            }
-        }
-        if let Some(writing) = writing {
-            say(errors, file.as_str(), writing.join(rt));
-        }
-        let is_written = write_world(rt, file.as_str(), world).is_ok();
-        say(errors, file.as_str(), is_written);
+        self.write(rt, errors);
+        let is_written = write_world(rt, self.file.as_str(), world).is_ok();
+        say(errors, self.file.as_str(), is_written);
         is_written
     }
 }

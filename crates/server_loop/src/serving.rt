@@ -140,7 +140,7 @@ fn run_turns<
             return (world, end);
         }
         if let Some(saver) = &mut edge.saver {
-            saver.tend(rt, &world, asks, errors);
+            saver.tend(&rt, &world, asks, errors);
         }
         reached = run_turn(rt, alloc, gate, clock, plan, world, &mut pace, edge);
     }

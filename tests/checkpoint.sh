@@ -1,0 +1,219 @@
+#!/bin/sh
+# Worlds in files, by both programs as they were built: out and in again, tasks that wait, damaged files, files that cannot be read or written, and what a
+# stop in the middle leaves.
+set -u
+root=$(cd "$(dirname -- "$0")/.." && pwd) || exit 2
+play=$root/moo-play
+work=$(mktemp -d) || exit 2
+trap 'rm -rf "$work"' EXIT
+failures=0
+
+fail() {
+    echo "tests/checkpoint.sh: $1" >&2
+    failures=$((failures + 1))
+}
+
+# wants NAME STATUS OUT ERRORS, after a run that left $work/out, $work/errors and the status in $status
+wants() {
+    [ "$status" -eq "$2" ] || fail "$1: status $status, not $2"
+    printf '%b' "$3" | cmp -s - "$work/out" || fail "$1: another output: $(head -c 200 "$work/out")"
+    printf '%b' "$4" | cmp -s - "$work/errors" || fail "$1: another error: $(head -c 200 "$work/errors")"
+}
+
+run() {
+    "$play" "$@" >"$work/out" 2>"$work/errors" </dev/null
+    status=$?
+}
+
+# script NAME LINE..: a script of these lines.
+script() {
+    name=$1 && shift
+    { printf 'key %064d\n' 0; for line in "$@"; do printf '%s\n' "$line"; done; } >"$work/$name"
+}
+
+script none
+script hold 'line 1 hold'
+script wake 'line 1 wake'
+script ready 'ready 1'
+script count 'line 1 count'
+
+# ---- out and in again
+
+run fixture "$work/none" --out "$work/fixture"
+wants "the fixture" 0 '' ''
+[ "$(head -n 2 "$work/fixture")" = "$(printf 'MOO-CHECKPOINT 1\nnext 1')" ] || fail "the fixture begins $(head -n 2 "$work/fixture")"
+[ "$(tail -n 1 "$work/fixture")" = end ] || fail "the fixture ends $(tail -n 1 "$work/fixture")"
+run "$work/fixture" "$work/none" --out "$work/again"
+wants "the fixture again" 0 '' ''
+cmp -s "$work/fixture" "$work/again" || fail "the fixture is another text when it was read"
+[ "$(ls "$work" | grep -c '\.new')" -eq 0 ] || fail "a file was left beside: $(ls "$work")"
+
+# A task that waits in the middle of a list expression goes on through files, by one worker and by two.
+for workers in 1 2; do
+    run fixture "$work/hold" --out "$work/held" --workers $workers
+    wants "hold" 0 'step 1 suspended ticks 1\n+ 1 never\n' ''
+    run "$work/held" "$work/none" --out "$work/again"
+    cmp -s "$work/held" "$work/again" || fail "a world with a task that waits is another text when it was read"
+    # FILE is WORLD.
+    run "$work/again" "$work/wake" --out "$work/again" --workers $workers
+    wants "wake" 0 'step 2 value 0 ticks 2\n' ''
+    run "$work/again" "$work/ready" --out "$work/woken" --workers $workers
+    wants "ready" 0 'step 3 value {1, 5, 3} ticks 2\n' ''
+done
+
+# What a file has is what the world would be.
+script both 'line 1 count' 'line 2 count'
+run fixture "$work/both" --out "$work/counted"
+run fixture "$work/count" --out "$work/once"
+script second 'line 2 count'
+run "$work/once" "$work/second" --out "$work/twice"
+wants "the second count" 0 'step 2 value 2 ticks 5\n' ''
+cmp -s "$work/counted" "$work/twice" || fail "two counts through a file are not two counts"
+
+# The world with nothing in it.
+printf 'MOO-CHECKPOINT 1\nnext 1\ngreatest -1\nending 0\nlinks 0\nobjects 0\ntasks 0\nend\n' >"$work/empty"
+[ "$(wc -c <"$work/empty")" -eq 75 ] || fail "the empty world has $(wc -c <"$work/empty") bytes"
+run "$work/empty" "$work/none" --out "$work/again"
+wants "the empty world" 0 '' ''
+cmp -s "$work/empty" "$work/again" || fail "the empty world is another text when it was read"
+
+# ---- damaged
+
+# damaged NAME TEXT FAULT
+damaged() {
+    printf '%b' "$2" >"$work/damaged"
+    run "$work/damaged" "$work/none" --out "$work/never"
+    wants "$1" 2 '' "moo-play: world: $3\n"
+    [ ! -e "$work/never" ] || fail "$1: a file was written"
+}
+damaged "a needless zero" 'MOO-CHECKPOINT 1\nnext 01\n' 'line 2: Number'
+damaged "no last line" "$(head -n 7 "$work/empty")\\n" 'line 8: Ended'
+damaged "a line behind the last" "$(cat "$work/empty")\\nx\\n" 'line 9: Line'
+damaged "another first line" 'MOO-CHECKPOINT 2\n' 'line 1: Header'
+damaged "no text" '' 'line 1: Ended'
+head -n -1 "$work/fixture" >"$work/damaged"
+lines=$(wc -l <"$work/fixture")
+run "$work/damaged" "$work/none"
+wants "the fixture without its last line" 2 '' "moo-play: world: line $lines: Ended\n"
+
+# Each byte of a world with a task that waits altered in turn, and each proper beginning: refused with a line, or its own text. CHECKPOINT_STEP takes every
+# so manieth byte.
+if command -v python3 >/dev/null 2>&1; then
+    python3 - "$root/crates/moo_play/out/moo_play" "$work" "${CHECKPOINT_STEP:-7}" <<'END' || fail "damaged worlds"
+import os, re, subprocess, sys
+play, work, step = sys.argv[1], sys.argv[2], int(sys.argv[3])
+with open(f"{work}/held", "rb") as file:
+    whole = file.read()
+bad = 0
+def tried(name, text):
+    global bad
+    with open(f"{work}/altered", "wb") as file:
+        file.write(text)
+    if os.path.exists(f"{work}/altered.out"):
+        os.remove(f"{work}/altered.out")
+    done = subprocess.run([play, f"{work}/altered", f"{work}/none", "--out", f"{work}/altered.out"], capture_output=True)
+    if done.returncode == 2 and re.fullmatch(rb"moo-play: world: line [1-9][0-9]*: [A-Z][a-z]+\n", done.stderr):
+        return False
+    if done.returncode == 0:
+        with open(f"{work}/altered.out", "rb") as file:
+            if file.read() == text:
+                return True
+    bad += 1
+    print(f"tests/checkpoint.sh: {name}: status {done.returncode}, told {done.stderr[:200]!r}", file=sys.stderr)
+    return False
+for at in range(0, len(whole), step):
+    for byte in ((whole[at] + 1) % 256, 0, 32):
+        if byte != whole[at]:
+            tried(f"byte {at} altered to {byte}", whole[:at] + bytes([byte]) + whole[at + 1:])
+    if tried(f"the first {at} bytes", whole[:at]):
+        bad += 1
+        print(f"tests/checkpoint.sh: the first {at} bytes are a world", file=sys.stderr)
+sys.exit(1 if bad else 0)
+END
+fi
+
+# ---- what cannot be read or written
+
+run "$work" "$work/none"
+wants "a folder as a world" 2 '' "moo-play: cannot read $work\n"
+run "$work/absent" "$work/absent"
+wants "no such world" 2 '' "moo-play: cannot read $work/absent\n"
+run "$work/none" "$work/absent"
+wants "a faulty world before a script" 2 '' 'moo-play: world: line 1: Header\n'
+run fixture "$work/count" --out "$work"
+wants "a folder as a file" 2 'step 1 value 1 ticks 5\n' "moo-play: cannot write $work\n"
+run fixture "$work/count" --out "$work/absent/file"
+wants "a file in no folder" 2 'step 1 value 1 ticks 5\n' "moo-play: cannot write $work/absent/file\n"
+if [ -e /dev/full ]; then
+    run fixture "$work/count" --out /dev/full
+    wants "a full device" 2 'step 1 value 1 ticks 5\n' 'moo-play: cannot write /dev/full\n'
+    run fixture "$work/count" --out /dev/null
+    wants "no device" 0 'step 1 value 1 ticks 5\n' ''
+    [ -c /dev/null ] || fail "/dev/null is a device no more"
+fi
+cp "$work/fixture" "$work/kept" && chmod 444 "$work/kept"
+run fixture "$work/count" --out "$work/kept"
+wants "a file that nobody may write" 2 'step 1 value 1 ticks 5\n' "moo-play: cannot write $work/kept\n"
+cmp -s "$work/fixture" "$work/kept" || fail "a file that nobody may write was written"
+printf 'old\n' >"$work/real" && ln -s "$work/real" "$work/link"
+run fixture "$work/none" --out "$work/link"
+[ -h "$work/link" ] && cmp -s "$work/fixture" "$work/real" || fail "a link was not followed"
+rm -f "$work/kept"
+
+# A faulty script writes nothing, and a file of somebody beside is not touched.
+script faulty 'lin 1'
+printf 'old\n' >"$work/old" && printf 'mine\n' >"$work/old.new0"
+run fixture "$work/faulty" --out "$work/old"
+[ "$(cat "$work/old")" = old ] || fail "a faulty script wrote a file"
+run fixture "$work/none" --out "$work/old"
+cmp -s "$work/fixture" "$work/old" && [ "$(cat "$work/old.new0")" = mine ] || fail "a file beside was touched"
+
+# A stop in the middle of writing leaves the old file: the file system takes 8 blocks and no more.
+printf 'old\n' >"$work/old"
+{ printf 'key %064d\n' 0; printf 'line 1 ;add_property(#3, "wide", "%03900d", {#2, "r"})\n' 0; } >"$work/large"
+(ulimit -f 8; trap '' XFSZ; exec "$play" fixture "$work/large" --out "$work/old") >"$work/out" 2>"$work/errors" </dev/null
+status=$?
+[ "$(cat "$work/old")" = old ] || fail "a stop in the middle changed the file"
+[ "$status" -ne 0 ] || fail "a file that was too large was written"
+
+# ---- the server
+
+if command -v python3 >/dev/null 2>&1; then
+    "$root/moo-server" --help >/dev/null || fail "the server does not run"
+    for port in 7793 17793 27793 37793 none; do
+        [ "$port" != none ] || { fail "no port is free"; break; }
+        "$root/moo-server" "$work/held" --port "$port" --out "$work/served" >"$work/out" 2>"$work/told" </dev/null &
+        pid=$!
+        time=0
+        while [ "$(wc -l <"$work/told")" -eq 0 ] && kill -0 "$pid" 2>/dev/null && [ "$time" -lt 100 ]; do sleep 0.1; time=$((time + 1)); done
+        grep -q "^moo-server: listening on 127.0.0.1:$port\$" "$work/told" || { wait "$pid"; continue; }
+        timeout 60 python3 - "$port" "$work/served" <<'END' || fail "the client of a server with a file"
+import os, socket, sys, time
+port, served = int(sys.argv[1]), sys.argv[2]
+link = socket.create_connection(("127.0.0.1", port), timeout=10)
+link.sendall(b"connect #4\r\n")
+time.sleep(0.5)
+link.sendall(b";dump_database()\r\n")
+for _ in range(100):
+    if os.path.exists(served): break
+    time.sleep(0.1)
+else:
+    sys.exit("no checkpoint was written")
+with open(served, "rb") as file:
+    text = file.read()
+if not text.startswith(b"MOO-CHECKPOINT 1\n") or not text.endswith(b"\nend\n"): sys.exit("a checkpoint is no whole text")
+link.sendall(b";shutdown()\r\n")
+link.settimeout(10)
+while link.recv(65536): pass
+END
+        wait "$pid"
+        status=$?
+        [ "$status" -eq 0 ] || fail "the server with a file: status $status, told $(cat "$work/told")"
+        [ "$(grep -c "^moo-server: wrote $work/served\$" "$work/told")" -eq 2 ] || fail "the server with a file told $(cat "$work/told")"
+        run "$work/served" "$work/none" --out "$work/again"
+        sed 's/^ending 1$/ending 0/' "$work/served" | cmp -s - "$work/again" || fail "what the server wrote is another text when it was read"
+        break
+    done
+fi
+
+[ "$failures" -eq 0 ]

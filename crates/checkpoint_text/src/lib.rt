@@ -1,5 +1,0 @@
-//! The text of a world.
-#![tactic(auto)]
-
-pub mod encode;
-mod tasks;

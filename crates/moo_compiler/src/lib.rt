@@ -1,7 +1,0 @@
-//! Programs as worlds keep them.
-//!
-//! A `Program` is a source tree with its code, shared by its owners; to contracts it is its tree.
-#![tactic(auto)]
-
-pub mod program;
-mod same;

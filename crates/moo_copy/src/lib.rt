@@ -1,5 +1,0 @@
-//! Copies of trees. Texts and values are shared by a copy and what it was made from, the nodes are not.
-#![tactic(auto)]
-
-pub mod expression;
-pub mod statement;

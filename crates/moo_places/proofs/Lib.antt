@@ -1,3 +1,0 @@
-pub mod Outlined
-pub mod Reached
-pub mod Sought

@@ -1,4 +1,0 @@
-pub mod Lists
-pub mod Targets
-pub mod Texts
-pub mod Depth

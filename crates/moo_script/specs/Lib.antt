@@ -1,4 +1,0 @@
-pub mod Keys
-pub mod Lines
-pub mod Numbers
-pub mod Scripts

@@ -1,3 +1,0 @@
-pub mod Plays
-pub mod Told
-pub mod Writing

@@ -1,4 +1,0 @@
-pub mod Sessions
-pub mod Drafts
-pub mod Texts
-pub mod Refusals

@@ -1,9 +1,0 @@
-//! Sessions: connections over handed-in readers and writers, from bytes to bytes.
-#![tactic(auto)]
-
-pub mod draft;
-pub mod holding;
-mod playing;
-pub mod refused;
-mod telling;
-mod writing;

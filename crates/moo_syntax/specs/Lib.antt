@@ -1,5 +1,0 @@
-pub mod Building
-pub mod Nesting
-pub mod Reading
-pub mod Syntax
-pub mod Views

@@ -1,4 +1,0 @@
-pub mod Cutting
-pub mod Searching
-pub mod Standing
-mod Ascii

@@ -1,9 +1,0 @@
-pub mod Answers
-pub mod Depth
-pub mod Errors
-pub mod Falls
-pub mod Operators
-pub mod Parts
-pub mod Read
-pub mod Shown
-pub mod View

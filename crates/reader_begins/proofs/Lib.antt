@@ -1,2 +1,0 @@
-pub mod TakenJoints
-pub mod Ends

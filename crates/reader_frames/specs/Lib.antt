@@ -1,3 +1,0 @@
-pub mod LeftView
-pub mod FrameViews
-pub mod StateView

@@ -1,4 +1,0 @@
-//! The instructions that ask the world, of a task: where they lead it. Verbs that are found run by their programs for the
-//! machine of the whole language.
-pub mod asking;
-pub mod leading;

@@ -1,4 +1,0 @@
-pub mod Codes
-pub mod Lines
-pub mod OutOfRange
-pub mod Records

@@ -1,4 +1,0 @@
-pub mod Programs
-pub mod Fixture
-pub mod Texts
-pub mod Opened

@@ -1,4 +1,0 @@
-pub mod Trying
-pub mod StepRows
-pub mod Tried
-pub mod Rows

@@ -1,9 +1,0 @@
-pub mod Opened
-pub mod PlaceRows
-pub mod RangeRows
-pub mod LineRows
-pub mod PermissionRows
-pub mod FamilyRows
-pub mod TextRows
-pub mod Told
-pub mod WorldRows

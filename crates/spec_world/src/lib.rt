@@ -1,7 +1,0 @@
-//! The meaning of worlds: objects, tasks and links, inheritance, well-formedness, by definitions alone.
-#![tactic(auto)]
-
-pub mod inheritance;
-pub mod objects;
-pub mod slots;
-pub mod worlds;

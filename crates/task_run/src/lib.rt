@@ -1,5 +1,0 @@
-//! One step of a world, and lists of steps on one thread.
-#![tactic(auto)]
-
-pub mod list;
-pub mod step;

@@ -1,4 +1,0 @@
-mod FixtureIsSound
-mod Adding
-mod RoomsAreSound
-mod ObjectsAreSound

@@ -1,5 +1,0 @@
-pub mod Crossing
-pub mod Rising
-pub mod Rows
-pub mod Roots
-pub mod Walks

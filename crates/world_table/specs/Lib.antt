@@ -1,5 +1,0 @@
-pub mod Branch
-pub mod Contents
-pub mod Entries
-pub mod Falls
-pub mod Held

@@ -1,0 +1,1 @@
+while true; do for p in $(pgrep -f "rattle check --crate-name (scratch_decode|moo_play|moo_daemon) "); do if tr '\0' '\n' < /proc/$p/environ 2>/dev/null | grep -q nothing; then :; fi; pp=$(ps -o ppid= -p $p | tr -d ' '); if grep -qa "try" /proc/$pp/cmdline 2>/dev/null; then kill $p; fi; done; sleep 5; done

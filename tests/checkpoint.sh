@@ -1,5 +1,5 @@
 #!/bin/sh
-# Worlds in files, by both programs as they were built: out and in again, tasks that wait, damaged files, files that cannot be read or written, and what a
+# Worlds in files, by `moo-play` as it was built: out and in again, tasks that wait, damaged files, files that cannot be read or written, and what a
 # stop in the middle leaves.
 set -u
 root=$(cd "$(dirname -- "$0")/.." && pwd) || exit 2
@@ -176,45 +176,5 @@ printf 'old\n' >"$work/old"
 status=$?
 [ "$(cat "$work/old")" = old ] || fail "a stop in the middle changed the file"
 [ "$status" -ne 0 ] || fail "a file that was too large was written"
-
-# ---- the server
-
-if command -v python3 >/dev/null 2>&1; then
-    "$root/moo-server" --help >/dev/null || fail "the server does not run"
-    for port in 7793 17793 27793 37793 none; do
-        [ "$port" != none ] || { fail "no port is free"; break; }
-        "$root/moo-server" "$work/held" --port "$port" --out "$work/served" >"$work/out" 2>"$work/told" </dev/null &
-        pid=$!
-        time=0
-        while [ "$(wc -l <"$work/told")" -eq 0 ] && kill -0 "$pid" 2>/dev/null && [ "$time" -lt 100 ]; do sleep 0.1; time=$((time + 1)); done
-        grep -q "^moo-server: listening on 127.0.0.1:$port\$" "$work/told" || { wait "$pid"; continue; }
-        timeout 60 python3 - "$port" "$work/served" <<'END' || fail "the client of a server with a file"
-import os, socket, sys, time
-port, served = int(sys.argv[1]), sys.argv[2]
-link = socket.create_connection(("127.0.0.1", port), timeout=10)
-link.sendall(b"connect #4\r\n")
-time.sleep(0.5)
-link.sendall(b";dump_database()\r\n")
-for _ in range(100):
-    if os.path.exists(served): break
-    time.sleep(0.1)
-else:
-    sys.exit("no checkpoint was written")
-with open(served, "rb") as file:
-    text = file.read()
-if not text.startswith(b"MOO-CHECKPOINT 1\n") or not text.endswith(b"\nend\n"): sys.exit("a checkpoint is no whole text")
-link.sendall(b";shutdown()\r\n")
-link.settimeout(10)
-while link.recv(65536): pass
-END
-        wait "$pid"
-        status=$?
-        [ "$status" -eq 0 ] || fail "the server with a file: status $status, told $(cat "$work/told")"
-        [ "$(grep -c "^moo-server: wrote $work/served\$" "$work/told")" -eq 2 ] || fail "the server with a file told $(cat "$work/told")"
-        run "$work/served" "$work/none" --out "$work/again"
-        sed 's/^ending 1$/ending 0/' "$work/served" | cmp -s - "$work/again" || fail "what the server wrote is another text when it was read"
-        break
-    done
-fi
 
 [ "$failures" -eq 0 ]

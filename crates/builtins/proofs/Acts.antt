@@ -15,11 +15,11 @@ use Rattle.moo_task.specs.declared.effect.NativeEffect.{NativeEffect}
 use Rattle.moo_task.specs.declared.effect.NativeEffect.TheVariants.{Answers}
 use Rattle.moo_task.specs.declared.running.Running.{Running}
 use Rattle.world.specs.Law.{Goes, Tells}
-use Rattle.builtins_world.specs.Said.{Does, Says, with_programmer}
+use Rattle.builtins_view.specs.Said.{Does, Says, with_programmer}
 use Rattle.builtins.specs.BuiltinsLinksActing.{with_player}
 use Rattle.builtins.specs.Led.{Leads, LeadsOver}
-use Rattle.builtins.specs.Requests.{own_of, said_of}
-use Rattle.builtins.specs.declared.builtin_requests.own.Own.{Own}
+use Rattle.builtins_view.specs.Requests.{own_of, said_of}
+use Rattle.builtins_view.specs.declared.builtin_requests.own.Own.{Own}
 use Rattle.builtins.specs.BuiltinDeedsActing.{scene_for, caller_for, ActsFor}
 
 abbrev Act : Type 0

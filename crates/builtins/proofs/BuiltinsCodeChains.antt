@@ -5,7 +5,7 @@ use Rattle.spec_value.specs.Datum.{Datum, Data, object, list, invalid_argument, 
 use Rattle.spec_program.specs.ReadPrograms.{parsed_lines}
 use Rattle.spec_world.specs.World.{Object, Verb, object_at}
 use Rattle.spec_world.specs.Permissions.{in_place, may, program_verb}
-use Rattle.spec_view.specs.Questions.{verbs_at}
+use Rattle.spec_world.specs.Questions.{verbs_at}
 use Rattle.spec_moo.specs.Scene.{Scene}
 use Rattle.spec_moo.specs.NativeEffect.{Caller, NativeEffect, refuses}
 use Rattle.spec_moo.specs.Natives.Rows.{if_there}

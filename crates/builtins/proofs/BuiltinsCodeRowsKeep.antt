@@ -6,8 +6,8 @@ use Rattle.spec_world.specs.Permissions.{may, program_verb}
 use Rattle.spec_moo.specs.Scene.{Scene}
 use Rattle.spec_moo.specs.Natives.Verbs.{texts_of, programmed, set_verb_code_row}
 use Rattle.rules.specs.Standing.{IsStanding}
-use Rattle.builtins_world.proofs.Keeping.{LeavesWell, Keeping, tested}
-use Rattle.builtins_change.proofs.RowsKeep.{changed_verb, verb_there}
+use Rattle.builtins_view.proofs.Keeping.{LeavesWell, Keeping, tested}
+use Rattle.builtins_view.proofs.RowsKeep.{changed_verb, verb_there}
 
 programmed_keeps : (s : Scene) (o : ℤ) (n : ℕ) (p : Parsed) → IsStanding s.world → LeavesWell (programmed s o n p)
 programmed_keeps s o n (program p) h = changed_verb s.world o n (λ v. record v { program = p }) h

@@ -5,7 +5,7 @@ use Rattle.spec_value.specs.Datum.{Datum, Text, object, text, permission_denied,
 use Rattle.spec_world.specs.World.{World, Object, Header, object_at, reading_on}
 use Rattle.spec_world.specs.Permissions.{may, act_as}
 use Rattle.spec_world.specs.Links.{connection_of, reader_of}
-use Rattle.spec_view.specs.Questions.{header_at}
+use Rattle.spec_world.specs.Questions.{header_at}
 use Rattle.spec_moo.specs.Scene.{Scene, in_world}
 use Rattle.spec_moo.specs.Linking.{link_closed}
 use Rattle.spec_moo.specs.NativeEffect.{Caller, NativeEffect, refuses, waits, becomes}
@@ -20,7 +20,7 @@ use Rattle.moo_task.specs.declared.effect.NativeEffect as N
 use Rattle.moo_task.specs.declared.deeds.Deeds.{Deeds}
 use Rattle.moo_task.specs.declared.effect.NativeEffect.TheVariants.{Answers, Becomes}
 use Rattle.world.specs.Law.{Goes, Tells}
-use Rattle.builtins_world.specs.Said.{with_programmer}
+use Rattle.builtins_view.specs.Said.{with_programmer}
 use Rattle.builtins.specs.BuiltinsLinksActing.{Acts, with_player}
 use Rattle.builtins.specs.Refused.{IsRefusal}
 use Rattle.builtins.specs.Lines.{line_sent}

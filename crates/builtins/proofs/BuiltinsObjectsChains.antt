@@ -3,7 +3,7 @@ use Rattle.std.proofs.Common.{◌≡◌, ℤ, Bool, true, false, not, ◌&&◌, 
 use Rattle.std.specs.Prelude.{option_map, IfOk}
 use Rattle.spec_value.specs.Datum.{ErrorCode}
 use Rattle.spec_world.specs.World.{World, Header, Object, object_at}
-use Rattle.spec_view.specs.Questions.{header_at}
+use Rattle.spec_world.specs.Questions.{header_at}
 use Rattle.spec_moo.specs.Scene.{Scene}
 use Rattle.spec_moo.specs.NativeEffect.{NativeEffect, refuses}
 use Rattle.spec_moo.specs.Natives.Rows.{Check, unless, wants}

@@ -13,7 +13,7 @@ use Rattle.spec_moo.specs.Natives.Rows.{is_valid, is_valid_or_none}
 use Rattle.spec_moo.specs.Natives.Objects.{chparent_row}
 use Rattle.rules.specs.Standing.{IsStanding}
 use Rattle.rules.proofs.ObjectsStand.{reparented_stands}
-use Rattle.builtins_world.proofs.Keeping.{Keeping, tested}
+use Rattle.builtins_view.proofs.Keeping.{Keeping, tested}
 
 pub not_so : (b : Bool) → not b ≡ true → b ≡ false
 not_so true h = cc

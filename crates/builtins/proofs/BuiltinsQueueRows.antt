@@ -5,7 +5,7 @@ use Rattle.spec_value.specs.Answer.{gives}
 use Rattle.spec_value.specs.Table.{at, with}
 use Rattle.spec_world.specs.World.{World, Task, timed}
 use Rattle.spec_world.specs.Permissions.{may, control_task}
-use Rattle.spec_view.specs.Questions.{apply, new_task}
+use Rattle.spec_world.specs.Questions.{apply, new_task}
 use Rattle.spec_moo.specs.Scene.{Scene, in_world}
 use Rattle.spec_moo.specs.NativeEffect.{Caller, NativeEffect, dies, refuses}
 use Rattle.spec_moo.specs.Natives.Rows.{unless, wants, may_do, if_there, answers_with, zero_value}
@@ -17,7 +17,7 @@ use Rattle.moo_task.specs.Deeds.{scene_of}
 use Rattle.moo_task.specs.declared.deeds.Deeds.{Deeds}
 use Rattle.moo_task.specs.declared.effect.NativeEffect.TheVariants.{Answers, Dies}
 use Rattle.world.specs.Law.{Goes, Tells}
-use Rattle.builtins_world.specs.Said.{with_programmer, Does}
+use Rattle.builtins_view.specs.Said.{with_programmer, Does}
 use Rattle.builtins.specs.BuiltinsQueueActing.{Acts}
 
 -- ---- a task that is there and may be controlled

@@ -17,15 +17,15 @@ use Rattle.spec_world.proofs.WorldTrees.{parents, ancestors_of}
 use Rattle.spec_world.proofs.Households.{Household, household}
 use Rattle.spec_world.proofs.SlotTables.{text_or_not, named_with, with_sorted, named_heirs, heirs_sorted, or_first}
 use Rattle.spec_world.proofs.Reparenting.{slots_above}
-use Rattle.spec_view.specs.Questions.{apply, new_greatest, new_object, is_number}
+use Rattle.spec_world.specs.Questions.{apply, new_greatest, new_object, is_number}
 use Rattle.rules.specs.Lines.{AreAgreeing}
 use Rattle.rules.specs.Standing.{IsStanding}
 use Rattle.rules.proofs.ObjectsStand.{created_stands}
 use Rattle.world.specs.Law.{Goes, Tells}
-use Rattle.builtins.specs.Along.{names_on, with_found, slots_of}
-use Rattle.builtins.specs.Heirs.{heritage}
-use Rattle.builtins.proofs.Inherited.{names_are}
-use Rattle.builtins.proofs.Descent.{same_slots}
+use Rattle.builtins_view.specs.Along.{names_on, with_found, slots_of}
+use Rattle.builtins_view.specs.Heirs.{heritage}
+use Rattle.builtins_view.proofs.Inherited.{names_are}
+use Rattle.builtins_view.proofs.Descent.{same_slots}
 use Rattle.builtins.specs.Children.{put_heirs, child_with, IsNext}
 
 -- ---- slots put one after the other

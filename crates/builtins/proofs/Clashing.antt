@@ -15,7 +15,7 @@ use Rattle.spec_world.proofs.Households.{Household, household}
 use Rattle.spec_world.proofs.Reparenting.{slots_above}
 use Rattle.rules.specs.Below.{IsFamily}
 use Rattle.rules.proofs.Anyone.{any_of, any_is}
-use Rattle.builtins.specs.Clashes.{has_slot, any_slot, any_clashes}
+use Rattle.builtins_view.specs.Clashes.{has_slot, any_slot, any_clashes}
 
 module _ (w : World) (sound : ObjectsAgree w) (p : ℤ) where
   house : Household w

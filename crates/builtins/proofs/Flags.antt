@@ -25,8 +25,8 @@ use Rattle.rules.specs.Lines.{AreAgreeing}
 use Rattle.rules.specs.Standing.{IsStanding}
 use Rattle.rules.proofs.InheritStanding.{objects_stand_for, closed_stands, closed_is_nobodys}
 use Rattle.world.specs.Law.{Goes, Tells}
-use Rattle.builtins_world.specs.Said.{with_programmer}
-use Rattle.builtins_world.proofs.Keeping.{world_left}
+use Rattle.builtins_view.specs.Said.{with_programmer}
+use Rattle.builtins_view.proofs.Keeping.{world_left}
 use Rattle.builtins.specs.BuiltinsLinksActing.{Acts}
 use Rattle.builtins.specs.Flags.{flag_checks, flagged}
 use Rattle.builtins.specs.Verdict.{verdict, by_verdict}

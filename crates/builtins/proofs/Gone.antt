@@ -11,7 +11,7 @@ use Rattle.spec_world.proofs.Trees.{some_same, first_of}
 use Rattle.spec_world.proofs.WorldTrees.{object_there}
 use Rattle.spec_world.proofs.Households.{Household, household, objects_agree}
 use Rattle.spec_world.proofs.Recycling.{child_household, fewer_children}
-use Rattle.spec_view.specs.Questions.{header_at, children_at, contents_at, apply, new_object}
+use Rattle.spec_world.specs.Questions.{header_at, children_at, contents_at, apply, new_object}
 use Rattle.rules.specs.Lines.{AreAgreeing}
 use Rattle.rules.specs.Standing.{IsStanding}
 use Rattle.rules.proofs.InheritStanding.{objects_stand}

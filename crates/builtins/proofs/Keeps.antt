@@ -16,8 +16,8 @@ use Rattle.world.specs.Law.{Goes}
 use Rattle.rules.specs.Lines.{AreAgreeing}
 use Rattle.rules.specs.Standing.{IsStanding}
 use Rattle.rules.proofs.InheritStanding.{quiet_task_stands, task_gone_stands}
-use Rattle.builtins_world.specs.Said.{with_programmer}
-use Rattle.builtins_world.proofs.Keeping.{world_left, LeavesWell, tested, there}
+use Rattle.builtins_view.specs.Said.{with_programmer}
+use Rattle.builtins_view.proofs.Keeping.{world_left, LeavesWell, tested, there}
 use Rattle.builtins.specs.BuiltinsQueueActing.{Acts}
 
 -- ---- worlds

@@ -1,15 +1,4 @@
-pub mod Players
-pub mod Inherited
-pub mod Lines
-pub mod Steps
-pub mod Descent
-pub mod OneHeir
 pub mod Clashing
-pub mod Changing
-pub mod OneChange
-pub mod Slots
-pub mod BuiltinsFamilyChains
-pub mod BuiltinsFamilyRowsKeep
 pub mod BuiltinsLinksRows
 pub mod Linked
 pub mod BuiltinsObjectsChains
@@ -34,7 +23,6 @@ pub mod Ways
 pub mod Telling
 pub mod Refusing
 pub mod Letting
-pub mod Sorts
 pub mod Ending
 pub mod Requested
 pub mod Acts

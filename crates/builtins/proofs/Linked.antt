@@ -20,14 +20,14 @@ use Rattle.spec_world.specs.Links.{connection_among, connection_of}
 use Rattle.spec_world.proofs.Trees.{same_or_not, turned, either}
 use Rattle.spec_world.proofs.TablesKept.{left_numbered}
 use Rattle.spec_world.proofs.WorldsKept.{person_found}
-use Rattle.spec_view.specs.Listings.{connected}
+use Rattle.spec_world.specs.Listings.{connected}
 use Rattle.spec_moo.specs.Scene.{in_world}
 use Rattle.spec_moo.specs.Natives.Rows.{list_value, answers_with}
 use Rattle.spec_moo.specs.Natives.Tasks.{connected_among, connected_players_row}
 use Rattle.world.specs.Law.{Tells}
 use Rattle.rules.specs.Lines.{AreAgreeing}
 use Rattle.rules.specs.Standing.{IsStanding}
-use Rattle.builtins_world.specs.Said.{Says}
+use Rattle.builtins_view.specs.Said.{Says}
 
 abbrev keys : {X : Type 0} → Numbered X → List ℤ
 keys es = map (λ e. e.0) es

@@ -8,7 +8,7 @@ use Rattle.spec_world.specs.World.{World, Header, Object, object_at}
 use Rattle.spec_world.specs.Agreeing.{ObjectsAgree}
 use Rattle.spec_world.specs.Families.{parent_of, clashes, reparented}
 use Rattle.spec_world.proofs.Trees.{same_or_not, some_same}
-use Rattle.spec_view.specs.Questions.{header_at}
+use Rattle.spec_world.specs.Questions.{header_at}
 use Rattle.spec_moo.specs.Scene.{Scene, in_world}
 use Rattle.spec_moo.specs.NativeEffect.{Caller, NativeEffect, answers, refuses}
 use Rattle.spec_moo.specs.Natives.Rows.{unless, wants, answers_with, zero_value}
@@ -16,8 +16,8 @@ use Rattle.spec_moo.specs.Natives.Objects.{another_parent, chparent_row}
 use Rattle.rules.specs.Lines.{AreAgreeing}
 use Rattle.rules.specs.Below.{IsFamily}
 use Rattle.world.specs.Law.{Goes, Tells}
-use Rattle.builtins_world.specs.Said.{Does, with_programmer}
-use Rattle.builtins.specs.Clashes.{any_clashes}
+use Rattle.builtins_view.specs.Said.{Does, with_programmer}
+use Rattle.builtins_view.specs.Clashes.{any_clashes}
 use Rattle.builtins.proofs.Clashing.{clashes_so}
 use Rattle.builtins.specs.Verdict.{verdict, by_verdict}
 use Rattle.builtins.specs.Parents.{parent_checks, adopted}

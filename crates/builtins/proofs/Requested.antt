@@ -3,10 +3,10 @@ use Rattle.std.proofs.Common.{◌≡◌, ℤ, sym, subst}
 use Rattle.spec_value.specs.Answer.{Answer}
 use Rattle.spec_world.specs.World.{World}
 use Rattle.world.specs.Law.{Goes, Tells}
-use Rattle.builtins_world.specs.Said.{Does, Says}
-use Rattle.builtins.specs.Requests.{asking_of, changing_of, said_of}
-use Rattle.builtins.specs.declared.builtin_requests.asking.Asking.{Asking}
-use Rattle.builtins.specs.declared.builtin_requests.changing.Changing.{Changing}
+use Rattle.builtins_view.specs.Said.{Does, Says}
+use Rattle.builtins_view.specs.Requests.{asking_of, changing_of, said_of}
+use Rattle.builtins_view.specs.declared.builtin_requests.asking.Asking.{Asking}
+use Rattle.builtins_view.specs.declared.builtin_requests.changing.Changing.{Changing}
 
 module _ {V : Type 0} (holds : V → World → Type 0) (now : V → World → World) (old new : V) (who : ℤ) (a : Answer) where
   -- whoever asks

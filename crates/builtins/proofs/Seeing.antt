@@ -13,14 +13,14 @@ use Rattle.spec_world.specs.WellFormed.{lists}
 use Rattle.spec_world.specs.Permissions.{is_wizard}
 use Rattle.spec_world.proofs.Trees.{same_or_not}
 use Rattle.spec_world.proofs.Recycling.{below_none}
-use Rattle.spec_view.specs.Listings.{waiting_ids}
+use Rattle.spec_world.specs.Listings.{waiting_ids}
 use Rattle.spec_moo.specs.Scene.{Scene, in_world}
 use Rattle.spec_moo.specs.NativeEffect.{Caller}
 use Rattle.spec_moo.specs.Natives.Rows.{list_value, answers_with}
 use Rattle.spec_moo.specs.Natives.Tasks.{innermost, task_programmer, task_value, listed_tasks, queued_tasks_row}
 use Rattle.world.specs.Law.{Tells}
 use Rattle.rules.specs.Lines.{AreAgreeing}
-use Rattle.builtins_world.specs.Said.{with_programmer, Says}
+use Rattle.builtins_view.specs.Said.{with_programmer, Says}
 use Rattle.builtins.specs.Listed.{seen_task, seen_at, seen_of}
 
 abbrev ids : Numbered Task → List ℤ

@@ -7,7 +7,7 @@ use Rattle.spec_world.specs.World.{World, Call, Header, Object, move_native, obj
 use Rattle.spec_world.specs.Naming.{location_of}
 use Rattle.spec_world.specs.Permissions.{is_wizard}
 use Rattle.spec_world.specs.Whereabouts.{moved}
-use Rattle.spec_view.specs.Questions.{header_at}
+use Rattle.spec_world.specs.Questions.{header_at}
 use Rattle.spec_moo.specs.Scene.{Scene, in_world}
 use Rattle.spec_moo.specs.NativeEffect as N
 use Rattle.spec_moo.specs.Natives.Rows.{answers_with, zero_value}
@@ -19,7 +19,7 @@ use Rattle.moo_task.specs.Effects.{effect_of}
 use Rattle.moo_task.specs.declared.effect.NativeEffect.{NativeEffect}
 use Rattle.moo_task.specs.declared.effect.NativeEffect.TheVariants.{Answers}
 use Rattle.world.specs.Law.{Goes, Tells}
-use Rattle.builtins.proofs.Steps.{both_told}
+use Rattle.builtins_view.proofs.Steps.{both_told}
 use Rattle.builtins.specs.Verdict.{verdict, by_verdict}
 use Rattle.builtins.proofs.BuiltinsObjectsChains.{unless_is}
 use Rattle.builtins.specs.Led.{with_call, Leads, MayBegin}

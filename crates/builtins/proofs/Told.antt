@@ -8,7 +8,7 @@ use Rattle.spec_program.specs.Tree.{Program}
 use Rattle.spec_program.specs.ReadPrograms.{Parsed, program, faulty, Fault}
 use Rattle.spec_world.specs.World.{World, Verb, Call}
 use Rattle.spec_world.specs.Members.{verb_changed}
-use Rattle.spec_view.specs.Questions.{verbs_at}
+use Rattle.spec_world.specs.Questions.{verbs_at}
 use Rattle.spec_moo.specs.Scene.{Scene, in_world}
 use Rattle.spec_moo.specs.NativeEffect.{Caller, answers}
 use Rattle.spec_moo.specs.Natives.Rows.{list_value}
@@ -17,11 +17,11 @@ use Rattle.syntax_fault.specs.declared.fault.FaultKind.{FaultKind}
 use Rattle.syntax_fault.specs.declared.fault.FaultKind.TheVariants as fault
 use Rattle.syntax_fault.specs.declared.fault.SyntaxFault.{SyntaxFault}
 use Rattle.syntax_fault.specs.Meaning.{kind_meant, OfKind, IsFault}
-use Rattle.moo_parse.specs.Answer.{IsAnswer}
+use Rattle.moo_syntax.specs.Answer.{IsAnswer}
 use Rattle.moo_task.specs.Effects.{effect_of}
 use Rattle.moo_task.specs.declared.effect.NativeEffect as effect
 use Rattle.world.specs.Law.{Goes}
-use Rattle.builtins_change.specs.Programs.{with_program}
+use Rattle.builtins_view.specs.Programs.{with_program}
 use Rattle.builtins.specs.Faults.{kind_told, fault_told, refusal_told}
 use Rattle.builtins.specs.Later.{with_call, Programs}
 

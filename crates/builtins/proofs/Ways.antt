@@ -11,7 +11,7 @@ use Rattle.spec_world.specs.Whereabouts.{in_within, is_inside, put_into, moved}
 use Rattle.spec_world.proofs.Trees.{Node, Path, path_from, some_same, first_of}
 use Rattle.spec_world.proofs.WorldTrees.{places, object_there, object_none, short}
 use Rattle.spec_world.proofs.Households.{household}
-use Rattle.spec_view.specs.Questions.{header_at}
+use Rattle.spec_world.specs.Questions.{header_at}
 use Rattle.rules.specs.Lines.{AreAgreeing}
 use Rattle.rules.specs.Standing.{IsStanding}
 use Rattle.rules.proofs.ObjectsStand.{moved_stands}

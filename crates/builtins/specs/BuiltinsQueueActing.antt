@@ -7,7 +7,7 @@ use Rattle.moo_task.specs.Deeds.{scene_of}
 use Rattle.moo_task.specs.Effects.{effect_of}
 use Rattle.moo_task.specs.declared.deeds.Deeds.{Deeds}
 use Rattle.moo_task.specs.declared.effect.NativeEffect.{NativeEffect}
-use Rattle.builtins_world.specs.Said.{with_programmer}
+use Rattle.builtins_view.specs.Said.{with_programmer}
 
 -- from this world it leads to that one, with this effect
 abbrev pub Acts : (Scene → N.Caller → N.NativeEffect) → Deeds → World → ℤ → NativeEffect → World → Type 0

@@ -1,9 +1,3 @@
-pub mod Counting
-pub mod Along
-pub mod Heirs
-pub mod Clashes
-pub mod Defining
-pub mod Slots
 pub mod BuiltinsLinksActing
 pub mod Refused
 pub mod Lines
@@ -19,6 +13,5 @@ pub mod Led
 pub mod Children
 pub mod Moves
 pub mod Recycles
-pub mod Requests
 pub mod BuiltinDeedsActing
 pub mod Stages

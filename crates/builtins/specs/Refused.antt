@@ -8,7 +8,7 @@ use Rattle.spec_moo.specs.NativeEffect.{Caller, NativeEffect, refuses}
 use Rattle.spec_moo.specs.Natives.Rows.{unless, wants, may_do, is_valid}
 use Rattle.moo_value.specs.Errors.{code_of}
 use Rattle.moo_value.specs.declared.error.MooError.{MooError}
-use Rattle.builtins_world.specs.Said.{with_programmer}
+use Rattle.builtins_view.specs.Said.{with_programmer}
 
 abbrev pub refused : Option MooError → Scene → NativeEffect → NativeEffect
 refused None s e = e

@@ -4,12 +4,8 @@
 pub mod builtin_calls;
 pub mod builtin_deeds;
 pub mod builtin_natives;
-pub mod builtin_requests;
 pub mod builtins_code;
-pub mod builtins_family;
 pub mod builtins_links;
 pub mod builtins_objects;
-pub mod builtins_players;
 pub mod builtins_queue;
 pub mod builtins_staged;
-pub mod reparenting;

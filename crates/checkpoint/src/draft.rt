@@ -1,11 +1,11 @@
 //! A draft of a world, from the lines of a text.
-use checkpoint_lines::fault::{DecodeError, FaultKind};
-use checkpoint_lines::lines::Lines;
-use object_records::family::put_objects;
-use object_records::link::next_link;
-use object_records::object::next_objects;
+use crate::checkpoint_lines::fault::{DecodeError, FaultKind};
+use crate::checkpoint_lines::lines::Lines;
+use crate::object_records::family::put_objects;
+use crate::object_records::link::next_link;
+use crate::object_records::object::next_objects;
+use crate::task_records::task::next_task;
 use std::alloc::Global;
-use task_records::task::next_task;
 use world::change::Change;
 use world::draft::Draft;
 

@@ -4,5 +4,10 @@
 //! and its own text is, byte by byte, the one that was read.
 #![tactic(auto)]
 
+pub mod checkpoint_lines;
 pub mod decode;
 mod draft;
+pub mod held_values;
+pub mod object_records;
+pub mod task_records;
+pub mod world_files;

@@ -1,6 +1,6 @@
 use crate::row::{EMPTY, SMALL, text_of};
+use checkpoint::checkpoint_lines::fault::DecodeError;
 use checkpoint::decode::decode;
-use checkpoint_lines::fault::DecodeError;
 use std::alloc::{AllocError, Global};
 use std::test::Fail;
 

@@ -6,10 +6,10 @@ use Rattle.spec_value.specs.Datum.{Text}
 use Rattle.spec_value.specs.Table.{Numbered, is_numbered}
 use Rattle.spec_world.specs.World.{World, Object, Task, Link}
 use Rattle.spec_world.specs.Checkpoint.{counted, link_lines, object_lines, each_object, task_lines, each_task, with_line_ends, checkpoint_text}
-use Rattle.checkpoint_fields.specs.Each.{of_each, of_all}
-use Rattle.checkpoint_fields.proofs.Each.{each_is_all}
-use Rattle.checkpoint_fields.proofs.Joined.{lines_more}
-use Rattle.checkpoint_objects.specs.Lines.{link_line}
+use Rattle.checkpoint_text.specs.Each.{of_each, of_all}
+use Rattle.checkpoint_text.proofs.Each.{each_is_all}
+use Rattle.checkpoint_text.proofs.Joined.{lines_more}
+use Rattle.checkpoint_text.specs.CheckpointObjectsLines.{link_line}
 use Rattle.checkpoint_text.specs.Parts.{head_lines, state_lines, link_part, object_part, task_part}
 
 pub all_links : (es : Numbered Link) → of_all link_line es ≡ link_lines es

@@ -4,10 +4,11 @@ ghost use Rattle.spec_value.specs.Table.{is_numbered};
 ghost use Rattle.spec_world.specs.Checkpoint.{checkpoint_text, with_line_ends};
 ghost use Rattle.checkpoint_text.specs.Parts.{head_lines, link_part, object_part, state_lines, task_part};
 
+use crate::checkpoint_fields::page::Page;
+use crate::checkpoint_objects::link::put_links;
+use crate::checkpoint_objects::object::put_objects;
+use crate::checkpoint_objects::shortcut::shortcuts;
 use crate::tasks::put_tasks;
-use checkpoint_fields::page::Page;
-use checkpoint_objects::link::put_links;
-use checkpoint_objects::object::put_objects;
 use std::alloc::{AllocError, Global};
 use world::draft::Draft;
 
@@ -61,8 +62,9 @@ fn put_object_part(page: &mut Page, alloc: Global, draft: &Draft) -> Result<(), 
     ensures { OnOk result (page.new ≡ page.old ++ with_line_ends (object_part draft.now)) }
 {
     let numbers = draft.object_numbers()?;
+    let shortcuts = shortcuts(alloc, draft, numbers.as_slice())?;
     page.put_count("objects", numbers.as_slice().len())?;
-    put_objects(page, alloc, draft, numbers.as_slice())?;
+    put_objects(page, alloc, draft, &shortcuts, numbers.as_slice())?;
     Ok(())
 }
 

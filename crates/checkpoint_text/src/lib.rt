@@ -1,5 +1,9 @@
 //! The text of a world.
 #![tactic(auto)]
 
+pub mod checkpoint_fields;
+pub mod checkpoint_frames;
+pub mod checkpoint_objects;
+pub mod checkpoint_tasks;
 pub mod encode;
 mod tasks;

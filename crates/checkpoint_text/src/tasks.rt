@@ -2,10 +2,10 @@
 ghost use Rattle.std.specs.Prelude.{◌≡◌, ◌++◌, OnOk};
 ghost use Rattle.spec_value.specs.Table.{at};
 ghost use Rattle.spec_world.specs.Checkpoint.{task_lines, with_line_ends};
-ghost use Rattle.checkpoint_fields.specs.Each.{of_each, of_found};
+ghost use Rattle.checkpoint_text.specs.Each.{of_each, of_found};
 
-use checkpoint_fields::page::Page;
-use checkpoint_tasks::task::put_task;
+use crate::checkpoint_fields::page::Page;
+use crate::checkpoint_tasks::task::put_task;
 use std::alloc::{AllocError, Global};
 use world::draft::Draft;
 

@@ -9,7 +9,7 @@ use Rattle.spec_fixture.specs.Programs.{number, word, object_number, one_given, 
 use Rattle.moo_code.specs.Instruction as code
 use Rattle.moo_code.specs.Instruction.{Operation, push, load, length_of, two, make_list, call_verb, take_item, caught_value, call_function, store, scatter_on, store_default, return_top, return_zero, finish, finish_body, test, test_loop, first_item, next_item, start_fork, continue_loops, end_finally, begin_part, as_value, never, in_variable, in_index, operand_at, target_at, Slot, one_value, other_values, with_default, Sign, in_loop, with_finally, with_handlers, with_code, with_instead}
 use Rattle.moo_code.specs.Layout.{outermost, straight, received, expr_layout, statement_layout}
-use Rattle.moo_bytecode.specs.Drafting.{Draught, own_of, part_of, close_of, gap_of, over}
+use Rattle.moo_program.specs.Drafting.{Draught, own_of, part_of, close_of, gap_of, over}
 
 abbrev pub expression_draft : Expr → List Draught
 expression_draft e = (over (expr_layout outermost e) ([], 0)).0

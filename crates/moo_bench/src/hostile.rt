@@ -1,7 +1,7 @@
 //! Hostile texts of 1 MB: programs and literals that are long, deep or wrong at their end. Each is read once, and what was read is dropped.
 use bench_report::report::{Mode, Subject, since, tell};
 use moo_compiler::program::Program;
-use moo_parse::parse::parse;
+use moo_syntax::parse::parse;
 use moo_value::read::from_literal;
 use std::alloc::{AllocError, Global};
 use std::io;

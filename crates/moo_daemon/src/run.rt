@@ -1,5 +1,6 @@
 //! One run of the program.
 use crate::options::{Options, read_options, read_port};
+use checkpoint::world_files::reading::read_world_file;
 use moo_script::number::read_key;
 use moo_server::command_line::{as_texts, read_words, refuse, refuse_options, refuse_words};
 use moo_server::fixture::fixture;
@@ -14,7 +15,6 @@ use std::rt::{Clock, Env, Files};
 use std::sync::Wait;
 use std::thread::Threads;
 use world::worlds::World;
-use world_files::reading::read_world_file;
 
 /// The program's name.
 const PROGRAM: &str = "moo-server";

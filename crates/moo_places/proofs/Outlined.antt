@@ -3,7 +3,7 @@ use Rattle.std.proofs.Common.{◌≡◌, ℕ, zero, suc, ◌+◌, Bool, List, []
 use Rattle.spec_program.specs.Tree.{Program}
 use Rattle.moo_code.specs.Layout.{Layout, stop, own, inner, gap, Link, front, reception_size, size, entry, link_at, chunk, whole_layout}
 use Rattle.moo_code.specs.Stands.{front_of, link_of, part_of}
-use Rattle.moo_bytecode.specs.Drafting.{count}
+use Rattle.moo_program.specs.Drafting.{count}
 use Rattle.moo_program.specs.Outline.{receives, outline_of}
 use Rattle.moo_program.specs.declared.outline.Step.{Step}
 use Rattle.moo_program.specs.declared.outline.Step.TheVariants.{Own, Part, Close, Gap}

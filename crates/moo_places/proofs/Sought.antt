@@ -5,9 +5,9 @@ use Rattle.spec_program.specs.Tree.{Program}
 use Rattle.spec_program.specs.Construct.{of_program}
 use Rattle.moo_code.specs.Layout.{Layout, stop, own, inner, gap, Link, Reception, straight, received, front, reception_size, size, outermost, layout, whole_layout}
 use Rattle.moo_code.specs.Paths.{below, past, in_or_past, find}
-use Rattle.moo_bytecode.specs.Drafting.{Draught, own_of, part_of, close_of, gap_of, count}
-use Rattle.moo_bytecode.specs.Assembling.{draft_of}
-use Rattle.moo_bytecode.proofs.Assembled.{items_in, items_over, items_count}
+use Rattle.moo_program.specs.Drafting.{Draught, own_of, part_of, close_of, gap_of, count}
+use Rattle.moo_program.specs.Assembling.{draft_of}
+use Rattle.moo_program.proofs.Assembled.{items_in, items_over, items_count}
 use Rattle.moo_program.specs.Outline.{receives, step_of, outline_of}
 use Rattle.moo_program.specs.declared.outline.Step.{Step}
 use Rattle.moo_program.specs.declared.outline.Step.TheVariants.{Own, Part, Close, Gap}

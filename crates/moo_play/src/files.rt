@@ -1,4 +1,5 @@
 //! What the words name: files, and the standard input.
+use checkpoint::world_files::reading::read_world_file;
 use checkpoint_beside::encoder::{Encoder, Plain};
 use moo_server::command_line::cannot_read;
 use moo_server::fixture::fixture;
@@ -8,7 +9,6 @@ use std::rt::Files;
 use std::{fs, io};
 use whole_files::writing::write_file;
 use world::worlds::World;
-use world_files::reading::read_world_file;
 
 /// The fixture, or the world of a file. A file that cannot be read, and one that is no world's text, give the line of that fault.
 pub fn read_world<R: AllocGlobal + Files>(

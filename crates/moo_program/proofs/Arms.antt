@@ -3,8 +3,8 @@ use Rattle.std.proofs.Common.{◌≡◌, ℕ, ◌+◌, ◌<◌, List, [], ◌∷
 use Rattle.std.proofs.lemmas.List.{map-append}
 use Rattle.spec_value.specs.Datum.{Text}
 use Rattle.moo_code.specs.Instruction.{placed, handler_parts}
-use Rattle.moo_bytecode.specs.Drafting.{row_of}
-use Rattle.moo_bytecode.specs.declared.operation.HandlerRow.{HandlerRow}
+use Rattle.moo_program.specs.Drafting.{row_of}
+use Rattle.moo_program.specs.declared.moo_bytecode.operation.HandlerRow.{HandlerRow}
 use Rattle.moo_program.specs.Meaning.{arm_meant, arm_place}
 use Rattle.moo_program.specs.declared.instruction.CatchArm.{CatchArm}
 use Rattle.moo_program.proofs.Lists.{item_last, map_last}

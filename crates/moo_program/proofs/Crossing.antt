@@ -9,8 +9,8 @@ use Rattle.moo_value.proofs.Crossing.{value_send, value_sync, text_send, text_sy
 use Rattle.moo_value.specs.contracts.operator.BinaryOperator as binary
 use Rattle.moo_value.specs.contracts.operator.UnaryOperator as unary
 use Rattle.moo_tree.proofs.Crossing.{tree_send, tree_sync}
-use Rattle.moo_bytecode.specs.contracts.operation.Unraised as unraised
-use Rattle.moo_bytecode.specs.contracts.operation.Way as way
+use Rattle.moo_program.specs.contracts.moo_bytecode.operation.Unraised as unraised
+use Rattle.moo_program.specs.contracts.moo_bytecode.operation.Way as way
 use Rattle.moo_program.specs.contracts.assembly.Assembled as assembled
 use Rattle.moo_program.specs.contracts.compile.Code as code
 use Rattle.moo_program.specs.contracts.outline.Step as outline_step

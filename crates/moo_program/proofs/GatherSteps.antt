@@ -10,9 +10,9 @@ use Rattle.moo_program.specs.Names.{known}
 use Rattle.moo_tree.specs.ExpressionView.{items_of}
 use Rattle.moo_tree.specs.declared.expression.Item.{Item as ScatterItem}
 use Rattle.moo_tree.specs.declared.expression.Item.TheVariants.{Required, Optional, Rest, Default}
-use Rattle.moo_bytecode.specs.Drafting.{item_of, row_of, name_of}
-use Rattle.moo_bytecode.specs.declared.draft.Item.{Item}
-use Rattle.moo_bytecode.specs.declared.operation.HandlerRow.{HandlerRow}
+use Rattle.moo_program.specs.Drafting.{item_of, row_of, name_of}
+use Rattle.moo_program.specs.declared.moo_bytecode.draft.Item.{Item}
+use Rattle.moo_program.specs.declared.moo_bytecode.operation.HandlerRow.{HandlerRow}
 use Rattle.moo_program.specs.Gathering.{draft_names, draft_handled, draft_bodies}
 use Rattle.moo_program.proofs.Gathered.{no_names, with_append, names_next, handled_next, bodies_next}
 use Rattle.moo_program.proofs.Lists.{item_next}

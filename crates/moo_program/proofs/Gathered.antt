@@ -7,8 +7,8 @@ use Rattle.spec_program.specs.Tree.{Program}
 use Rattle.moo_code.specs.Instruction.{Operation, start_fork, Instruction, Handler}
 use Rattle.moo_code.specs.Layout.{Reception, straight, received, Caught, reception_size, receiving}
 use Rattle.moo_code.specs.Names.{with_names, all_names, all_handled, operation_names, handler_names}
-use Rattle.moo_bytecode.specs.Drafting.{Draught, own_of, part_of, close_of, gap_of, opening_size}
-use Rattle.moo_bytecode.specs.Assembling.{Open, opened, innermost, outer, opening_code, code_in, handlers_in}
+use Rattle.moo_program.specs.Drafting.{Draught, own_of, part_of, close_of, gap_of, opening_size}
+use Rattle.moo_program.specs.Assembling.{Open, opened, innermost, outer, opening_code, code_in, handlers_in}
 use Rattle.moo_program.specs.Gathering.{draft_names, draft_handled, draft_bodies, forks_before, forks_in}
 
 pub no_names : (names : List Text) → with_names names [] ≡ names

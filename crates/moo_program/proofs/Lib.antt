@@ -1,3 +1,10 @@
+pub mod ArgumentRows
+pub mod Assembled
+pub mod CatchRows
+pub mod Drafted
+pub mod HandlerRows
+pub mod ScatterRows
+pub mod StatementRows
 pub mod Arms
 pub mod Catching
 pub mod Coding

@@ -1,9 +1,9 @@
 -- Where parts begin.
 use Rattle.std.proofs.Common.{◌≡◌, ◌≢◌, ℕ, zero, suc, ◌+◌, ◌-◌, ◌≤◌, ◌<◌, List, [], ◌∷◌, ◌++◌, drop, map, get_or, length, refl, ap, sym, ◌∙◌, arith}
 use Rattle.std.proofs.lemmas.List.{drop-drop}
-use Rattle.moo_bytecode.specs.Drafting.{Draught, item_of}
-use Rattle.moo_bytecode.specs.declared.draft.Item.{Item}
-use Rattle.moo_bytecode.specs.Assembling.{Open, place_of, scan}
+use Rattle.moo_program.specs.Drafting.{Draught, item_of}
+use Rattle.moo_program.specs.declared.moo_bytecode.draft.Item.{Item}
+use Rattle.moo_program.specs.Assembling.{Open, place_of, scan}
 use Rattle.moo_program.proofs.Lists.{item_next}
 
 pub part_place : (c : Open) (n : ℕ) → n ≢ 0 → place_of c n ≡ get_or c.starts (n - 1) c.end

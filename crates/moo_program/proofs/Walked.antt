@@ -4,10 +4,10 @@ use Rattle.std.specs.Prelude.{take, min}
 use Rattle.std.proofs.lemmas.List.{append_assoc, append-nil, reverse-append, take_min, take-map, take_rest, drop_all}
 use Rattle.moo_code.specs.Instruction.{Operation, Instruction, perform, placed, Handler}
 use Rattle.moo_code.specs.Layout.{Reception, Caught, receiving, reception_size, handler}
-use Rattle.moo_bytecode.specs.Drafting.{Draught, own_of, part_of, close_of, gap_of, opening_size, item_of}
-use Rattle.moo_bytecode.specs.Assembling as assembling
-use Rattle.moo_bytecode.specs.Assembling.{place_of, opened, innermost, outer, opening_code, code_in, handlers_in}
-use Rattle.moo_bytecode.specs.declared.draft.Item.{Item}
+use Rattle.moo_program.specs.Drafting.{Draught, own_of, part_of, close_of, gap_of, opening_size, item_of}
+use Rattle.moo_program.specs.Assembling as assembling
+use Rattle.moo_program.specs.Assembling.{place_of, opened, innermost, outer, opening_code, code_in, handlers_in}
+use Rattle.moo_program.specs.declared.moo_bytecode.draft.Item.{Item}
 use Rattle.moo_program.proofs.Lists.{item_next, map_last}
 use Rattle.moo_program.specs.Opens.{open_of}
 use Rattle.moo_program.specs.Tables.{meant_in, handler_in}

@@ -7,13 +7,13 @@ use Rattle.moo_code.specs.Layout.{size, whole_layout, code_of, handlers_of}
 use Rattle.moo_code.specs.Names.{all_names, all_handled, starting_names, names_of}
 use Rattle.std.specs.Prelude.{reverse, take}
 use Rattle.moo_tree.specs.StatementView.{program_of}
-use Rattle.moo_bytecode.specs.Drafting.{Draught, item_of, state, over}
-use Rattle.moo_bytecode.specs.declared.draft.Draft.{Draft}
-use Rattle.moo_bytecode.specs.declared.draft.Item.{Item}
+use Rattle.moo_program.specs.Drafting.{Draught, item_of, state, over}
+use Rattle.moo_program.specs.declared.moo_bytecode.draft.Draft.{Draft}
+use Rattle.moo_program.specs.declared.moo_bytecode.draft.Item.{Item}
 use Rattle.moo_program.specs.Drafted.{IsDraft}
-use Rattle.moo_bytecode.specs.Assembling.{opened, code_in, handlers_in, draft_of, whole_program}
-use Rattle.moo_bytecode.proofs.Assembled.{assembles_code, assembles_handlers}
-use Rattle.moo_bytecode.proofs.Drafted.{size_over}
+use Rattle.moo_program.specs.Assembling.{opened, code_in, handlers_in, draft_of, whole_program}
+use Rattle.moo_program.proofs.Assembled.{assembles_code, assembles_handlers}
+use Rattle.moo_program.proofs.Drafted.{size_over}
 use Rattle.moo_program.specs.Gathering.{draft_names, draft_handled, draft_bodies, forks_in}
 use Rattle.moo_program.specs.Meaning.{meant, handler_meant}
 use Rattle.moo_program.specs.Tables.{bodies_of}

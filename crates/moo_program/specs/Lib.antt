@@ -1,3 +1,8 @@
+pub mod Assembling
+pub mod Branches
+pub mod Drafting
+pub mod Expressions
+pub mod Handling
 pub mod Compiled
 pub mod Drafted
 pub mod Gathering

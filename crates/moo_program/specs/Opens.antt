@@ -1,5 +1,5 @@
 -- A construct under way.
-use Rattle.moo_bytecode.specs.Assembling as assembling
+use Rattle.moo_program.specs.Assembling as assembling
 use Rattle.moo_program.specs.declared.open.Open.{Open}
 
 abbrev pub open_of : Open → assembling.Open

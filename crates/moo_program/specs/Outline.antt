@@ -2,8 +2,8 @@
 use Rattle.std.specs.Prelude.{List, map, Bool, true, false}
 use Rattle.spec_program.specs.Tree.{Program}
 use Rattle.moo_code.specs.Layout.{Reception, straight, received}
-use Rattle.moo_bytecode.specs.Drafting.{Draught, own_of, part_of, close_of, gap_of}
-use Rattle.moo_bytecode.specs.Assembling.{draft_of}
+use Rattle.moo_program.specs.Drafting.{Draught, own_of, part_of, close_of, gap_of}
+use Rattle.moo_program.specs.Assembling.{draft_of}
 use Rattle.moo_program.specs.declared.outline.Step.{Step}
 use Rattle.moo_program.specs.declared.outline.Step.TheVariants.{Own, Part, Close, Gap}
 

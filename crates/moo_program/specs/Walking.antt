@@ -3,9 +3,9 @@ use Rattle.std.specs.Prelude.{◌≡◌, ℕ, zero, suc, ◌+◌, List, [], ◌�
 use Rattle.std.specs.Borrow.{Bor}
 use Rattle.moo_code.specs.Instruction.{Operation, Instruction, perform, placed, Handler}
 use Rattle.moo_code.specs.Layout.{Reception, Caught, receiving, reception_size, handler}
-use Rattle.moo_bytecode.specs.Drafting.{Draught, opening_size, caught_of}
-use Rattle.moo_bytecode.specs.Assembling.{Open, place_of, opened, innermost, outer, opening_code, code_in, handlers_in}
-use Rattle.moo_bytecode.specs.declared.operation.Caught.{Caught as DraftCaught}
+use Rattle.moo_program.specs.Drafting.{Draught, opening_size, caught_of}
+use Rattle.moo_program.specs.Assembling.{Open, place_of, opened, innermost, outer, opening_code, code_in, handlers_in}
+use Rattle.moo_program.specs.declared.moo_bytecode.operation.Caught.{Caught as DraftCaught}
 use Rattle.moo_program.specs.Opens.{open_of}
 use Rattle.moo_program.specs.Tables.{meant_in, handler_in}
 use Rattle.moo_program.specs.declared.tables.Tables.{Tables}

@@ -1,7 +1,7 @@
 //! Code and handlers, assembled from a draft's first item to the last.
 ghost use Rattle.std.specs.Prelude.{◌≡◌, ◌+◌, ◌∷◌, ◌++◌, [], map, min, IfOk, OnOk};
-ghost use Rattle.moo_bytecode.specs.Drafting.{item_of, operation_of, parts_of, reception_of, caught_of, row_of};
-ghost use Rattle.moo_bytecode.specs.Assembling.{place_of, code_in, handlers_in, innermost, opened};
+ghost use Rattle.moo_program.specs.Drafting.{item_of, operation_of, parts_of, reception_of, caught_of, row_of};
+ghost use Rattle.moo_program.specs.Assembling.{place_of, code_in, handlers_in, innermost, opened};
 ghost use Rattle.moo_code.specs.Instruction.{perform, placed, handler_parts};
 ghost use Rattle.moo_code.specs.Layout.{handler as handler_of, receiving, reception_size};
 ghost use Rattle.moo_program.specs.Meaning.{arm_meant, arm_place, handler_meant};
@@ -13,13 +13,13 @@ ghost use Rattle.moo_program.specs.Walking.{walk_of, with_own, with_part, with_c
 
 use crate::emit::{instruction, narrow, place, some_slot};
 use crate::instruction::{Catch, CatchArm, Handler, Instruction, Part};
+use crate::moo_bytecode::around::next;
+use crate::moo_bytecode::draft::Item;
+use crate::moo_bytecode::operation::{Caught, HandlerRow, Operation, Reception, Sign};
 use crate::names::Names;
 use crate::open::Open;
 use crate::scatter::shared;
 use crate::tables::Tables;
-use moo_bytecode::around::next;
-use moo_bytecode::draft::Item;
-use moo_bytecode::operation::{Caught, HandlerRow, Operation, Reception, Sign};
 use std::alloc::{AllocError, Global};
 
 /// What has been assembled.

@@ -2,7 +2,7 @@
 ghost use Rattle.std.specs.Prelude.{◌≡◌, length, map, reverse, true, IfOk, OnOk};
 ghost use Rattle.std.specs.List.{list_all};
 ghost use Rattle.moo_code.specs.Layout.{code_of};
-ghost use Rattle.moo_bytecode.specs.Drafting.{item_of};
+ghost use Rattle.moo_program.specs.Drafting.{item_of};
 ghost use Rattle.moo_program.specs.Compiled.{IsCode};
 ghost use Rattle.moo_program.specs.Drafted.{IsDraft};
 ghost use Rattle.moo_program.specs.Gathering.{forks_in};
@@ -12,11 +12,11 @@ ghost use Rattle.moo_program.specs.Within.{slots_in, handler_slots_in};
 
 use crate::assembly::{Assembled, assemble};
 use crate::gather::gather;
+use crate::moo_bytecode::around::{Around, Bracketed};
+use crate::moo_bytecode::draft::{Draft, Item};
 use crate::names::count_slots;
 use crate::outline::{Step, outline};
 use crate::within::{handlers_within, instructions_within};
-use moo_bytecode::around::{Around, Bracketed};
-use moo_bytecode::draft::{Draft, Item};
 use moo_copy::statement::copy_program;
 use moo_tree::statement::{Statement, Tree};
 use moo_value::text::Text;

@@ -1,5 +1,5 @@
 //! Instructions as they run: slots stand for variables, and places for the parts to which they lead.
-use moo_bytecode::operation::{KnownCodes, Unraised, Way};
+use crate::moo_bytecode::operation::{KnownCodes, Unraised, Way};
 use moo_value::operator::{BinaryOperator, UnaryOperator};
 use moo_value::text::Text;
 use moo_value::value::Value;

@@ -8,6 +8,7 @@ mod emit;
 mod gather;
 pub mod handlers;
 pub mod instruction;
+pub mod moo_bytecode;
 pub mod names;
 mod open;
 pub mod outline;

@@ -1,13 +1,13 @@
 //! Constructs under way while code is assembled.
 ghost use Rattle.std.specs.Prelude.{◌≡◌, ◌++◌, ◌∷◌, List, map, IfOk};
-ghost use Rattle.moo_bytecode.specs.Drafting.{Draught, item_of};
-ghost use Rattle.moo_bytecode.specs.Assembling.{place_of, scan, opened as opened_of};
+ghost use Rattle.moo_program.specs.Drafting.{Draught, item_of};
+ghost use Rattle.moo_program.specs.Assembling.{place_of, scan, opened as opened_of};
 ghost use Rattle.moo_program.specs.Opens.{open_of};
 
 use crate::instruction::Scatter;
-use moo_bytecode::around::{next, plus};
-use moo_bytecode::draft::Item;
-use moo_bytecode::operation::Reception;
+use crate::moo_bytecode::around::{next, plus};
+use crate::moo_bytecode::draft::Item;
+use crate::moo_bytecode::operation::Reception;
 use std::alloc::{AllocError, Global};
 use std::sync::Arc;
 

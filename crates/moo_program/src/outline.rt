@@ -1,11 +1,11 @@
 //! Which of a program's instructions belong to which construct.
 ghost use Rattle.std.specs.Prelude.{◌≡◌, map, IfOk};
-ghost use Rattle.moo_bytecode.specs.Drafting.{item_of};
+ghost use Rattle.moo_program.specs.Drafting.{item_of};
 ghost use Rattle.moo_program.specs.Outline.{step_of};
 
 use crate::emit::narrow;
-use moo_bytecode::draft::Item;
-use moo_bytecode::operation::Reception;
+use crate::moo_bytecode::draft::Item;
+use crate::moo_bytecode::operation::Reception;
 use std::alloc::{AllocError, Global};
 
 /// A step of an outline. They come in the order of the code.

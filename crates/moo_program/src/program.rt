@@ -11,9 +11,9 @@ ghost use Rattle.moo_program.specs.Within.{slots_in, handler_slots_in};
 
 use crate::compiled::Compiled;
 use crate::instruction::{Handler, Instruction};
+use crate::moo_bytecode::around::plus;
 use crate::names::count_slots;
 use crate::outline::Step;
-use moo_bytecode::around::plus;
 use moo_tree::statement::Tree;
 use moo_value::text::Text;
 use std::alloc::{AllocError, Global};

@@ -4,16 +4,16 @@ ghost use Rattle.std.specs.Arc.{arc_value};
 ghost use Rattle.moo_code.specs.Instruction.{placed};
 ghost use Rattle.moo_code.specs.Layout.{slots_of, default_parts};
 ghost use Rattle.moo_tree.specs.ExpressionView.{items_of};
-ghost use Rattle.moo_bytecode.specs.Assembling.{place_of};
+ghost use Rattle.moo_program.specs.Assembling.{place_of};
 ghost use Rattle.moo_program.specs.Meaning.{slot_meant, part_meant};
 ghost use Rattle.moo_program.specs.Names.{known};
 ghost use Rattle.moo_program.specs.Opens.{open_of};
 
 use crate::emit::{narrow, place, slot};
 use crate::instruction::{Part, Scatter, Slot};
+use crate::moo_bytecode::around::next;
 use crate::names::Names;
 use crate::open::Open;
-use moo_bytecode::around::next;
 use moo_tree::expression::Item;
 use std::alloc::{AllocError, Global};
 use std::sync::Arc;

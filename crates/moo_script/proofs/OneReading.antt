@@ -4,7 +4,7 @@ use Rattle.std.specs.List.{list_all}
 use Rattle.std.proofs.lemmas.Bool.{and_parts}
 use Rattle.std.proofs.lemmas.Bool.Decides.{nat_tests}
 use Rattle.std.proofs.lemmas.List.{ext_get_or}
-use Rattle.spec_step.specs.Step.{Step}
+use Rattle.spec_world.specs.Step.{Step}
 use Rattle.moo_script.specs.declared.fault.LineFault.{LineFault}
 use Rattle.moo_script.specs.declared.fault.LineFault.TheVariants as fault
 use Rattle.moo_script.specs.declared.script.Command.{Command}

@@ -2,7 +2,7 @@
 use Rattle.std.proofs.Common.{◌≡◌, ℕ, ◌+◌, ◌<◌, true, false, nat_eq, IsTrue, IsFalse, List, [], ◌∷◌, ◌++◌, length, take, drop, codes, refl, sym, ap, ◌∙◌, subst, arith, length-append, Result, Ok, Err, IfOk, IfErr}
 use Rattle.std.specs.Cmp.Lexicographic.{pointwise}
 use Rattle.std.proofs.lemmas.List.{append_assoc}
-use Rattle.spec_step.specs.Step.{Step}
+use Rattle.spec_world.specs.Step.{Step}
 use Rattle.moo_script.specs.declared.fault.ScriptFault.{ScriptFault}
 use Rattle.moo_script.specs.declared.fault.ScriptFault.TheVariants as script
 use Rattle.moo_script.specs.declared.fault.LineFault.{LineFault}

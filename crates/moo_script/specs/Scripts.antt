@@ -1,7 +1,7 @@
 -- What a whole script says, and its first fault.
 use Rattle.std.specs.Prelude.{◌≡◌, ℕ, ◌+◌, min, ◌<◌, Bool, not, ◌==◌, List, [], ◌∷◌, ◌++◌, length, codes, IsTrue}
 use Rattle.std.specs.List.{list_all}
-use Rattle.spec_step.specs.Step.{Step}
+use Rattle.spec_world.specs.Step.{Step}
 use Rattle.task_step.specs.StepView.{event_of}
 use Rattle.moo_script.specs.declared.fault.LineFault.{LineFault}
 use Rattle.moo_script.specs.declared.fault.LineFault.TheVariants as fault

@@ -1,6 +1,6 @@
 //! Laws of lines and scripts.
 ghost use Rattle.std.specs.Prelude.{◌≡◌, ℕ, List};
-ghost use Rattle.spec_step.specs.Step.{Step};
+ghost use Rattle.spec_world.specs.Step.{Step};
 ghost use Rattle.moo_script.specs.declared.fault.LineFault.{LineFault};
 ghost use Rattle.moo_script.specs.declared.script.Command.{Command};
 ghost use Rattle.moo_script.specs.Lines.{Says, IsFaulty};

@@ -5,8 +5,8 @@ use Rattle.std.proofs.Math.Seq.{take-length}
 use Rattle.std.proofs.lemmas.Bool.{and_parts, and_from, eqb-true}
 use Rattle.std.specs.Prelude.{max}
 use Rattle.spec_world.specs.World.{World}
-use Rattle.spec_step.specs.Step.{Step, runs_on, RunsOn, AllInRange}
-use Rattle.spec_step.specs.Outcome.{Outcome}
+use Rattle.spec_world.specs.Step.{Step, runs_on, RunsOn, AllInRange}
+use Rattle.spec_world.specs.Outcome.{Outcome}
 use Rattle.spec_moo.specs.Steps.{play1, play}
 use Rattle.spec_moo.proofs.StepWorlds.{next_follows, play_goes_on}
 use Rattle.spec_world.proofs.WorldsKept.{agrees_of}

@@ -2,8 +2,8 @@
 use Rattle.std.proofs.Common.{◌≡◌, ℕ, zero, suc, ◌+◌, ◌<◌, ◌≤◌, List, [], ◌∷◌, ◌++◌, length, get_or, take, Option, Some, None, Result, Ok, Err, OnOk, refl, sym, ap, ◌∙◌, subst, arith, add-one, append_assoc}
 use Rattle.std.specs.Io.KnownBytes.{Keeps, Appends}
 use Rattle.std.proofs.lemmas.List.{append-nil}
-use Rattle.spec_step.specs.Step.{Step}
-use Rattle.spec_step.specs.Outcome.{Outcome}
+use Rattle.spec_world.specs.Step.{Step}
+use Rattle.spec_world.specs.Outcome.{Outcome}
 use Rattle.moo_server.specs.Printed.{outcome_lines, printed}
 
 pub nothing_written : (old : Option (List ℕ)) → Appends old old []

@@ -4,8 +4,8 @@ use Rattle.std.specs.List.{flat_map}
 use Rattle.std.specs.Fmt.{decimal, signed_decimal}
 use Rattle.spec_value.specs.Datum.{Text}
 use Rattle.spec_value.specs.Literal.{literal}
-use Rattle.spec_step.specs.Step.{Step}
-use Rattle.spec_step.specs.Outcome.{Outcome, Result, value_of, raised_by, suspended, reading, ran_out, killed, none, absent, early, ended, Due, at_moment, never, when_read, Queued}
+use Rattle.spec_world.specs.Step.{Step}
+use Rattle.spec_world.specs.Outcome.{Outcome, Result, value_of, raised_by, suspended, reading, ran_out, killed, none, absent, early, ended, Due, at_moment, never, when_read, Queued}
 
 -- how a step ended; values and errors are literals
 abbrev pub result_text : Result → Text

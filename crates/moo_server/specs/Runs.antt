@@ -2,8 +2,8 @@
 use Rattle.std.specs.Prelude.{◌≡◌, ℕ, ◌+◌, ◌≤◌, false, List, length, take, Option, Some, None}
 use Rattle.std.specs.Io.KnownBytes.{Appends}
 use Rattle.spec_world.specs.World.{World}
-use Rattle.spec_step.specs.Step.{Step}
-use Rattle.spec_step.specs.Outcome.{Outcome}
+use Rattle.spec_world.specs.Step.{Step}
+use Rattle.spec_world.specs.Outcome.{Outcome}
 use Rattle.spec_moo.specs.Steps.{play}
 use Rattle.world.specs.Counted.{Counted}
 use Rattle.task_step.specs.declared.partial.Partial.{Partial}

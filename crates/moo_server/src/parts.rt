@@ -1,7 +1,7 @@
 //! A list of steps in parts: the lines of each are written before the next one is run.
 ghost use Rattle.std.specs.Prelude.{◌≡◌, ◌+◌, ◌<◌, ◌≤◌, length, take};
 ghost use Rattle.std.specs.Io.KnownBytes.{Appends};
-ghost use Rattle.spec_step.specs.Step.{RunsOn, AllInRange};
+ghost use Rattle.spec_world.specs.Step.{RunsOn, AllInRange};
 ghost use Rattle.moo_server.specs.Printed.{printed};
 ghost use Rattle.moo_server.specs.Runs.{IsPlayed, EndsIn};
 

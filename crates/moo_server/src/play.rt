@@ -1,7 +1,7 @@
 //! One run of `moo-play`.
 ghost use Rattle.std.specs.Prelude.{◌≡◌, ◌⊎◌, ℕ, List, IfSome, IfOk, IsOk, OnOk, IsTrue, is_some, MatchOption, Some, None};
 ghost use Rattle.std.specs.Io.KnownBytes.{Appends};
-ghost use Rattle.spec_step.specs.Step.{Step, RunsOn, AllInRange};
+ghost use Rattle.spec_world.specs.Step.{Step, RunsOn, AllInRange};
 ghost use Rattle.moo_script.specs.Numbers.{number_value};
 ghost use Rattle.moo_script.specs.Scripts.{IsScript};
 ghost use Rattle.moo_server.specs.Printed.{stopped_line};

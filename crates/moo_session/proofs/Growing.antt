@@ -5,7 +5,7 @@ use Rattle.std.specs.Global.{Global}
 use Rattle.std.proofs.lemmas.List.{map_more, take_more_set, map_push, map-set, length-map, take-set, take-map, get_or-map, get_or-set_same}
 use Rattle.spec_value.specs.Datum.{Text}
 use Rattle.telnet_line.specs.Telnet as telnet
-use Rattle.spec_step.specs.Outcome.{Outcome}
+use Rattle.spec_world.specs.Outcome.{Outcome}
 use Rattle.streams.specs.Writes.{EachWritten, IsBeginning}
 use Rattle.streams.specs.Reads.{EachSpells}
 use Rattle.streams.proofs.Growing.{same_at, rest_stays}

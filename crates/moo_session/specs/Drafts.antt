@@ -1,6 +1,6 @@
 -- Lists of steps in the making.
 use Rattle.std.specs.Prelude.{◌≡◌, ℕ, ◌+◌, List, [], ◌++◌, length, true, false}
-use Rattle.spec_step.specs.Step.{Event, AllInRange}
+use Rattle.spec_world.specs.Step.{Event, AllInRange}
 use Rattle.moo_session.specs.declared.draft.Draft.{Draft}
 use Rattle.moo_session.specs.Sessions.{steps_from}
 

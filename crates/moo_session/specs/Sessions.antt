@@ -3,8 +3,8 @@ use Rattle.std.specs.Prelude.{ℕ, zero, suc, ◌==◌, ℤ, pos, negsuc, if◌t
 use Rattle.spec_value.specs.Datum.{Text}
 use Rattle.telnet_line.specs.Telnet as telnet
 use Rattle.telnet_line.specs.Telnet.{CR, LF}
-use Rattle.spec_step.specs.Step.{Step, Event, open_link, close_link, line_of}
-use Rattle.spec_step.specs.Outcome.{Outcome}
+use Rattle.spec_world.specs.Step.{Step, Event, open_link, close_link, line_of}
+use Rattle.spec_world.specs.Outcome.{Outcome}
 
 -- ---- steps
 

@@ -1,7 +1,7 @@
 //! The steps of a session.
 ghost use Rattle.std.specs.Prelude.{◌≡◌, ◌<◌, ◌∷◌, ◌++◌, [], pos, true, length, string_bytes, OnOk, IfOk, IsFalse, MatchOption};
 ghost use Rattle.spec_value.specs.Datum.{is_text};
-ghost use Rattle.spec_step.specs.Step.{open_link, close_link, line_of};
+ghost use Rattle.spec_world.specs.Step.{open_link, close_link, line_of};
 ghost use Rattle.task_step.specs.StepView.{event_of};
 ghost use Rattle.telnet_line.specs.Events.{events_given, event_of as heard};
 ghost use Rattle.streams.specs.Reads.{all_given};

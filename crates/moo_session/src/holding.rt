@@ -1,7 +1,7 @@
 //! A session, from bytes to bytes.
 ghost use Rattle.std.specs.Prelude.{◌≡◌, ◌<◌, ◌≤◌, ◌⊎◌, ◌↔◌, ◌≢◌, ℕ, List, map, length, false, IfOk, IfErr, IsOk};
-ghost use Rattle.spec_step.specs.Step.{RunsOn, AllInRange};
-ghost use Rattle.spec_step.specs.Outcome.{Outcome as Came};
+ghost use Rattle.spec_world.specs.Step.{RunsOn, AllInRange};
+ghost use Rattle.spec_world.specs.Outcome.{Outcome as Came};
 ghost use Rattle.spec_moo.specs.Steps.{play};
 ghost use Rattle.telnet_line.specs.Telnet.{Event as Heard};
 ghost use Rattle.streams.specs.Reads.{EachSpells, Rises};

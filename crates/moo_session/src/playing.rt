@@ -1,6 +1,6 @@
 //! The list of a session, played.
 ghost use Rattle.std.specs.Prelude.{◌≡◌, ◌<◌, ◌≤◌, length, IfOk, IfErr};
-ghost use Rattle.spec_step.specs.Step.{RunsOn, AllInRange};
+ghost use Rattle.spec_world.specs.Step.{RunsOn, AllInRange};
 ghost use Rattle.spec_moo.specs.Steps.{play};
 ghost use Rattle.streams.specs.Reads.{all_given};
 ghost use Rattle.moo_session.specs.Sessions.{session_steps};

@@ -1,8 +1,6 @@
-pub mod Texts
-pub mod Lowering
-pub mod Scanning
-pub mod Loading
-pub mod Deep
-pub mod TokenLoop
-pub mod Outcomes
-pub mod OneAnswer
+pub mod Lines
+pub mod Ended
+pub mod EndsTell
+pub mod Going
+pub mod Trimmed
+pub mod Answered

@@ -1,5 +1,4 @@
-pub mod Building
-pub mod Nesting
-pub mod Reading
-pub mod Syntax
-pub mod Views
+pub mod Answer
+pub mod Given
+pub mod Ends
+pub mod StandsFor

@@ -1,12 +1,8 @@
-//! Reads programs (Programmer's Manual, "The MOO Programming Language").
+//! Reads programs (Programmer's Manual, "The MOO Programming Language"): from a text to its tree, or to its first fault.
 #![tactic(auto)]
 
-pub mod build;
-pub mod laws;
-pub mod literal;
-pub mod machine;
-pub mod nesting;
+pub mod answer;
+pub mod ending;
 pub mod parse;
-pub mod put;
-pub mod step_error;
-pub mod text;
+pub mod reading;
+pub mod trim;

@@ -1,137 +1,67 @@
-//! From text to tree.
+//! From a text to its tree.
 
-ghost use Rattle.std.specs.Prelude.{◌≡◌, ◌<◌, ◌-◌, List, Some, true, length, IfOk, IfErr};
-ghost use Rattle.std.specs.List.{list_all};
-ghost use Rattle.spec_value.specs.Datum.{Text};
-ghost use Rattle.moo_token.specs.Tokens as tokens;
-ghost use Rattle.moo_token.specs.Tokens.{tokens_in};
+ghost use Rattle.std.specs.Prelude.{◌≡◌, map, IfOk, IfErr};
+ghost use Rattle.spec_program.specs.ReadPrograms as by;
 ghost use Rattle.moo_token.specs.Views.{places};
-ghost use Rattle.moo_grammar.specs.Machine.{reach};
-ghost use Rattle.moo_syntax.specs.Views.{state_of};
-ghost use Rattle.moo_syntax.specs.Reading.{RefusedAt};
-ghost use Rattle.moo_syntax.specs.Syntax.{IsTree, HasFault, line_of, kind_of};
+ghost use Rattle.moo_token.specs.Meaning.{place_meant};
+ghost use Rattle.syntax_fault.specs.Meaning.{IsFaultOrMemory};
+ghost use Rattle.moo_syntax.specs.Answer.{IsAnswer};
+ghost use Rattle.moo_syntax.specs.Given.{given};
 
-use crate::build::{BuildError, statements_of};
-use crate::machine::Machine;
-use crate::nesting::first_deep;
-use crate::step_error::StepError;
-use moo_token::fault::FaultKind as TokenFaultKind;
+use crate::ending::answer;
+use crate::reading::read;
 use moo_token::token::Placed;
 use moo_token::tokens::{Tokens, tokens_of};
 use moo_tree::statement::Tree;
-use std::alloc::Global;
+use std::alloc::{AllocError, Global};
 use syntax_fault::fault::{FaultKind, SyntaxFault};
 
-#[derive(Drop)]
-enum ReadError {
-    Memory,
-    /// The place of the first token with which no program goes on.
-    Fault(usize),
+// The line of the last of some tokens, or 1.
+#[tactic(auto, using(crate::proofs::Lines::no_line_yet, crate::proofs::Lines::one_line_on, crate::proofs::Lines::no_line_left))]
+fn line_of_last(tokens: &[Placed]) -> u64
+    ensures { result ≡ by.last_line (map place_meant (places tokens.now)) }
+{
+    let mut line = 1;
+    for placed in tokens {
+        line = placed.line;
+    }
+    line
 }
 
-// The line of a token, or 0.
-fn line_at(tokens: &[Placed], at: usize) -> u64
-    ensures { result ≡ line_of (places tokens.now) at }
+// The line of a text's last token or fault, or 1.
+fn last_line(tokens: &Tokens) -> u64
+    ensures { result ≡ by.last_line (given tokens.now) }
 {
-    if at < tokens.len() {
-        tokens[at].line
-    } else {
-        0
+    match tokens.fault {
+        Some(fault) => fault.line,
+        None => line_of_last(&tokens.tokens),
     }
 }
 
-fn kind_of(kind: TokenFaultKind) -> FaultKind
-    ensures { result ≡ kind_of kind }
+/// What comes of a program's text: its tree, or its first fault. An `Err` says that memory ran out.
+#[tactic(auto, using(crate::proofs::Answered::answer_is))]
+pub fn answered(alloc: Global, text: &[u8]) -> Result<Result<Tree, SyntaxFault>, AllocError>
+    ensures { IfOk result (λ r. IsAnswer r (by.parsed text.now)) }
 {
-    match kind {
-        TokenFaultKind::Character => FaultKind::Character,
-        TokenFaultKind::Unclosed => FaultKind::Unclosed,
-        TokenFaultKind::Number => FaultKind::Number,
-    }
+    let tokens = tokens_of(alloc, text)?;
+    let last = last_line(&tokens);
+    let state = read(alloc, tokens)?;
+    Ok(answer(state, last))
 }
 
-// The machine after these tokens.
-fn read(alloc: Global, placed: &[Placed]) -> Result<Machine, ReadError>
-    requires { list_all tokens.is_sound (tokens_in (places placed.now)) ≡ true }
-    ensures reached { IfOk result (λ m. reach (tokens_in (places placed.now)) ≡ Some (state_of m)) }
-    ensures refused { IfErr result (λ e. RefusedAt (tokens_in (places placed.now)) e) }
-{
-    let mut machine = Machine::new(alloc);
-    for (place, one) in placed.iter().enumerate() {
-        match machine.step(alloc, &one.token, place) {
-            Ok(()) => {}
-            Err(StepError::Memory) => return Err(ReadError::Memory),
-            Err(StepError::Fault) => return Err(ReadError::Fault(place)),
-        }
-    }
-    Ok(machine)
-}
-
-/// The tree of a program's text.
+/// The tree of a program's text, or the text's first fault.
 ///
-/// The fault of another text is that of the first token after which no program can go on, or of the first node that lies too deep.
+/// A token with which no program goes on comes first, then a statement or an expression that nests too deep, then a loop's name.
+#[tactic(auto, using(crate::proofs::Answered::tree_found, crate::proofs::Answered::fault_found))]
 pub fn parse(alloc: Global, text: &[u8]) -> Result<Tree, SyntaxFault>
-    ensures found { IfOk result (λ tree. IsTree text.now tree) }
-    ensures fault { IfErr result (λ e. HasFault text.now e.kind e.line) }
+    ensures found { IfOk result (λ tree. by.parsed text.now ≡ by.program tree) }
+    ensures fault { IfErr result (λ e. IsFaultOrMemory e (by.parsed text.now)) }
 {
-    let (tokens, fault) = match tokens_of(alloc, text) {
-        Ok(Tokens { tokens, fault }) => (tokens, fault),
-        Err(_) => return Err(SyntaxFault {
+    match answered(alloc, text) {
+        Ok(answer) => answer,
+        Err(_) => Err(SyntaxFault {
             kind: FaultKind::Memory,
             line: 0,
         }),
-    };
-    let machine = match read(alloc, &tokens) {
-        Ok(machine) => machine,
-        Err(ReadError::Memory) => return Err(SyntaxFault {
-            kind: FaultKind::Memory,
-            line: 0,
-        }),
-        Err(ReadError::Fault(at)) => {
-            let line = line_at(&tokens, at);
-            return Err(SyntaxFault {
-                kind: FaultKind::Token,
-                line,
-            });
-        }
-    };
-    match fault {
-        Some(fault) => {
-            let kind = kind_of(fault.kind);
-            return Err(SyntaxFault {
-                kind,
-                line: fault.line,
-            });
-        }
-        None => {}
-    }
-    if !machine.is_done() {
-        let line = line_at(&tokens, tokens.len().saturating_sub(1));
-        return Err(SyntaxFault {
-            kind: FaultKind::Token,
-            line,
-        });
-    }
-    match first_deep(alloc, &machine.out) {
-        Ok(None) => {}
-        Ok(Some(at)) => {
-            let line = line_at(&tokens, at);
-            return Err(SyntaxFault {
-                kind: FaultKind::Nesting,
-                line,
-            });
-        }
-        Err(_) => return Err(SyntaxFault {
-            kind: FaultKind::Memory,
-            line: 0,
-        }),
-    }
-    match statements_of(alloc, &machine.out) {
-        Ok(statements) => Ok(Tree::new(statements)),
-        Err(BuildError::Memory) => Err(SyntaxFault {
-            kind: FaultKind::Memory,
-            line: 0,
-        }),
-        Err(BuildError::Misfit) => unreachable!(),
     }
 }

@@ -5,10 +5,10 @@ use Rattle.std.proofs.Crossing.{crosses}
 use Rattle.moo_value.proofs.Crossing.{value_send, value_sync, text_send, text_sync}
 use Rattle.moo_program.proofs.Crossing.{program_send, program_sync}
 use Rattle.moo_program.specs.contracts.program.Program as program
-use Rattle.moo_machine.specs.contracts.call.Call as call
-use Rattle.moo_machine.specs.contracts.call.Start as start
-use Rattle.moo_machine.specs.contracts.operands.Operands as operands
-use Rattle.moo_machine.specs.contracts.verb.State as state
+use Rattle.moo_task.specs.contracts.moo_machine.call.Call as call
+use Rattle.moo_task.specs.contracts.moo_machine.call.Start as start
+use Rattle.moo_task.specs.contracts.moo_machine.operands.Operands as operands
+use Rattle.moo_task.specs.contracts.moo_machine.verb.State as state
 use Rattle.moo_task.specs.contracts.frame.Frame as frame
 use Rattle.moo_task.specs.contracts.frame.Outer as outer
 use Rattle.moo_task.specs.contracts.native.Native as native

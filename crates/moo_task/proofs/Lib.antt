@@ -1,3 +1,15 @@
+pub mod Next
+pub mod InSlots
+pub mod Taken
+pub mod Operations
+pub mod Traces
+pub mod Received
+pub mod Reading
+pub mod Turning
+pub mod Counted
+pub mod Messages
+pub mod Callers
+pub mod Spelled
 pub mod Beginning
 pub mod Entering
 pub mod Finding
@@ -11,3 +23,5 @@ pub mod Sameness
 pub mod Stacks
 pub mod Stopped
 pub mod Tables
+pub mod Copying
+pub mod Forks

@@ -5,7 +5,7 @@ use Rattle.spec_world.specs.World as world
 use Rattle.spec_moo.specs.Scene.{Scene}
 use Rattle.spec_moo.specs.NativeEffect as native
 use Rattle.moo_value.specs.Answers.{answer_of}
-use Rattle.moo_machine.specs.Meant.{failure_meant}
+use Rattle.moo_task.specs.Meant.{failure_meant}
 use Rattle.moo_task.specs.Frames.{native_of}
 use Rattle.moo_task.specs.declared.effect.NativeEffect.{NativeEffect}
 use Rattle.moo_task.specs.declared.effect.NativeEffect.TheVariants.{Answers, Complains, Begins, Waits, Dies, Becomes}

@@ -1,3 +1,7 @@
+pub mod TracedCode
+pub mod Meant
+pub mod Shown
+pub mod Turns
 pub mod Codes
 pub mod Deeds
 pub mod Effects
@@ -10,3 +14,6 @@ pub mod Laws
 pub mod Sameness
 pub mod UnderWay
 pub mod Waits
+pub mod Copying
+pub mod Forking
+pub mod Queueing

@@ -5,11 +5,11 @@ ghost use Rattle.moo_code.specs.Slots.{starting_slots as starting_slots_of};
 ghost use Rattle.moo_task.specs.Frames.{kept_of, begun};
 
 use crate::frame::Frame;
+use crate::moo_machine::call::{Call, Start};
+use crate::moo_machine::operands::Operands;
+use crate::moo_machine::verb::State;
 use crate::start::SharedStart;
 use crate::variables::SharedVariables;
-use moo_machine::call::{Call, Start};
-use moo_machine::operands::Operands;
-use moo_machine::verb::State;
 use moo_program::program::Program;
 use moo_value::value::Value;
 use std::alloc::{AllocError, Global};

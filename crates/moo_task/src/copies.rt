@@ -5,11 +5,11 @@ ghost use Rattle.moo_task.specs.Frames.{kept_of, native_of, outer_of};
 
 use crate::effect::Waiting;
 use crate::frame::{Frame, Outer};
+use crate::moo_machine::call::Call;
+use crate::moo_machine::operands::Operands;
+use crate::moo_machine::verb::State;
 use crate::native::Native;
 use crate::outers::Outers;
-use moo_machine::call::Call;
-use moo_machine::operands::Operands;
-use moo_machine::verb::State;
 use moo_value::items::copied;
 use moo_value::value::Value;
 use std::alloc::{AllocError, Global};

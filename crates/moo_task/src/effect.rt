@@ -1,7 +1,7 @@
 //! What a built-in function does.
+use crate::moo_machine::call::Call;
+use crate::moo_machine::leaving::Failure;
 use crate::native::Native;
-use moo_machine::call::Call;
-use moo_machine::leaving::Failure;
 use moo_program::program::Program;
 use moo_value::answer::Answer;
 use moo_value::value::Value;

@@ -4,11 +4,11 @@ ghost use Rattle.spec_value.specs.Table.{named};
 ghost use Rattle.moo_code.specs.Names.{names_of};
 ghost use Rattle.moo_task.specs.Frames.{kept_of};
 
+use crate::moo_machine::call::Call;
+use crate::moo_machine::verb::State;
 use crate::native::Native;
 use crate::start::SharedStart;
 use crate::variables::{SharedVariables, value_in};
-use moo_machine::call::Call;
-use moo_machine::verb::State;
 use moo_program::names::{STARTING_NAMES, slot_among};
 use moo_program::program::Program;
 use moo_value::value::Value;
@@ -56,7 +56,7 @@ impl Frame {
     }
 
     /// The place behind the call at which the verb stands. No code is so long that there were no such place.
-    #[tactic(auto, using(moo_machine::proofs::Next::next_place))]
+    #[tactic(auto, using(crate::proofs::Next::next_place))]
     pub fn call_end(&self) -> Result<usize, AllocError>
         ensures { IfOk result (λ end. end ≡ suc self.now.state.place) }
     {

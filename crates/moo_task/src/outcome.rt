@@ -1,6 +1,6 @@
 //! Where an instruction leads a task.
 use crate::effect::Waiting;
-use moo_machine::leaving::{Failure, Leaving};
+use crate::moo_machine::leaving::{Failure, Leaving};
 use moo_value::value::Value;
 
 /// Where an instruction, a call or a stage of a built-in function leads a task.

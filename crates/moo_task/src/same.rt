@@ -8,11 +8,11 @@ ghost use Rattle.moo_task.specs.Sameness.{AgreeAt, AgreeOn, FurtherAgree, SlotsA
 
 use crate::effect::Waiting;
 use crate::frame::{Frame, Outer};
+use crate::moo_machine::call::{Call, Start};
+use crate::moo_machine::operands::Operands;
 use crate::native::{Native, NativeName};
 use crate::outers::Outers;
 use crate::variables::{SharedVariables, Variable, value_in};
-use moo_machine::call::{Call, Start};
-use moo_machine::operands::Operands;
 use moo_program::names::has_slot_among;
 use moo_value::compare::equal;
 use moo_value::text::Text;

@@ -1,7 +1,7 @@
 //! What a command line gave, for all the verbs of a task.
 ghost use Rattle.std.specs.Prelude.{◌≡◌, IfOk};
 
-use moo_machine::call::Start;
+use crate::moo_machine::call::Start;
 use std::alloc::{AllocError, Global};
 use std::marker::Model;
 use std::sync::Arc;

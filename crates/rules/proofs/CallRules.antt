@@ -4,7 +4,7 @@ use Rattle.std.specs.Prelude.{option_map}
 use Rattle.spec_value.specs.Datum.{object, text, Text, Data}
 use Rattle.spec_world.specs.World.{World, Object, Header, object_at}
 use Rattle.spec_world.specs.Inherit.{ancestors}
-use Rattle.spec_view.specs.Questions.{header_at}
+use Rattle.spec_world.specs.Questions.{header_at}
 use Rattle.spec_world.specs.Agreeing.{ObjectsAgree}
 use Rattle.spec_world.specs.VerbNames.{any_spells}
 use Rattle.spec_world.specs.VerbsSought.{Sought, first_on, find_verb}

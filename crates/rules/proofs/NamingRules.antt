@@ -10,7 +10,7 @@ use Rattle.spec_value.specs.TextSearch.{begins}
 use Rattle.spec_value.proofs.Entries.{first_holds, second_holds, both_hold}
 use Rattle.spec_world.specs.World.{World, Object, Header, object_at}
 use Rattle.spec_world.specs.Inherit.{property_value}
-use Rattle.spec_view.specs.Questions.{header_at, contents_at}
+use Rattle.spec_world.specs.Questions.{header_at, contents_at}
 use Rattle.spec_world.specs.Agreeing.{ObjectsAgree}
 use Rattle.spec_world.specs.Naming.{object_number, name_object, by_number, by_words, by_name, contents_of, location_of, name_of, aliases_in, within_reach}
 use Rattle.rules.specs.Numbers.{IsNoObject, IsNumberOf}

@@ -12,7 +12,7 @@ use Rattle.spec_value.proofs.Same.{integer_itself}
 use Rattle.spec_world.specs.World.{World, Object, object_at}
 use Rattle.spec_world.specs.WellFormed.{lists}
 use Rattle.spec_world.specs.Families.{change_at, change_object}
-use Rattle.spec_view.specs.Questions.{Part, apply, new_part, new_slot}
+use Rattle.spec_world.specs.Questions.{Part, apply, new_part, new_slot}
 use Rattle.spec_world.proofs.Trees.{same_or_not}
 use Rattle.spec_world.proofs.Households.{change_numbered}
 use Rattle.spec_world.proofs.ObjectChanges.{at_change}

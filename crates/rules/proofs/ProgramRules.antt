@@ -6,7 +6,7 @@ use Rattle.spec_value.specs.Datum.{Text}
 use Rattle.spec_world.specs.World.{World, Object, Verb, object_at}
 use Rattle.spec_world.specs.Permissions.{may, program_verb}
 use Rattle.spec_world.specs.Naming.{name_object}
-use Rattle.spec_view.specs.Questions.{verbs_at}
+use Rattle.spec_world.specs.Questions.{verbs_at}
 use Rattle.spec_world.specs.VerbNames.{any_spells}
 use Rattle.spec_world.specs.CommandLines as line
 use Rattle.spec_moo.specs.Scene.{Scene}

@@ -9,7 +9,7 @@ use Rattle.spec_world.specs.World.{World, Header, Object, object_at}
 use Rattle.spec_world.specs.WellFormed.{lists}
 use Rattle.spec_world.specs.Agreeing.{ObjectsAgree}
 use Rattle.spec_world.specs.Families.{nowhere, is_below}
-use Rattle.spec_view.specs.Questions.{header_at, children_at}
+use Rattle.spec_world.specs.Questions.{header_at, children_at}
 use Rattle.spec_world.proofs.Trees.{Node, Nodes, Path, IsTree, same_or_not, some_same, path_from, on_path, either, first_of, second_of, listed_alone}
 use Rattle.spec_world.proofs.WorldTrees.{parents, node_there, object_there}
 use Rattle.spec_world.proofs.Households.{household, same_tests}

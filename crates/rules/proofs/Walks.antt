@@ -13,7 +13,7 @@ use Rattle.spec_value.proofs.Entries.{first_holds, second_holds}
 use Rattle.spec_value.proofs.Same.{same_texts}
 use Rattle.spec_world.specs.World.{World, Object, Header, Slot, Verb, object_at}
 use Rattle.spec_world.specs.Inherit.{IsLine, line, line_onto, line_bound, ancestors, slot_of, slot_at, content_of, or_else, first_value, property_value}
-use Rattle.spec_view.specs.Questions.{header_at, verbs_at}
+use Rattle.spec_world.specs.Questions.{header_at, verbs_at}
 use Rattle.spec_world.specs.VerbsSought.{Sought, own_first, found_or, first_on}
 use Rattle.spec_world.specs.WellFormed.{comes_out, ends_above, folded_names, defined_on, has_name, slot_names}
 use Rattle.spec_world.specs.Agreeing.{ObjectsAgree}

@@ -6,7 +6,7 @@ use Rattle.spec_world.specs.World.{World, Object, Header, Slot, object_at}
 use Rattle.spec_world.specs.Inherit.{slot_of, slot_at, with_slot}
 use Rattle.spec_world.specs.Permissions as act
 use Rattle.spec_world.specs.Permissions.{may, is_wizard, owns_or, on_slot, of_object}
-use Rattle.spec_view.specs.Questions.{Change, new_value, new_part, new_header, put_part, header_at, apply, put_value}
+use Rattle.spec_world.specs.Questions.{Change, new_value, new_part, new_header, put_part, header_at, apply, put_value}
 use Rattle.spec_world.specs.Families.{change_at}
 use Rattle.spec_moo.specs.Properties.{BuiltInProperty, own_contents, own_location, built_in, Written, wrote, refused, writing, with_built_in, write_slot, write_built_in, write_valid, write_object, write}
 use Rattle.moo_value.specs.Errors.{code_of}

@@ -3,7 +3,7 @@ use Rattle.std.specs.Prelude.{◌≡◌, ℕ, ℤ, List, [], take, Option, Some,
 use Rattle.spec_world.specs.World.{World}
 use Rattle.spec_world.specs.WellFormed.{lists}
 use Rattle.spec_world.specs.Families.{is_below}
-use Rattle.spec_view.specs.Questions.{children_at}
+use Rattle.spec_world.specs.Questions.{children_at}
 
 abbrev pub among : Option (List ℤ) → List ℤ
 among None = []

@@ -4,7 +4,7 @@ use Rattle.spec_value.specs.Datum.{Text}
 use Rattle.spec_world.specs.World.{World, Verb}
 use Rattle.spec_moo.specs.Scene.{Scene}
 use Rattle.spec_moo.specs.Natives.Verbs.{place_of_word}
-use Rattle.spec_step.specs.Outcome.{Outcome}
+use Rattle.spec_world.specs.Outcome.{Outcome}
 use Rattle.spec_moo.specs.Steps.Programming.{says, begins, not_allowed}
 use Rattle.rules.specs.declared.command_parser.programming.Opening.{Opening}
 use Rattle.rules.specs.declared.command_parser.programming.Opening.TheVariants.{OtherForm, NotSeen, NotAllowed, Collects}

@@ -19,3 +19,6 @@ pub mod Out
 pub mod Running
 pub mod Steps
 pub mod Traces
+pub mod Closing
+pub mod ToldLines
+pub mod Queueing

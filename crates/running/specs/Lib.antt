@@ -11,3 +11,4 @@ pub mod Calls
 pub mod Scenes
 pub mod Steps
 pub mod Stopping
+pub mod Closing

@@ -9,3 +9,4 @@ pub mod moo_stores;
 pub mod moo_targets;
 pub mod moo_unwind;
 pub mod property_parts;
+pub mod step_deeds;

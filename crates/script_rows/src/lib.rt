@@ -8,6 +8,8 @@ mod faults;
 #[cfg(test)]
 mod links;
 #[cfg(test)]
+mod list_rows;
+#[cfg(test)]
 mod long;
 #[cfg(test)]
 mod meetings;
@@ -17,6 +19,8 @@ mod played;
 mod programs;
 #[cfg(test)]
 mod row;
+#[cfg(test)]
+mod row_support;
 #[cfg(test)]
 mod storms;
 #[cfg(test)]

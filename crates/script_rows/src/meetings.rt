@@ -1,6 +1,6 @@
 //! A script by two workers that have to meet.
 use crate::row::{KEY, TWO_COUNTED, TWO_COUNTS, play, script};
-use row_support::meeting::Meeting;
+use crate::row_support::meeting::Meeting;
 use std::test::Fail;
 use world_fixture::fixture::fixture;
 

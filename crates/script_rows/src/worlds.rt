@@ -1,8 +1,8 @@
 //! Worlds before and after a run.
 use crate::row::{KEY, TWO_COUNTED, TWO_COUNTS, play, script};
+use crate::row_support::integers::integer_in;
 use moo_value::text::Text;
 use moo_value::value::Value;
-use row_support::integers::integer_in;
 use speculate::gate::Free;
 use std::alloc::{AllocError, Global};
 use std::sync::Wait;

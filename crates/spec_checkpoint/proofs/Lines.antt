@@ -1,21 +1,30 @@
 -- Each line ends at the first line end.
-use Rattle.std.proofs.Common.{◌≡◌, ℕ, suc, List, [], ◌∷◌, ◌++◌, length, IsTrue, not, ◌==◌, refl, sym, subst, ◌∙◌, arith, append_assoc}
+use Rattle.std.proofs.Common.{◌≡◌, ℕ, suc, List, [], ◌∷◌, ◌++◌, length, IsTrue, not, ◌==◌, Bool, true, refl, eq-eqb, sym, subst, ◌∙◌, arith, append_assoc}
+use Rattle.std.specs.List.{list_all}
 use Rattle.spec_value.specs.Datum.{Text}
 use Rattle.spec_value.proofs.Entries.{first_holds, second_holds}
 use Rattle.spec_world.specs.Checkpoint.{with_line_ends}
 use Rattle.spec_checkpoint.specs.Lines.{is_line, are_lines, LinesReadOnce, WholeLinesReadOnce}
 use Rattle.spec_checkpoint.proofs.Numbers.{head_same, tail_same}
 
-no_end : (c : ℕ) → IsTrue (not (c == 10)) → c ≡ 10 → ⊥
-no_end c h e = let k : IsTrue (not (10 == 10)) = subst (λ d. IsTrue (not (d == 10))) e h in cc
+-- up to the first such character, which stands in neither text
+module _ (stop : ℕ) where
+  abbrev pub is_without : Text → Bool
+  is_without t = list_all (λ c. not (c == stop)) t
+
+  no_stop : (c : ℕ) → IsTrue (not (c == stop)) → c ≡ stop → ⊥
+  no_stop c h e = let k : IsTrue (not (stop == stop)) = subst (λ d. IsTrue (not (d == stop))) e h in let same : stop == stop ≡ true = eq-eqb stop stop refl in cc
+
+  pub cut_same : (t u r s : Text) → IsTrue (is_without t) → IsTrue (is_without u) → t ++ stop ∷ r ≡ u ++ stop ∷ s → (t ≡ u) × (r ≡ s)
+  cut_same [] [] r s h k e = (refl, tail_same stop stop r s e)
+  cut_same [] (d ∷ u) r s h k e = absurd (no_stop d (first_holds (not (d == stop)) (is_without u) k) (sym (head_same stop d r (u ++ stop ∷ s) e)))
+  cut_same (c ∷ t) [] r s h k e = absurd (no_stop c (first_holds (not (c == stop)) (is_without t) h) (head_same c stop (t ++ stop ∷ r) s e))
+  cut_same (c ∷ t) (d ∷ u) r s h k e =
+      let rest = cut_same t u r s (second_holds (not (c == stop)) (is_without t) h) (second_holds (not (d == stop)) (is_without u) k) (tail_same c d (t ++ stop ∷ r) (u ++ stop ∷ s) e) in
+      (λ i. head_same c d (t ++ stop ∷ r) (u ++ stop ∷ s) e i ∷ rest.0 i, rest.1)
 
 pub line_same : (t u r s : Text) → IsTrue (is_line t) → IsTrue (is_line u) → t ++ 10 ∷ r ≡ u ++ 10 ∷ s → (t ≡ u) × (r ≡ s)
-line_same [] [] r s h k e = (refl, tail_same 10 10 r s e)
-line_same [] (d ∷ u) r s h k e = absurd (no_end d (first_holds (not (d == 10)) (is_line u) k) (sym (head_same 10 d r (u ++ 10 ∷ s) e)))
-line_same (c ∷ t) [] r s h k e = absurd (no_end c (first_holds (not (c == 10)) (is_line t) h) (head_same c 10 (t ++ 10 ∷ r) s e))
-line_same (c ∷ t) (d ∷ u) r s h k e =
-    let rest = line_same t u r s (second_holds (not (c == 10)) (is_line t) h) (second_holds (not (d == 10)) (is_line u) k) (tail_same c d (t ++ 10 ∷ r) (u ++ 10 ∷ s) e) in
-    (λ i. head_same c d (t ++ 10 ∷ r) (u ++ 10 ∷ s) e i ∷ rest.0 i, rest.1)
+line_same = cut_same 10
 
 length_same : (m n : ℕ) → suc m ≡ suc n → m ≡ n
 length_same m n e = omega (arith, e)

@@ -1,14 +1,14 @@
 -- A number ends where no digit follows.
-use Rattle.std.proofs.Common.{◌≡◌, ℕ, suc, ◌+◌, ◌<◌, ◌^◌, ◌%◌, pos, negsuc, [], ◌∷◌, ◌++◌, length, IsTrue, Bool, true, false, not, ◌&&◌, refl, ap, sym, subst, arith}
+use Rattle.std.proofs.Common.{◌≡◌, ℕ, zero, suc, ◌/◌, ◌==◌, cond, ◌<◌, ◌^◌, ◌%◌, pos, negsuc, [], ◌∷◌, ◌++◌, length, IsTrue, Bool, true, false, refl, ap, sym, subst, arith}
 use Rattle.std.proofs.lemmas.Bool.Decides.{nat_tests}
-use Rattle.std.proofs.lemmas.List.Folds.{list_all-append}
 use Rattle.std.specs.List.{list_all}
-use Rattle.std.specs.Fmt.{decimal}
-use Rattle.std.proofs.lemmas.Fmt.{decimal_by_steps, decimal_nonempty, decimal_injective}
+use Rattle.std.specs.Fmt.{decimal, digits, digits_onto, digit_glyph}
+use Rattle.std.proofs.lemmas.Fmt.{decimal_nonempty, decimal_injective}
 use Rattle.spec_value.specs.Datum.{Text, in_number_range}
-use Rattle.spec_value.proofs.Entries.{first_holds, second_holds, both_hold}
+use Rattle.spec_value.proofs.Entries.{first_holds, both_hold}
 use Rattle.spec_program.specs.Names.{is_digit}
 use Rattle.spec_checkpoint.specs.Codes.{ends_number, NumbersReadOnce, SignedReadOnce}
+use Rattle.spec_checkpoint.proofs.Runs.{runs_read_once, stops}
 
 pub head_same : (a b : ℕ) (r s : Text) → (a ∷ r) ≡ (b ∷ s) → a ≡ b
 head_same a b r s e = cc
@@ -19,33 +19,35 @@ tail_same a b r s e = cc
 abbrev pub are_digits : Text → Bool
 are_digits t = list_all is_digit t
 
-digit_of : (n : ℕ) → n < 10 → IsTrue (is_digit (48 + n))
-digit_of n h = grind (arith, nat_tests)
+glyph_digit : (d : ℕ) → d < 10 → IsTrue (is_digit (digit_glyph false d))
+glyph_digit d h = grind (arith, nat_tests)
 
-pub decimal_digits : (n : ℕ) → n < 2 ^ 64 → IsTrue (are_digits (decimal n))
-decimal_digits =
-    decimal_by_steps (λ n ds. IsTrue (are_digits ds)) (λ n h. both_hold (is_digit (48 + n)) true (digit_of n h) refl)
-    (λ n ds le before. subst (λ b. IsTrue b) (sym (list_all-append is_digit ds ((48 + n % 10) ∷ []))) (both_hold (are_digits ds) (is_digit (48 + n % 10) && true) before (both_hold (is_digit (48 + n % 10)) true (digit_of (n % 10) (omega arith)) refl)))
+digits_onto_digits : (k n : ℕ) (acc : Text) → IsTrue (are_digits acc) → IsTrue (are_digits (digits_onto k 10 false n acc))
+digits_onto_digits zero n acc h = h
+digits_onto_digits (suc k) n acc h =
+    let one : IsTrue (are_digits (digit_glyph false (n % 10) ∷ acc)) = both_hold (is_digit (digit_glyph false (n % 10))) (are_digits acc) (glyph_digit (n % 10) (omega arith)) h in
+    go (n / 10 == 0) one (digits_onto_digits k (n / 10) (digit_glyph false (n % 10) ∷ acc) one)
+  where
+    go : (b : Bool) → IsTrue (are_digits (digit_glyph false (n % 10) ∷ acc)) → IsTrue (are_digits (digits_onto k 10 false (n / 10) (digit_glyph false (n % 10) ∷ acc)))
+        → IsTrue (are_digits (cond b (digit_glyph false (n % 10) ∷ acc) (digits_onto k 10 false (n / 10) (digit_glyph false (n % 10) ∷ acc))))
+    go true one more = one
+    go false one more = more
 
-not_both : (b : Bool) → IsTrue b → IsTrue (not b) → ⊥
-not_both true h k = cc
-not_both false h k = cc
+-- of a number of any size
+pub decimal_digits : (n : ℕ) → IsTrue (are_digits (decimal n))
+unfolding digits
+decimal_digits n = digits_onto_digits 64 n [] refl
 
-pub runs_same : (ds es r s : Text) → IsTrue (are_digits ds) → IsTrue (are_digits es) → IsTrue (ends_number r) → IsTrue (ends_number s) → ds ++ r ≡ es ++ s → (ds ≡ es) × (r ≡ s)
-runs_same [] [] r s h k f g e = (refl, e)
-runs_same [] (d ∷ es) r s h k f g e =
-    let n : IsTrue (ends_number (d ∷ (es ++ s))) = subst (λ t. IsTrue (ends_number t)) e f in
-    absurd (not_both (is_digit d) (first_holds (is_digit d) (are_digits es) k) n)
-runs_same (c ∷ ds) [] r s h k f g e =
-    let n : IsTrue (ends_number (c ∷ (ds ++ r))) = subst (λ t. IsTrue (ends_number t)) (sym e) g in
-    absurd (not_both (is_digit c) (first_holds (is_digit c) (are_digits ds) h) n)
-runs_same (c ∷ ds) (d ∷ es) r s h k f g e =
-    let rest = runs_same ds es r s (second_holds (is_digit c) (are_digits ds) h) (second_holds (is_digit d) (are_digits es) k) f g (tail_same c d (ds ++ r) (es ++ s) e) in
-    (λ i. head_same c d (ds ++ r) (es ++ s) e i ∷ rest.0 i, rest.1)
+stops_digits : (r : Text) → IsTrue (ends_number r) → IsTrue (stops is_digit r)
+stops_digits [] h = refl
+stops_digits (c ∷ r) h = h
+
+runs_same : (ds es r s : Text) → IsTrue (are_digits ds) → IsTrue (are_digits es) → IsTrue (ends_number r) → IsTrue (ends_number s) → ds ++ r ≡ es ++ s → (ds ≡ es) × (r ≡ s)
+runs_same ds es r s h k f g e = runs_read_once is_digit ds es r s h k (stops_digits r f) (stops_digits s g) e
 
 pub numbers_read_once : NumbersReadOnce
 numbers_read_once m n r s h k f g e =
-    let same = runs_same (decimal m) (decimal n) r s (decimal_digits m h) (decimal_digits n k) f g e in
+    let same = runs_same (decimal m) (decimal n) r s (decimal_digits m) (decimal_digits n) f g e in
     (decimal_injective m n h k same.0, same.1)
 
 -- a digit comes first
@@ -58,7 +60,7 @@ first_digit [] r h k = absurd (omega arith)
 first_digit (c ∷ ds) r h k = first_holds (is_digit c) (are_digits ds) k
 
 pub decimal_starts : (n : ℕ) (r : Text) → n < 2 ^ 64 → IsTrue (starts_digit (decimal n ++ r))
-decimal_starts n r h = first_digit (decimal n) r (decimal_nonempty n h) (decimal_digits n h)
+decimal_starts n r h = first_digit (decimal n) r (decimal_nonempty n h) (decimal_digits n)
 
 no_minus : (r s : Text) → IsTrue (starts_digit r) → r ≡ 45 ∷ s → ⊥
 no_minus r s h e = let n : IsTrue (starts_digit (45 ∷ s)) = subst (λ t. IsTrue (starts_digit t)) e h in cc

@@ -1,9 +1,8 @@
 -- The fields of a line in their order, and then line by line.
 use Rattle.std.proofs.Common.{◌≡◌, ℤ, List, [], ◌∷◌, ◌++◌, Option, Some, None, IsTrue, ◌&&◌, refl, ap, sym, ◌∙◌, append_assoc}
-use Rattle.std.proofs.lemmas.List.{append-nil}
 use Rattle.std.specs.List.{list_all}
 use Rattle.std.specs.Fmt.{signed_decimal}
-use Rattle.spec_value.specs.Datum.{Text, Datum, object, text, list, Data, no_data, item, of_list, in_number_range, is_value}
+use Rattle.spec_value.specs.Datum.{Text, Datum, object, text, list, item, to_list, in_number_range, is_value}
 use Rattle.spec_value.specs.Literal.{escaped, literal}
 use Rattle.spec_value.proofs.Entries.{first_holds, second_holds}
 use Rattle.spec_world.specs.World.{Link, Programming}
@@ -11,7 +10,7 @@ use Rattle.spec_world.specs.Checkpoint.{object_text, text_list, lines_held, prog
 use Rattle.spec_checkpoint.specs.Records.{link_holds, LinksReadOnce, VariablesReadOnce, HeldReadOnce}
 use Rattle.spec_checkpoint.proofs.Numbers.{tail_same, signed_read_once}
 use Rattle.spec_checkpoint.proofs.Quoted.{texts_read_once}
-use Rattle.spec_checkpoint.proofs.Values.{values_read_once}
+use Rattle.spec_checkpoint.proofs.Fields.{whole_value, list_back, texts_in, texts_back}
 
 first_line : (t u : Text) (ts us : List Text) → (t ∷ ts) ≡ (u ∷ us) → t ≡ u
 first_line t u ts us e = cc
@@ -19,27 +18,15 @@ first_line t u ts us e = cc
 later_lines : (t u : Text) (ts us : List Text) → (t ∷ ts) ≡ (u ∷ us) → ts ≡ us
 later_lines t u ts us e = cc
 
-pub whole_value : (v u : Datum) → IsTrue (is_value v) → IsTrue (is_value u) → literal v ≡ literal u → v ≡ u
-whole_value v u h k e = (values_read_once v u [] [] h k refl refl (append-nil (literal v) ∙ e ∙ sym (append-nil (literal u)))).0
-
 -- ---- what a link is programming
 
-abbrev texts_in : Data → List Text
-texts_in no_data = []
-texts_in (item (text t) xs) = t ∷ texts_in xs
-texts_in (item _ xs) = texts_in xs
-
-texts_back : (ts : List Text) → texts_in (of_list (text_list ts)) ≡ ts
-texts_back [] = refl
-texts_back (t ∷ ts) = ap (λ us. t ∷ us) (texts_back ts)
-
 abbrev lines_in : Datum → Option (List Text)
-lines_in (list xs) = Some (texts_in xs)
+lines_in (list xs) = Some (texts_in (to_list xs))
 lines_in _ = None
 
 lines_back : (o : Option (List Text)) → lines_in (lines_held o) ≡ o
 lines_back None = refl
-lines_back (Some ts) = ap Some (texts_back ts)
+lines_back (Some ts) = ap Some (ap texts_in (list_back (text_list ts)) ∙ texts_back ts)
 
 abbrev programming_in : Datum → Option Programming
 programming_in (list (item (object o) (item (text t) (item v xs)))) = Some (record { object = o; verb = t; lines = lines_in v })

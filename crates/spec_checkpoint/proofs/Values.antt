@@ -12,17 +12,17 @@ use Rattle.spec_checkpoint.proofs.Errors.{errors_read_once}
 
 -- ---- the first character tells the kind of a value
 
-abbrev sort_of : Datum → ℕ
+abbrev pub sort_of : Datum → ℕ
 sort_of (integer z) = 0
 sort_of (object z) = 1
 sort_of (text t) = 2
 sort_of (error e) = 3
 sort_of (list xs) = 4
 
-abbrev by_character : ℕ → ℕ
+abbrev pub by_character : ℕ → ℕ
 by_character c = cond (is_digit c) 0 (cond (c == 45) 0 (cond (c == 35) 1 (cond (c == 34) 2 (cond (c == 69) 3 (cond (c == 123) 4 5)))))
 
-abbrev first_sort : Text → ℕ
+abbrev pub first_sort : Text → ℕ
 first_sort [] = 6
 first_sort (c ∷ t) = by_character c
 
@@ -56,16 +56,16 @@ first_is (text t) r h = refl
 first_is (error e) r h = error_first e r
 first_is (list xs) r h = refl
 
+pub no_sixth : (v : Datum) → sort_of v ≡ 5 → ⊥
+no_sixth (integer z) e = absurd (omega (arith, e))
+no_sixth (object z) e = absurd (omega (arith, e))
+no_sixth (text t) e = absurd (omega (arith, e))
+no_sixth (error x) e = absurd (omega (arith, e))
+no_sixth (list xs) e = absurd (omega (arith, e))
+
 -- a value is none of what stands behind the items of a list
 no_brace : (v : Datum) (r s : Text) → IsTrue (is_value v) → literal v ++ r ≡ 125 ∷ s → ⊥
-no_brace v r s h e = go v (sym (first_is v r h) ∙ ap first_sort e)
-  where
-    go : (v : Datum) → sort_of v ≡ 5 → ⊥
-    go (integer z) e = absurd (omega (arith, e))
-    go (object z) e = absurd (omega (arith, e))
-    go (text t) e = absurd (omega (arith, e))
-    go (error x) e = absurd (omega (arith, e))
-    go (list xs) e = absurd (omega (arith, e))
+no_brace v r s h e = no_sixth v (sym (first_is v r h) ∙ ap first_sort e)
 
 ends_more : (xs : Data) (r : Text) → IsTrue (ends_number (more_text xs ++ 125 ∷ r))
 ends_more no_data r = refl

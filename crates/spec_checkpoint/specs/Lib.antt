@@ -2,3 +2,11 @@ pub mod Codes
 pub mod Lines
 pub mod OutOfRange
 pub mod Records
+pub mod Beginnings
+pub mod Holding
+pub mod VerbsTold
+pub mod ObjectsTold
+pub mod TasksTold
+pub mod OneWorld
+pub mod BrokenLines
+pub mod FixtureHolds

@@ -25,16 +25,16 @@ use Rattle.spec_moo.specs.Pending.{hand, Pending, Stop, done, raised, out_of_tic
 use Rattle.spec_moo.specs.Segment.{segment}
 use Rattle.spec_moo.specs.Standing.{LooksAt, Stands}
 use Rattle.spec_moo.specs.Natives.Properties.{as_texts}
-use Rattle.spec_step.specs.Step as step
-use Rattle.spec_step.specs.Step.{Event, line_of, ready_task, Step}
-use Rattle.spec_step.specs.Outcome.{ended}
+use Rattle.spec_world.specs.Step as step
+use Rattle.spec_world.specs.Step.{Event, line_of, ready_task, Step}
+use Rattle.spec_world.specs.Outcome.{ended}
 use Rattle.spec_moo.specs.Steps.Outcomes.{opening_scene, idle_with}
 use Rattle.spec_moo.specs.Steps.Running.{Ran, waiting_task, put_by, after_stop, run, told_on, system_call, unnamed, system_task, system, on_system, begun, beginning_of, begun_again, gone_on}
 use Rattle.spec_moo.specs.Steps.Programming.{with_link, programmable, begins, opens, requested, written, ends_with, ends_at, ends, goes_on, collected}
 use Rattle.spec_moo.specs.Steps.Events as events
 use Rattle.spec_moo.specs.Steps.Events.{foreground_ticks, queued_ticks, words_value, user_task, greeted, logged_in, may_log_in, login_value, login_with, login, opened_link, nothing_runs, command_call, command_start, command_run, player_line, resumed, with_own_task, line_for, line_read, line_taken, line_on, told_gone, gone, closed_link, is_due, ready_run, ready_at, event_of, event}
 use Rattle.spec_moo.specs.Steps.{numbered, play1, play}
-use Rattle.spec_step.specs.Step.{in_range}
+use Rattle.spec_world.specs.Step.{in_range}
 use Rattle.spec_moo.proofs.OrderKept.{starts_in_order, starts_named}
 use Rattle.spec_moo.proofs.StepWorlds.{steps_keep}
 use Rattle.spec_holding.specs.UnderWay.{FrameHolds, EntriesFit, WorldHolds, SceneHolds, Holds, StopHolds}

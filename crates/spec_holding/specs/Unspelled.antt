@@ -5,9 +5,9 @@ use Rattle.spec_value.specs.Datum.{integer}
 use Rattle.spec_program.specs.Tree.{literal, fork, Program, the_end, seq}
 use Rattle.spec_world.specs.World.{World, Call, Start, Frame, frame_entry, Task, forked}
 use Rattle.spec_world.specs.WellFormed.{IsWellFormed}
-use Rattle.spec_step.specs.Step.{Step, ready_task}
+use Rattle.spec_world.specs.Step.{Step, ready_task}
 use Rattle.spec_moo.specs.Steps.{play}
-use Rattle.spec_step.specs.Step.{in_range}
+use Rattle.spec_world.specs.Step.{in_range}
 
 abbrev pub naming : Program
 naming = seq (fork (Some (codes "X")) (literal (integer (pos 0))) the_end) the_end

@@ -9,9 +9,9 @@ use Rattle.spec_moo.specs.Scene.{Scene}
 use Rattle.spec_moo.specs.Pending.{Pending}
 use Rattle.spec_moo.specs.Segment.{segment}
 use Rattle.spec_moo.specs.Standing.{Stands}
-use Rattle.spec_step.specs.Step.{Step}
+use Rattle.spec_world.specs.Step.{Step}
 use Rattle.spec_moo.specs.Steps.{play1, play}
-use Rattle.spec_step.specs.Step.{in_range}
+use Rattle.spec_world.specs.Step.{in_range}
 use Rattle.spec_holding.specs.UnderWay.{are_programmed, WorldHolds, SceneHolds, Holds, StopHolds}
 
 -- of a task that is under way, with any number of ticks

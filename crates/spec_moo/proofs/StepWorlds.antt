@@ -26,16 +26,16 @@ use Rattle.spec_moo.specs.Pending.{hand, Pending, Stop, done, raised, out_of_tic
 use Rattle.spec_moo.specs.Segment.{segment}
 use Rattle.spec_moo.specs.Standing.{LooksAt}
 use Rattle.spec_moo.specs.Natives.Properties.{as_texts}
-use Rattle.spec_step.specs.Step as step
-use Rattle.spec_step.specs.Step.{Event, line_of, ready_task, Step}
-use Rattle.spec_step.specs.Outcome.{Outcome, ended}
+use Rattle.spec_world.specs.Step as step
+use Rattle.spec_world.specs.Step.{Event, line_of, ready_task, Step}
+use Rattle.spec_world.specs.Outcome.{Outcome, ended}
 use Rattle.spec_moo.specs.Steps.Outcomes.{opening_scene, comes_to, idle_with}
 use Rattle.spec_moo.specs.Steps.Running.{told_on, waiting_task, put_by, after_stop, Ran, run, begun, system_task, on_system, beginning_of, begun_again, gone_on}
 use Rattle.spec_moo.specs.Steps.Programming.{with_link, programmable, begins, opens, requested, with_line, written, ends_with, ends_at, ends, goes_on, collected}
 use Rattle.spec_moo.specs.Steps.Events.{foreground_ticks, queued_ticks, nothing_runs, words_value, user_task, greeted, logged_in, is_player, is_open_for, may_log_in, login_value, after_login, login_with, login, opened_link, command_call, command_start, command_run, player_line, without_task, resumed, with_own_task, line_for, line_read, line_taken, line_on, told_gone, gone, closed_link, is_due, ready_run, ready_at, event_of, event}
 use Rattle.spec_moo.specs.Steps.Events as events
 use Rattle.spec_moo.specs.Steps.{numbered, play1, play}
-use Rattle.spec_step.specs.Step.{event_in_range, in_range}
+use Rattle.spec_world.specs.Step.{event_in_range, in_range}
 use Rattle.spec_moo.specs.Worlds.{IsUnderWay, IdFits, SceneAgrees, MayWait, StopKeeps, StepsKeep, ListsKeep, NextFollows, StaysWellFormed, PlayGoesOn}
 use Rattle.spec_moo.proofs.NativeWorlds.{in_agreeing, closed_scene}
 use Rattle.spec_moo.proofs.PropertyRows.{changed_verb}

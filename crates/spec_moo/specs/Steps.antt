@@ -6,8 +6,8 @@ pub mod Events
 pub mod Printing
 use Rattle.std.specs.Prelude.{ℕ, suc, max, List, [], ◌∷◌, if◌then◌else◌}
 use Rattle.spec_world.specs.World.{World}
-use Rattle.spec_step.specs.Step.{Step}
-use Rattle.spec_step.specs.Outcome.{Outcome, ended}
+use Rattle.spec_world.specs.Step.{Step}
+use Rattle.spec_world.specs.Outcome.{Outcome, ended}
 use Rattle.spec_moo.specs.Steps.Outcomes.{idle_with}
 use Rattle.spec_moo.specs.Steps.Events.{event}
 

@@ -14,7 +14,7 @@ use Rattle.spec_moo.specs.Pending.{Pending, Stop, waiting, Turned, goes_on, halt
 use Rattle.spec_moo.specs.Turn.{turn}
 use Rattle.spec_moo.specs.Standing.{Stands}
 use Rattle.spec_moo.specs.Segment.{segment}
-use Rattle.spec_step.specs.Step.{Step, in_range}
+use Rattle.spec_world.specs.Step.{Step, in_range}
 use Rattle.spec_moo.specs.Steps.{play1, play}
 
 -- ---- a scene: its world agrees and has this next number, which lies above the step's, and the task's id is one of those that were given

@@ -3,7 +3,7 @@ use Rattle.std.specs.Prelude.{◌≡◌, ℕ, pos, List, [], ◌∷◌, ◌++◌
 use Rattle.spec_value.specs.Datum.{integer, text, error, list, of_list, Text, zero_division, type_mismatch, limit_exceeded, too_many_calls, variable_not_found}
 use Rattle.spec_value.specs.Operators.{plus, divided_by, negation}
 use Rattle.spec_program.specs.Tree.{Expr, literal, variable, unary, binary, listing, verb_call, caught, no_arguments, codes_in, instead, for_each, for_range, repeat, fork, guarded, finished, leave_loop, next_turn, Program, the_end, seq, except, no_arms, any_code}
-use Rattle.spec_step.specs.Outcome.{Queued, at_moment}
+use Rattle.spec_world.specs.Outcome.{Queued, at_moment}
 use Rattle.spec_fixture.specs.Programs.{number, word, one_given, two_given, none_given, only, returning, doing, setting, sum_program, call_program, plot_program, spin_program, storm_program}
 use Rattle.spec_moo_rows.specs.Trying.{Written, wizards, wizards_without_debug, value_of, raised_by, ran_out, came_to, came, tried, run_with}
 

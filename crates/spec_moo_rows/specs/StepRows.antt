@@ -8,8 +8,8 @@ use Rattle.spec_world.specs.Checkpoint.{each_task, world_lines, checkpoint_text}
 use Rattle.spec_world.specs.Families.{change_object}
 use Rattle.spec_world.specs.Members.{verb_added}
 use Rattle.spec_moo.specs.Steps.{play}
-use Rattle.spec_step.specs.Step.{Event, open_link, close_link, line_of, ready_task, Step}
-use Rattle.spec_step.specs.Outcome.{Outcome}
+use Rattle.spec_world.specs.Step.{Event, open_link, close_link, line_of, ready_task, Step}
+use Rattle.spec_world.specs.Outcome.{Outcome}
 use Rattle.spec_moo.specs.Steps.Printing.{outcome_lines}
 use Rattle.spec_fixture.specs.Fixture.{fixture, plain_verb}
 use Rattle.spec_fixture.specs.Texts.{program_of}

@@ -14,7 +14,7 @@ use Rattle.spec_world.specs.Links.{connection_object, connection_of, reads_on, o
 use Rattle.spec_world.proofs.TablesKept.{at_left}
 use Rattle.spec_world.proofs.Trees.{either, first_of, second_of}
 use Rattle.spec_world.proofs.WorldsKept.{agrees_of, well_formed_agrees, agrees_is_well_formed, tasks_left, next_raised, link_put, link_closed_keeps, none_among, closed_is_free, person_found}
-use Rattle.spec_step.specs.Step.{Step, in_range, event_in_range}
+use Rattle.spec_world.specs.Step.{Step, in_range, event_in_range}
 use Rattle.spec_moo.specs.Scene.{Scene, in_world}
 use Rattle.spec_moo.specs.Linking.{connection_closed, link_closed}
 use Rattle.spec_moo.specs.Pending.{Stop, done}

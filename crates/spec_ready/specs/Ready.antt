@@ -6,7 +6,7 @@ use Rattle.spec_program.specs.Tree.{Program}
 use Rattle.spec_world.specs.World.{World, Call, Start, Task}
 use Rattle.spec_world.specs.WellFormed.{IsWellFormed, is_connection}
 use Rattle.spec_world.specs.Links.{connection_object, open_link, close_link}
-use Rattle.spec_step.specs.Step.{Step, in_range}
+use Rattle.spec_world.specs.Step.{Step, in_range}
 use Rattle.spec_moo.specs.Scene.{Scene, in_world, with_ticks}
 use Rattle.spec_moo.specs.Linking.{link_closed}
 use Rattle.spec_moo.specs.Pending.{Pending, done}

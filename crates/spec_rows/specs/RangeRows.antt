@@ -3,7 +3,7 @@ use Rattle.std.specs.Prelude.{◌≡◌, ℕ, ℤ, pos, [], ◌∷◌, replicate
 use Rattle.spec_value.specs.Answer.{gives, raises}
 use Rattle.spec_value.specs.Indexing.{range_value, set_index_value}
 use Rattle.spec_value.specs.Datum.{integer, text, list, no_data, item, Text, limit_exceeded}
-use Rattle.spec_step.specs.Step.{Step, line_of, in_range, runs_on}
+use Rattle.spec_world.specs.Step.{Step, line_of, in_range, runs_on}
 
 -- ---- parts of values
 

@@ -16,3 +16,4 @@ pub mod Shapes
 pub mod SlotChanges
 pub mod SlotKeeps
 pub mod Locally
+pub mod Firsts

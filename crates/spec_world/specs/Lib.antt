@@ -18,3 +18,9 @@ pub mod Whereabouts
 pub mod Members
 pub mod Links
 pub mod Checkpoint
+pub mod Step
+pub mod Outcome
+pub mod StepCode
+pub mod Listings
+pub mod Questions
+pub mod SpecViewLaws

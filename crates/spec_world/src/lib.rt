@@ -4,4 +4,6 @@
 pub mod inheritance;
 pub mod objects;
 pub mod slots;
+pub mod spec_step;
+pub mod spec_view;
 pub mod worlds;

@@ -3,9 +3,9 @@ use Rattle.std.proofs.Common.{◌≡◌, ℕ, zero, suc, ◌+◌, List, [], ◌�
 use Rattle.std.proofs.lemmas.List.{take_all}
 use Rattle.std.proofs.lemmas.Option.{slice_get_within}
 use Rattle.spec_world.specs.World.{World}
-use Rattle.spec_view.specs.Questions.{Agrees}
-use Rattle.spec_step.specs.Step.{Step, RunsOn, AllInRange, in_range}
-use Rattle.spec_step.specs.Outcome.{Outcome}
+use Rattle.spec_world.specs.Questions.{Agrees}
+use Rattle.spec_world.specs.Step.{Step, RunsOn, AllInRange, in_range}
+use Rattle.spec_world.specs.Outcome.{Outcome}
 use Rattle.spec_moo.specs.Steps.{play1, play}
 use Rattle.world.specs.Counted.{Counted}
 use Rattle.world.specs.Sound.{IsSound}

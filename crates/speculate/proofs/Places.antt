@@ -1,6 +1,6 @@
 -- What positions hold.
 use Rattle.std.proofs.Common.{◌≡◌, ℕ, zero, suc, ◌<◌, ◌≤◌, List, [], ◌∷◌, length, drop, replicate, Some, None, slice_get, slice_set, refl, ap, subst, arith}
-use Rattle.spec_step.specs.Step.{Step}
+use Rattle.spec_world.specs.Step.{Step}
 use Rattle.speculate.specs.declared.held.Held.{Held}
 use Rattle.speculate.specs.declared.held.Held.TheVariants.{Empty, Loss, Holds}
 use Rattle.speculate.specs.BoardState.{FitsStep, EachFits}

@@ -3,8 +3,8 @@ use Rattle.std.proofs.Common.{◌≡◌, ◌≤◌, ◌+◌, ◌==◌, ℕ, zero
 use Rattle.std.proofs.lemmas.Bool.{eqb-true}
 use Rattle.std.specs.List.{list_all}
 use Rattle.spec_world.specs.World.{World}
-use Rattle.spec_step.specs.Step.{Step, in_range, runs_on, RunsOn, AllInRange}
-use Rattle.spec_step.specs.Outcome.{Outcome}
+use Rattle.spec_world.specs.Step.{Step, in_range, runs_on, RunsOn, AllInRange}
+use Rattle.spec_world.specs.Outcome.{Outcome}
 use Rattle.spec_moo.specs.Steps.{play1, play}
 use Rattle.world.proofs.Renumbered.{number_small}
 use Rattle.spec_value.proofs.Entries.{first_holds, second_holds}

@@ -1,9 +1,9 @@
 -- A step run over nothing but its reads.
 use Rattle.std.proofs.Common.{◌≡◌, List, [], sym, subst}
 use Rattle.spec_world.specs.World.{World}
-use Rattle.spec_view.specs.Questions.{Read, Change}
-use Rattle.spec_step.specs.Step.{Step}
-use Rattle.spec_step.specs.Outcome.{Outcome}
+use Rattle.spec_world.specs.Questions.{Read, Change}
+use Rattle.spec_world.specs.Step.{Step}
+use Rattle.spec_world.specs.Outcome.{Outcome}
 use Rattle.spec_moo.specs.Steps.{play1}
 use Rattle.world.specs.Law.{Goes}
 use Rattle.world.specs.Trace.{Trace, IsStart, world_now}

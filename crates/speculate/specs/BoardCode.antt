@@ -1,9 +1,9 @@
 -- How the logic stores boards.
 use Rattle.std.specs.Prelude.{ℕ, List, refl}
 use Rattle.std.specs.Coded.{Coded, code_by, coded×, coded_list, coded_ℕ}
-use Rattle.spec_step.specs.Step.{Step}
-use Rattle.spec_step.specs.Outcome.{Outcome}
-use Rattle.spec_step.specs.StepCode.{step_code, outcome_code}
+use Rattle.spec_world.specs.Step.{Step}
+use Rattle.spec_world.specs.Outcome.{Outcome}
+use Rattle.spec_world.specs.StepCode.{step_code, outcome_code}
 use Rattle.world.specs.Counted.{Counted, counted_code}
 use Rattle.speculate.specs.BoardState.{BoardState}
 use Rattle.speculate.specs.contracts.held.Held as held

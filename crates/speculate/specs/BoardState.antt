@@ -1,7 +1,7 @@
 -- A board as plain data, and when it is honest.
 use Rattle.std.specs.Prelude.{◌≡◌, ℕ, suc, ◌+◌, ◌≤◌, List, [], ◌∷◌, length, take, replicate, Some, slice_get, slice_set}
-use Rattle.spec_step.specs.Step.{Step, RunsOn, AllInRange}
-use Rattle.spec_step.specs.Outcome.{Outcome}
+use Rattle.spec_world.specs.Step.{Step, RunsOn, AllInRange}
+use Rattle.spec_world.specs.Outcome.{Outcome}
 use Rattle.spec_moo.specs.Steps.{play}
 use Rattle.world.specs.Counted.{Counted}
 use Rattle.world.specs.Sound.{IsSound}

@@ -1,6 +1,6 @@
 -- What may happen to the positions and the board of a list, in any order.
 use Rattle.std.specs.Prelude.{◌≡◌, ℕ, suc, ◌≤◌, ◌<◌, ◌⊎◌, List, [], ◌∷◌, ◌++◌, length, Some, slice_get, slice_set}
-use Rattle.spec_step.specs.Step.{Step, RunsOn, AllInRange}
+use Rattle.spec_world.specs.Step.{Step, RunsOn, AllInRange}
 use Rattle.world.specs.Counted.{Counted}
 use Rattle.world.specs.Sound.{IsSound}
 use Rattle.speculate.specs.declared.held.Held.TheVariants.{Loss, Holds}

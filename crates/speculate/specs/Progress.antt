@@ -1,8 +1,8 @@
 -- How a board goes on.
 use Rattle.std.specs.Prelude.{◌≡◌, ◌≢◌, ℕ, zero, suc, ◌+◌, ◌≤◌, ◌⊎◌, List, [], ◌∷◌, ◌++◌, length, drop, Some, slice_get, slice_set}
-use Rattle.spec_view.specs.Questions.{Agrees}
-use Rattle.spec_step.specs.Step.{Step}
-use Rattle.spec_step.specs.Outcome.{Outcome}
+use Rattle.spec_world.specs.Questions.{Agrees}
+use Rattle.spec_world.specs.Step.{Step}
+use Rattle.spec_world.specs.Outcome.{Outcome}
 use Rattle.spec_moo.specs.Steps.{play1}
 use Rattle.world.specs.Counted.{Counted}
 use Rattle.speculate.specs.Right.{after_guess}

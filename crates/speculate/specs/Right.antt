@@ -2,11 +2,11 @@
 use Rattle.std.specs.Prelude.{◌≡◌, List, refl}
 use Rattle.std.specs.Coded.{Coded, code_by, coded×, coded_list}
 use Rattle.spec_world.specs.World.{World}
-use Rattle.spec_view.specs.Questions.{Read, Change, Agrees, apply_all}
-use Rattle.spec_step.specs.Step.{Step}
-use Rattle.spec_step.specs.Outcome.{Outcome}
+use Rattle.spec_world.specs.Questions.{Read, Change, Agrees, apply_all}
+use Rattle.spec_world.specs.Step.{Step}
+use Rattle.spec_world.specs.Outcome.{Outcome}
 use Rattle.spec_moo.specs.Steps.{play1}
-use Rattle.spec_step.specs.StepCode.{step_code, outcome_code}
+use Rattle.spec_world.specs.StepCode.{step_code, outcome_code}
 use Rattle.world.specs.QuestionCode.{read_code, change_code}
 use Rattle.world.specs.Sound.{IsSound}
 

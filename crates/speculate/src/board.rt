@@ -1,6 +1,6 @@
 //! The board of a list: one world, and what each position that is not committed yet holds.
 ghost use Rattle.std.specs.Prelude.{◌≡◌, ◌≤◌, ◌<◌, ◌↔◌, ◌⊎◌, ◌≢◌, [], true, false, IsTrue, IsErrOf, IfOk, IfErr, OnOk, OnErr, length, replicate, Some, slice_get};
-ghost use Rattle.spec_step.specs.Step.{RunsOn, AllInRange};
+ghost use Rattle.spec_world.specs.Step.{RunsOn, AllInRange};
 ghost use Rattle.speculate.specs.BoardState.{IsHonest, IsFree, opened_on, with_held};
 ghost use Rattle.speculate.specs.Progress.{Commits, Advances, AdvancesInPart, IsNextHeld, StaysPut, SameRun, ready, rest, AllHeld};
 

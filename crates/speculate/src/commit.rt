@@ -1,7 +1,7 @@
 //! The commit of one position.
 ghost use Rattle.std.specs.Prelude.{◌≡◌, ◌≢◌, IsTrue, IfOk, IfErr};
-ghost use Rattle.spec_view.specs.Questions.{Agrees};
-ghost use Rattle.spec_step.specs.Step.{in_range};
+ghost use Rattle.spec_world.specs.Questions.{Agrees};
+ghost use Rattle.spec_world.specs.Step.{in_range};
 ghost use Rattle.world.specs.Sound.{IsSound};
 ghost use Rattle.speculate.specs.BoardState.{FitsStep};
 ghost use Rattle.speculate.specs.Right.{after_guess};

@@ -1,7 +1,7 @@
 //! A list by several workers. Each claims a position, guesses its step on the world as it then is, and posts the guess; none waits for another's.
 ghost use Rattle.std.specs.Prelude.{◌≡◌, ◌≤◌, ◌<◌, ◌+◌, All, length, take, vec_len, IfOk, IfErr, IfSome};
 ghost use Rattle.round_claims.specs.Claimed.{fresh_seat};
-ghost use Rattle.spec_step.specs.Step.{AllInRange};
+ghost use Rattle.spec_world.specs.Step.{AllInRange};
 ghost use Rattle.spec_moo.specs.Steps.{play};
 ghost use Rattle.speculate.specs.BoardState.{runs};
 ghost use denote.Param.Send.{IsSend, IsSync};

@@ -1,6 +1,6 @@
 //! The gate through which guesses are made.
 ghost use Rattle.std.specs.Prelude.{◌<◌, IsTrue, length};
-ghost use Rattle.spec_step.specs.Step.{AllInRange, in_range};
+ghost use Rattle.spec_world.specs.Step.{AllInRange, in_range};
 
 use crate::guesses::Guess;
 use crate::guessing::guess;

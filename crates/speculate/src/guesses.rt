@@ -1,6 +1,6 @@
 //! Guesses.
 ghost use Rattle.std.specs.Prelude.{◌≡◌, ◌↔◌, IsTrue, IfOk, IfErr};
-ghost use Rattle.spec_view.specs.Questions.{Agrees};
+ghost use Rattle.spec_world.specs.Questions.{Agrees};
 ghost use Rattle.world.specs.Sound.{IsSound};
 ghost use Rattle.speculate.specs.Right.{IsRight, after_guess};
 

@@ -1,7 +1,7 @@
 //! Making a guess.
 ghost use Rattle.std.specs.Prelude.{◌≡◌, IsTrue, IfOk};
-ghost use Rattle.spec_view.specs.Questions.{Agrees};
-ghost use Rattle.spec_step.specs.Step.{in_range};
+ghost use Rattle.spec_world.specs.Questions.{Agrees};
+ghost use Rattle.spec_world.specs.Step.{in_range};
 ghost use Rattle.speculate.specs.Right.{IsRight};
 
 use crate::guesses::Guess;

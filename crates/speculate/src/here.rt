@@ -1,6 +1,6 @@
 //! A list on the caller's thread alone, without a lock and without threads.
 ghost use Rattle.std.specs.Prelude.{◌≡◌, ◌≤◌, ◌<◌, ◌+◌, length, take, IfOk, IfErr};
-ghost use Rattle.spec_step.specs.Step.{AllInRange};
+ghost use Rattle.spec_world.specs.Step.{AllInRange};
 ghost use Rattle.spec_moo.specs.Steps.{play};
 ghost use Rattle.speculate.specs.BoardState.{runs};
 

@@ -1,6 +1,6 @@
 //! A list of steps.
 ghost use Rattle.std.specs.Prelude.{◌≡◌, ◌≢◌, ◌≤◌, ◌<◌, ◌↔◌, ◌⊎◌, ◌+◌, length, take, IfOk, IfErr, IsOk};
-ghost use Rattle.spec_step.specs.Step.{RunsOn, AllInRange};
+ghost use Rattle.spec_world.specs.Step.{RunsOn, AllInRange};
 ghost use Rattle.spec_moo.specs.Steps.{play};
 ghost use Rattle.speculate.specs.BoardState.{runs};
 

@@ -1,7 +1,7 @@
 //! The board of one list, under a lock.
 ghost use Rattle.std.specs.Prelude.{◌≡◌};
 ghost use Rattle.std.specs.Coded.{Coded-set, coded_list};
-ghost use Rattle.spec_step.specs.StepCode.{step_code};
+ghost use Rattle.spec_world.specs.StepCode.{step_code};
 ghost use Rattle.world.specs.Counted.{counted_code};
 
 use crate::board::Board;
@@ -14,7 +14,7 @@ use world::worlds::Snapshot;
 /// Which list is played: the world that it began with, and its steps. Each call that plays one picks it.
 pub trait Run: Send + Sync {
     ghost use Rattle.std.specs.Prelude.{List};
-    ghost use Rattle.spec_step.specs.Step.{Step as Meant};
+    ghost use Rattle.spec_world.specs.Step.{Step as Meant};
     ghost use Rattle.world.specs.Counted.{Counted};
 
     ghost base: { Counted };

@@ -1,4 +1,4 @@
-use moo_parse::parse::parse;
+use moo_syntax::parse::parse;
 use moo_tree::expression::{Expression, ExpressionNode, TargetNode};
 use moo_tree::statement::StatementNode;
 use moo_value::operator::BinaryOperator;

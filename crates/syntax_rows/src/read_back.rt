@@ -1,5 +1,5 @@
-use moo_parse::parse::parse;
 use moo_printer::print::print;
+use moo_syntax::parse::parse;
 use moo_tree::statement::Tree;
 use std::alloc::{AllocError, Global};
 use std::test::Fail;

@@ -2,12 +2,12 @@
 use Rattle.std.proofs.Common.{IfOk, Result, Ok, Err, ◌≡◌, ℕ, ◌+◌, ◌<◌, ◌≤◌, List, [], ◌∷◌, ◌++◌, length, get_or, take, sym, ap, ◌∙◌, arith, add-one}
 use Rattle.std.proofs.Math.Seq.{take-suc, take-length}
 use Rattle.spec_world.specs.World.{World}
-use Rattle.spec_step.specs.Step.{Step}
-use Rattle.spec_step.specs.Outcome.{Outcome}
+use Rattle.spec_world.specs.Step.{Step}
+use Rattle.spec_world.specs.Outcome.{Outcome}
 use Rattle.spec_moo.specs.Steps.{play1, play}
 use Rattle.spec_moo.proofs.StepWorlds.{play_goes_on}
 use Rattle.world.specs.Law.{Goes}
-use Rattle.steps.specs.Performed as performed
+use Rattle.task_run.specs.StepsPerformed as performed
 use Rattle.task_run.specs.Performed.{StepsTo}
 
 -- what a step left and gave is what it plays

@@ -3,3 +3,4 @@
 
 pub mod list;
 pub mod step;
+pub mod steps;

@@ -1,6 +1,6 @@
 //! Lists of steps on one thread.
 ghost use Rattle.std.specs.Prelude.{◌≡◌, ◌≢◌, ◌≤◌, ◌+◌, ◌↔◌, length, take, IsTrue, IsOk, IfOk, IfErr, OnErr};
-ghost use Rattle.spec_step.specs.Step.{RunsOn, AllInRange, in_range};
+ghost use Rattle.spec_world.specs.Step.{RunsOn, AllInRange, in_range};
 ghost use Rattle.spec_moo.specs.Steps.{play1, play};
 
 use crate::step::run_step;

@@ -1,13 +1,13 @@
 //! One step over a view of a world.
 ghost use Rattle.std.specs.Prelude.{◌≡◌, IfOk, OnOk, IsTrue};
-ghost use Rattle.spec_step.specs.Step.{in_range};
+ghost use Rattle.spec_world.specs.Step.{in_range};
 ghost use Rattle.spec_moo.specs.Steps.{play1};
 ghost use Rattle.world.specs.Law.{Goes, AreSound};
 ghost use Rattle.task_run.specs.Performed.{StepsTo};
 
+use crate::steps::step_events::play::play_step;
 use builtins::builtin_natives::builtins::Builtins;
 use std::alloc::{AllocError, Global};
-use steps::step_events::play::play_step;
 use task_step::outcome::Outcome;
 use task_step::step::Step;
 use world::law::View;

@@ -2,7 +2,7 @@
 use Rattle.std.proofs.Common.{◌↔◌, ℕ, suc, IsTrue, List, [], ◌∷◌, ◌&&◌, ◌==◌}
 use Rattle.std.specs.List.{list_all}
 use Rattle.spec_value.proofs.Entries.{first_holds, second_holds, both_hold}
-use Rattle.spec_step.specs.Step.{Step, in_range, runs_on, AllInRange}
+use Rattle.spec_world.specs.Step.{Step, in_range, runs_on, AllInRange}
 use Rattle.task_step.specs.Numbers.{number_on}
 
 number_on_to : (n : ℕ) (ss : List Step) → IsTrue (number_on n ss) → IsTrue (runs_on n ss) × AllInRange ss

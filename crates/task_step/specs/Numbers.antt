@@ -1,6 +1,6 @@
 -- Steps whose numbers run on, each in its range.
 use Rattle.std.specs.Prelude.{ℕ, suc, List, [], ◌∷◌, Bool, true, ◌&&◌, ◌==◌}
-use Rattle.spec_step.specs.Step.{Step, in_range}
+use Rattle.spec_world.specs.Step.{Step, in_range}
 
 abbrev pub number_on : ℕ → List Step → Bool
 number_on n [] = true

@@ -1,7 +1,7 @@
 -- What the fields of an outcome mean.
 use Rattle.std.specs.Prelude.{ℕ, ℤ, pos, List, map, string_bytes}
 use Rattle.spec_value.specs.Datum.{Text}
-use Rattle.spec_step.specs.Outcome.{Result, value_of, raised_by, suspended, reading, ran_out, killed, none, absent, early, ended, Due as DueMoment, at_moment, never, when_read, Queued as QueuedTask}
+use Rattle.spec_world.specs.Outcome.{Result, value_of, raised_by, suspended, reading, ran_out, killed, none, absent, early, ended, Due as DueMoment, at_moment, never, when_read, Queued as QueuedTask}
 use Rattle.task_step.specs.declared.outcome.Ending.{Ending}
 use Rattle.task_step.specs.declared.outcome.Ending.TheVariants.{Value, Raised, Suspended, Reading, OutOfTicks, Killed, Nothing, Absent, Early, Ended}
 use Rattle.task_step.specs.declared.outcome.OutputLine.{OutputLine}

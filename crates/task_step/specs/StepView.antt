@@ -1,6 +1,6 @@
 -- What the fields of a step mean.
 use Rattle.std.specs.Prelude.{pos}
-use Rattle.spec_step.specs.Step.{Event as Meant, open_link, close_link, line_of, ready_task}
+use Rattle.spec_world.specs.Step.{Event as Meant, open_link, close_link, line_of, ready_task}
 use Rattle.task_step.specs.declared.step.Event.{Event}
 use Rattle.task_step.specs.declared.step.Event.TheVariants.{Open, Line, Close, Ready}
 

@@ -1,6 +1,6 @@
 //! Lists of steps.
 ghost use Rattle.std.specs.Prelude.{◌≡◌, ◌↔◌, IsTrue};
-ghost use Rattle.spec_step.specs.Step.{runs_on, AllInRange};
+ghost use Rattle.spec_world.specs.Step.{runs_on, AllInRange};
 ghost use Rattle.task_step.specs.Numbers.{number_on};
 
 use crate::step::{Step, in_range};

@@ -21,8 +21,8 @@ pub struct Outcome {
 
 impl Model for Outcome {
     ghost use Rattle.std.specs.Prelude.{pos};
-    ghost use Rattle.spec_step.specs.Outcome.{Outcome as Meant};
-    ghost use Rattle.spec_step.specs.StepCode.{outcome_code};
+    ghost use Rattle.spec_world.specs.Outcome.{Outcome as Meant};
+    ghost use Rattle.spec_world.specs.StepCode.{outcome_code};
 
     ghost Value = { Meant };
 

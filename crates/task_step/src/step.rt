@@ -2,7 +2,7 @@
 ghost use Rattle.std.specs.Prelude.{◌≡◌, ◌&&◌, ◌==◌, nat_le, nat_lt, length, pos};
 ghost use Rattle.std.specs.List.{list_all};
 ghost use Rattle.spec_value.specs.Datum.{in_number_range, is_text};
-ghost use Rattle.spec_step.specs.Step.{in_range as step_in_range, event_in_range};
+ghost use Rattle.spec_world.specs.Step.{in_range as step_in_range, event_in_range};
 ghost use Rattle.spec_world.specs.WellFormed.{is_connection as is_connection_number};
 ghost use Rattle.task_step.specs.StepView.{event_of};
 
@@ -35,8 +35,8 @@ pub struct Step {
 }
 
 impl Model for Step {
-    ghost use Rattle.spec_step.specs.Step.{Step as Meant};
-    ghost use Rattle.spec_step.specs.StepCode.{step_code};
+    ghost use Rattle.spec_world.specs.Step.{Step as Meant};
+    ghost use Rattle.spec_world.specs.StepCode.{step_code};
 
     ghost Value = { Meant };
 

@@ -1,1 +1,9 @@
 pub mod Nth
+pub mod Arrived
+pub mod Told
+pub mod Offsets
+pub mod FramePathsPlaced
+pub mod Stored
+pub mod Descent
+pub mod FrameTasksPlaced
+pub mod Waiting

@@ -3,6 +3,10 @@
 #![tactic(auto)]
 
 mod expression_parts;
+pub mod frame_laws;
+pub mod frame_paths;
+pub mod frame_places;
+pub mod frame_tasks;
 pub mod holds;
 mod listed;
 pub mod node;

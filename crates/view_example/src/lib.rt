@@ -7,7 +7,7 @@
 ghost use Rattle.std.specs.Prelude.{◌≡◌, is_some, IfOk, OnOk, OnErr};
 ghost use Rattle.spec_world.specs.World.{World as Plain};
 ghost use Rattle.spec_world.specs.Inherit.{slot_at};
-ghost use Rattle.spec_view.specs.Questions.{Agrees, apply, apply_all, new_value};
+ghost use Rattle.spec_world.specs.Questions.{Agrees, apply, apply_all, new_value};
 ghost use Rattle.world.specs.Sound.{IsSound};
 ghost use Rattle.world.specs.Law.{Goes, Lasts, StaysSound};
 

@@ -6,7 +6,7 @@ use Rattle.spec_value.specs.Table.{named, with_name}
 use Rattle.spec_world.specs.World.{World, Object, Slot, object_at, with_object}
 use Rattle.spec_world.specs.Inherit.{slot_of, put_slot, with_slot}
 use Rattle.spec_world.specs.Families.{change_at, change_object}
-use Rattle.spec_view.specs.Questions.{apply, new_value, put_value}
+use Rattle.spec_world.specs.Questions.{apply, new_value, put_value}
 
 -- one object changes, if it is there
 pub no_object_there : (w : World) (o : ℤ) (f : Object → Object) → None ≡ object_at w o → change_object w o f ≡ w

@@ -1,7 +1,7 @@
 -- Changes in turn.
 use Rattle.std.proofs.Common.{◌≡◌, ℕ, zero, suc, ◌+◌, ◌<◌, ◌≤◌, List, [], ◌∷◌, map, length, drop, get_or, refl, sym, ◌∙◌, ap, add-one, arith}
 use Rattle.spec_world.specs.World.{World}
-use Rattle.spec_view.specs.Questions.{apply, apply_all}
+use Rattle.spec_world.specs.Questions.{apply, apply_all}
 use Rattle.world.specs.Meanings.{change_of}
 use Rattle.world.specs.declared.change.Change.{Change}
 

@@ -1,7 +1,7 @@
 -- Reads and changes, one more at a time.
 use Rattle.std.proofs.Common.{◌≡◌, List, [], ◌∷◌, ◌++◌, refl, sym, ◌∙◌}
 use Rattle.spec_world.specs.World.{World}
-use Rattle.spec_view.specs.Questions.{Question, Answer, ask, Read, Agrees, Change, apply, apply_all}
+use Rattle.spec_world.specs.Questions.{Question, Answer, ask, Read, Agrees, Change, apply, apply_all}
 use Rattle.world.specs.Sound.{IsSound}
 use Rattle.world.proofs.Local.{InOrder, alike_after}
 

@@ -14,8 +14,8 @@ use Rattle.spec_world.specs.Families.{change_at, change_object}
 use Rattle.spec_world.specs.Links.{reads_on}
 use Rattle.spec_world.proofs.Households.{at_changed, at_without}
 use Rattle.spec_world.proofs.SlotTables.{text_turned, named_with, named_without}
-use Rattle.spec_view.specs.Listings.{waiting_ids, readers_on, connections_of, connected}
-use Rattle.spec_view.specs.Questions.{Question, about_header, about_children, about_contents, about_defines, about_slot, about_verbs, about_task, about_waiting, about_link, about_readers, about_connections, about_connected, about_greatest, about_ending, Answer, the_header, the_children, the_contents, the_defines, the_slot, the_verbs, the_task, the_waiting, the_link, the_readers, the_connections, the_connected, the_greatest, the_ending, ask, Part, put_header, put_children, put_contents, put_defines, put_verbs, put_slots, put_part, new_slot, slot_on, Change, new_part, new_value, new_object, new_task, new_link, new_greatest, new_ending, new_next, put_value, is_number, put_record, put_task, apply, apply_all}
+use Rattle.spec_world.specs.Listings.{waiting_ids, readers_on, connections_of, connected}
+use Rattle.spec_world.specs.Questions.{Question, about_header, about_children, about_contents, about_defines, about_slot, about_verbs, about_task, about_waiting, about_link, about_readers, about_connections, about_connected, about_greatest, about_ending, Answer, the_header, the_children, the_contents, the_defines, the_slot, the_verbs, the_task, the_waiting, the_link, the_readers, the_connections, the_connected, the_greatest, the_ending, ask, Part, put_header, put_children, put_contents, put_defines, put_verbs, put_slots, put_part, new_slot, slot_on, Change, new_part, new_value, new_object, new_task, new_link, new_greatest, new_ending, new_next, put_value, is_number, put_record, put_task, apply, apply_all}
 use Rattle.world.specs.Picked.{pick, picked, changed}
 use Rattle.world.proofs.Picked.{picked_put, picked_removed, sorted_changed}
 

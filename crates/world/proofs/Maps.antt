@@ -9,7 +9,7 @@ use borrow.Author.Tests.{eqb-true}
 use Rattle.std.specs.FinMap.{find, put}
 use Rattle.std.specs.FinMap.Entries.{by_order}
 use Rattle.spec_value.specs.Table.{at, with, without}
-use Rattle.spec_view.specs.Questions.{is_number, put_record}
+use Rattle.spec_world.specs.Questions.{is_number, put_record}
 use Rattle.world_table.specs.Entries.{without as without_key}
 use Rattle.world.specs.Numbered.{keyed, numbered, signed_key, signed}
 

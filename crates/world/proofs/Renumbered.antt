@@ -2,7 +2,7 @@
 use Rattle.std.proofs.Common.{◌≡◌, ℕ, ◌≤◌, ◌<◌, ◌⊎◌, inl, inr, ℤ, Bool, true, false, refl, sym, ap, ◌∙◌, ◌&&◌, IsTrue, arith, nat_le}
 use Rattle.std.specs.Prelude.{pos, negsuc, int_le, ◌-◌, ◌*◌}
 use Rattle.spec_world.specs.World.{World}
-use Rattle.spec_step.specs.Step.{Step, in_range}
+use Rattle.spec_world.specs.Step.{Step, in_range}
 use Rattle.spec_world.specs.WellFormed.{IsWellFormed, OfEachTask, id_fits, names_once}
 use Rattle.spec_value.proofs.Entries.{first_holds, second_holds, both_hold}
 use Rattle.spec_world.proofs.SlotKeeps.{has_no_cycle_same, is_in_no_cycle_same, names_same, slots_agree_carried}

@@ -5,7 +5,7 @@ use Rattle.spec_value.specs.Datum.{Text, fold_case}
 use Rattle.spec_value.specs.Table.{named}
 use Rattle.spec_world.specs.World.{World, Object, Slot, object_at}
 use Rattle.spec_world.specs.Inherit.{slot_of, slot_at}
-use Rattle.spec_view.specs.Questions.{the_slot, slot_on}
+use Rattle.spec_world.specs.Questions.{the_slot, slot_on}
 
 of_object : (x : Option Object) (p : Text) (s : Option Slot) → the_slot (option_map (λ y. named y.slots (fold_case p)) x) ≡ the_slot (Some s) → slot_of x p ≡ s
 of_object None p s is = cc

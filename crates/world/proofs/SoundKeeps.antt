@@ -7,9 +7,9 @@ use Rattle.spec_value.specs.Table.{at, named, with_name}
 use Rattle.spec_world.specs.World.{World, Object, Slot, object_at}
 use Rattle.spec_world.specs.Inherit.{slot_of, slot_at, with_slot}
 use Rattle.spec_world.specs.WellFormed.{IsWellFormed, OfEachObject}
-use Rattle.spec_view.specs.Questions.{new_value, new_next, put_value, apply}
+use Rattle.spec_world.specs.Questions.{new_value, new_next, put_value, apply}
 use Rattle.world.proofs.Renumbered.{renumbered, next_small}
-use Rattle.spec_step.specs.Step.{Step, in_range}
+use Rattle.spec_world.specs.Step.{Step, in_range}
 use Rattle.spec_moo.specs.Steps.{play1}
 use Rattle.spec_holding.specs.UnderWay.{are_programmed}
 use Rattle.spec_holding.specs.Whole.{TextsSpell, programs_spelled}

@@ -1,7 +1,7 @@
 -- The world now stays sound.
 use Rattle.std.proofs.Common.{◌≡◌, ℤ, Result, Ok, Err, OnOk, sym, subst}
 use Rattle.spec_world.specs.World.{World}
-use Rattle.spec_view.specs.Questions.{Change, new_value, apply}
+use Rattle.spec_world.specs.Questions.{Change, new_value, apply}
 use Rattle.spec_value.specs.Datum.{Datum, Text}
 use Rattle.world.specs.Sound.{IsSound}
 use Rattle.world.proofs.SoundKeeps.{sound_valued}

@@ -6,7 +6,7 @@ use Rattle.std.specs.Cmp.{nat_cmp_total}
 use Rattle.std.specs.FinMap.{put, is_sorted, nat_cmp-IsAntisymmetric}
 use Rattle.std.specs.FinMap.Entries.{by_order}
 use Rattle.spec_world.specs.World.{Task}
-use Rattle.spec_view.specs.Questions.{put_task}
+use Rattle.spec_world.specs.Questions.{put_task}
 use Rattle.moo_task.specs.Waits.{read_on}
 use Rattle.world_table.specs.Entries.{without as without_key}
 use Rattle.world.specs.Numbered.{signed_key, signed}

@@ -1,6 +1,6 @@
 -- What the records and the questions of this crate mean.
-use Rattle.spec_view.specs.Questions as meant
-use Rattle.spec_view.specs.Questions.{about_header, about_children, about_contents, about_defines, about_slot, about_verbs, about_task, about_waiting, about_link, about_readers, about_connections, about_connected, about_greatest, about_ending, the_header, the_children, the_contents, the_defines, the_slot, the_verbs, the_task, the_waiting, the_link, the_readers, the_connections, the_connected, the_greatest, the_ending, new_header, new_children, new_contents, new_defines, new_verbs, new_slot, new_part, new_value, new_object, new_task, new_link, new_greatest, new_ending, new_next}
+use Rattle.spec_world.specs.Questions as meant
+use Rattle.spec_world.specs.Questions.{about_header, about_children, about_contents, about_defines, about_slot, about_verbs, about_task, about_waiting, about_link, about_readers, about_connections, about_connected, about_greatest, about_ending, the_header, the_children, the_contents, the_defines, the_slot, the_verbs, the_task, the_waiting, the_link, the_readers, the_connections, the_connected, the_greatest, the_ending, new_header, new_children, new_contents, new_defines, new_verbs, new_slot, new_part, new_value, new_object, new_task, new_link, new_greatest, new_ending, new_next}
 use Rattle.world.specs.declared.question.Question.{Question}
 use Rattle.world.specs.declared.question.Question.TheVariants.{Header as HeaderOf, Children as ChildrenOf, Contents as ContentsOf, Defines as DefinesOf, Slot as SlotOf, Verbs as VerbsOf, Task as TaskOf, Waiting as WaitingOf, Link as LinkOf, Readers as ReadersOf, Connections as ConnectionsOf, Connected as ConnectedOf, Greatest as GreatestOf, Ending as EndingOf}
 use Rattle.world.specs.declared.question.Answer.{Answer}

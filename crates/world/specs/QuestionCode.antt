@@ -1,8 +1,8 @@
 -- How the logic stores questions, answers and changes: as the program's.
 use Rattle.std.specs.Prelude.{◌≡◌, refl}
 use Rattle.std.specs.Coded.{Coded, code_by, coded×}
-use Rattle.spec_view.specs.Questions as meant
-use Rattle.spec_view.specs.Questions.{about_header, about_children, about_contents, about_defines, about_slot, about_verbs, about_task, about_waiting, about_link, about_readers, about_connections, about_connected, about_greatest, about_ending, the_header, the_children, the_contents, the_defines, the_slot, the_verbs, the_task, the_waiting, the_link, the_readers, the_connections, the_connected, the_greatest, the_ending, new_header, new_children, new_contents, new_defines, new_verbs, new_slot, new_part, new_value, new_object, new_task, new_link, new_greatest, new_ending, new_next}
+use Rattle.spec_world.specs.Questions as meant
+use Rattle.spec_world.specs.Questions.{about_header, about_children, about_contents, about_defines, about_slot, about_verbs, about_task, about_waiting, about_link, about_readers, about_connections, about_connected, about_greatest, about_ending, the_header, the_children, the_contents, the_defines, the_slot, the_verbs, the_task, the_waiting, the_link, the_readers, the_connections, the_connected, the_greatest, the_ending, new_header, new_children, new_contents, new_defines, new_verbs, new_slot, new_part, new_value, new_object, new_task, new_link, new_greatest, new_ending, new_next}
 use Rattle.world.specs.Meanings.{question_of, answer_of, part_of, change_of}
 use Rattle.world.specs.contracts.change.Change as change
 use Rattle.world.specs.contracts.question.Answer as answer

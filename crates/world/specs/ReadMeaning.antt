@@ -1,5 +1,5 @@
 -- What a question with its answer means.
-use Rattle.spec_view.specs.Questions as meant
+use Rattle.spec_world.specs.Questions as meant
 use Rattle.world.specs.Meanings.{question_of, answer_of}
 use Rattle.world.specs.declared.reads.Read.{Read}
 

@@ -3,7 +3,7 @@ use Rattle.std.specs.Prelude.{List, refl}
 use Rattle.std.specs.Coded.{Coded, code_by, coded×, coded_list}
 use Rattle.spec_world.specs.World.{World}
 use Rattle.spec_world.specs.WorldCode.{world_code}
-use Rattle.spec_view.specs.Questions.{Read, Change, Agrees, apply_all}
+use Rattle.spec_world.specs.Questions.{Read, Change, Agrees, apply_all}
 use Rattle.world.specs.QuestionCode.{read_code, change_code}
 use Rattle.world.specs.Sound.{IsSound}
 

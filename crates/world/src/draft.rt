@@ -2,8 +2,8 @@
 ghost use Rattle.std.specs.Prelude.{◌≡◌, ◌↔◌, ◌<◌, ℕ, ℤ, pos, negsuc, false, [], max, IfOk, OnOk, OnErr, IsTrue, is_some, map, option_map, MatchOption};
 ghost use Rattle.spec_value.specs.Table.{at, with};
 ghost use Rattle.spec_world.specs.World.{object_at, with_object};
-ghost use Rattle.spec_view.specs.Listings.{waiting_ids, readers_on, connections_of, connected};
-ghost use Rattle.spec_view.specs.Questions.{header_at, children_at, contents_at, defines_at, slot_on, verbs_at, the_waiting, the_readers, the_connections, the_connected, ask, Agrees, apply, apply_all, new_part, new_value, new_next};
+ghost use Rattle.spec_world.specs.Listings.{waiting_ids, readers_on, connections_of, connected};
+ghost use Rattle.spec_world.specs.Questions.{header_at, children_at, contents_at, defines_at, slot_on, verbs_at, the_waiting, the_readers, the_connections, the_connected, ask, Agrees, apply, apply_all, new_part, new_value, new_next};
 ghost use Rattle.world.specs.Meanings.{question_of, answer_of, part_of, change_of};
 ghost use Rattle.world.specs.Numbered.{numbered};
 

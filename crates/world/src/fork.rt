@@ -1,6 +1,6 @@
 //! A world with changes that are kept or forgotten at their end.
 ghost use Rattle.std.specs.Prelude.{◌≡◌, ◌+◌, IfOk, OnOk};
-ghost use Rattle.spec_view.specs.Questions.{ask, apply};
+ghost use Rattle.spec_world.specs.Questions.{ask, apply};
 ghost use Rattle.world.specs.Meanings.{question_of, answer_of, change_of};
 ghost use Rattle.world.specs.Sound.{IsSound};
 ghost use Rattle.world.specs.Forks.{start_of, changed_in, borrow_of, IsKeepable};

@@ -2,7 +2,7 @@
 ghost use Rattle.std.specs.Prelude.{ℕ, ℤ};
 ghost use Rattle.spec_value.specs.Datum.{Datum, Text};
 ghost use Rattle.spec_world.specs.World.{World};
-ghost use Rattle.spec_view.specs.Questions.{apply, new_value, new_next};
+ghost use Rattle.spec_world.specs.Questions.{apply, new_value, new_next};
 ghost use Rattle.world.specs.Sound.{IsSound};
 ghost use Rattle.world.specs.Objects.{AddingKeeps};
 

@@ -1,7 +1,7 @@
 //! What a view promises.
 ghost use Rattle.std.specs.Prelude.{◌≡◌, ℕ, IfOk, OnOk};
 ghost use Rattle.spec_world.specs.World.{World};
-ghost use Rattle.spec_view.specs.Questions.{ask, apply};
+ghost use Rattle.spec_world.specs.Questions.{ask, apply};
 ghost use Rattle.world.specs.Meanings.{question_of, answer_of, change_of};
 ghost use Rattle.world.specs.Law.{Goes, Keeps, Lasts, Tells};
 

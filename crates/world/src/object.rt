@@ -2,7 +2,7 @@
 ghost use Rattle.std.specs.Prelude.{◌≡◌, IfOk, OnOk, OnErr};
 ghost use Rattle.spec_value.specs.Datum.{fold_case};
 ghost use Rattle.spec_value.specs.Table.{named, with_name};
-ghost use Rattle.spec_view.specs.Questions.{put_part};
+ghost use Rattle.spec_world.specs.Questions.{put_part};
 ghost use Rattle.world.specs.Meanings.{part_of};
 
 use crate::header::Header;

@@ -2,8 +2,8 @@
 ghost use Rattle.std.specs.Prelude.{◌≡◌, IfOk, OnOk};
 ghost use Rattle.spec_value.specs.Table.{at};
 ghost use Rattle.spec_world.specs.Inherit.{slot_at};
-ghost use Rattle.spec_view.specs.Listings.{waiting_ids, readers_on, connections_of, connected};
-ghost use Rattle.spec_view.specs.Questions.{header_at, children_at, contents_at, defines_at, verbs_at, apply, new_part, new_value, new_object, new_task, new_link, new_greatest, new_ending, new_next};
+ghost use Rattle.spec_world.specs.Listings.{waiting_ids, readers_on, connections_of, connected};
+ghost use Rattle.spec_world.specs.Questions.{header_at, children_at, contents_at, defines_at, verbs_at, apply, new_part, new_value, new_object, new_task, new_link, new_greatest, new_ending, new_next};
 ghost use Rattle.world.specs.Meanings.{part_of, change_of};
 ghost use Rattle.world.specs.Law.{Goes, Keeps, Lasts, StaysSound, Tells};
 

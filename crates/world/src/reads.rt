@@ -22,7 +22,7 @@ pub struct Reads {
 impl Model for Reads {
     ghost use Rattle.std.specs.Prelude.{List, map};
     ghost use Rattle.std.specs.Coded.{coded_list};
-    ghost use Rattle.spec_view.specs.Questions.{Read as Meant};
+    ghost use Rattle.spec_world.specs.Questions.{Read as Meant};
     ghost use Rattle.world.specs.QuestionCode.{read_code};
 
     ghost Value = { List Meant };
@@ -73,7 +73,7 @@ pub struct Changes {
 impl Model for Changes {
     ghost use Rattle.std.specs.Prelude.{List, map};
     ghost use Rattle.std.specs.Coded.{coded_list};
-    ghost use Rattle.spec_view.specs.Questions.{Change as Meant};
+    ghost use Rattle.spec_world.specs.Questions.{Change as Meant};
     ghost use Rattle.world.specs.QuestionCode.{change_code};
     ghost use Rattle.world.specs.Meanings.{change_of};
 

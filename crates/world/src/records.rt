@@ -2,7 +2,7 @@
 ghost use Rattle.std.specs.Prelude.{◌≡◌, ◌↔◌, ◌<◌, ◌^◌, ℕ, ℤ, pos, negsuc, OnOk, OnErr, IsTrue, is_some, None, option_map, MatchOption};
 ghost use Rattle.std.specs.List.{AllByRecursion};
 ghost use Rattle.spec_value.specs.Table.{at, with};
-ghost use Rattle.spec_view.specs.Questions.{put_record as changed_record};
+ghost use Rattle.spec_world.specs.Questions.{put_record as changed_record};
 ghost use Rattle.world.specs.Numbered.{numbered};
 
 use crate::link::Link;

@@ -1,6 +1,6 @@
 //! Comparisons of records and answers. None takes memory.
 ghost use Rattle.std.specs.Prelude.{◌≡◌, ◌↔◌, IsTrue, option_map};
-ghost use Rattle.spec_view.specs.Questions.{the_header, the_children, the_contents, the_defines, the_slot, the_verbs, the_task, the_waiting, the_link, the_readers, the_connections, the_connected, the_greatest, the_ending};
+ghost use Rattle.spec_world.specs.Questions.{the_header, the_children, the_contents, the_defines, the_slot, the_verbs, the_task, the_waiting, the_link, the_readers, the_connections, the_connected, the_greatest, the_ending};
 ghost use Rattle.world.specs.Meanings.{answer_of};
 
 use crate::header::Header;

@@ -4,7 +4,7 @@ ghost use Rattle.std.specs.Option.{option_and_then};
 ghost use Rattle.std.specs.Ordering.{nat_cmp};
 ghost use Rattle.spec_value.specs.Table.{at};
 ghost use Rattle.spec_world.specs.Links.{reads_on};
-ghost use Rattle.spec_view.specs.Questions.{put_task};
+ghost use Rattle.spec_world.specs.Questions.{put_task};
 ghost use Rattle.moo_task.specs.Waits.{read_on};
 ghost use Rattle.world.specs.Numbered.{signed_key};
 ghost use Rattle.world.specs.Picked.{changed};

@@ -1,7 +1,7 @@
 //! A view of a snapshot that keeps what was read.
 ghost use Rattle.std.specs.Prelude.{◌≡◌, ◌++◌, ◌∷◌, [], ℕ, IfOk, OnOk, OnErr};
 ghost use Rattle.spec_world.specs.World.{World as Plain};
-ghost use Rattle.spec_view.specs.Questions.{ask, apply, apply_all, Agrees};
+ghost use Rattle.spec_world.specs.Questions.{ask, apply, apply_all, Agrees};
 ghost use Rattle.world.specs.Meanings.{question_of, answer_of, change_of};
 ghost use Rattle.world.specs.Sound.{IsSound};
 ghost use Rattle.world.specs.Law.{Goes, Keeps};
@@ -30,7 +30,7 @@ impl<'s> Model for Tracked<'s> {
     ghost use Rattle.std.specs.Option.{unwrap_or};
     ghost use Rattle.world.specs.Trace.{Trace, trace_code};
     ghost use Rattle.world.specs.Sound.{IsSound};
-    ghost use Rattle.spec_view.specs.Questions.{Agrees, apply_all};
+    ghost use Rattle.spec_world.specs.Questions.{Agrees, apply_all};
 
     ghost Value = { Trace };
 

@@ -1,6 +1,6 @@
 //! Worlds and snapshots.
 ghost use Rattle.std.specs.Prelude.{◌≡◌, ◌↔◌, ◌+◌, ◌≤◌, ℕ, negsuc, false, [], max, IfOk, OnOk, OnErr, IsTrue};
-ghost use Rattle.spec_view.specs.Questions.{ask, Agrees, apply_all};
+ghost use Rattle.spec_world.specs.Questions.{ask, Agrees, apply_all};
 ghost use Rattle.world.specs.Meanings.{question_of, answer_of};
 ghost use Rattle.world.specs.Sound.{IsSound};
 

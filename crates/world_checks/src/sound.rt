@@ -2,10 +2,10 @@
 ghost use Rattle.std.specs.Prelude.{IfOk, IsTrue};
 ghost use Rattle.world.specs.Sound.{IsSound};
 
-use draft_checks::spelled::is_spelled;
-use draft_checks::tasks::tasks_are_sound;
-use object_checks::links::links_are_sound;
-use object_checks::whole::{next_is_sound, objects_are_sound};
+use crate::draft_checks::spelled::is_spelled;
+use crate::draft_checks::tasks::tasks_are_sound;
+use crate::object_checks::links::links_are_sound;
+use crate::object_checks::whole::{next_is_sound, objects_are_sound};
 use std::alloc::{AllocError, Global};
 use world::draft::Draft;
 

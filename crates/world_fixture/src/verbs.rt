@@ -7,7 +7,7 @@ ghost use Rattle.spec_fixture.specs.Texts.{program_of};
 
 use crate::fixture::WIZARD;
 use moo_compiler::program::Program;
-use moo_parse::parse::parse;
+use moo_syntax::parse::parse;
 use moo_tree::statement::Tree;
 use moo_value::text::Text;
 use std::alloc::{AllocError, Global};

@@ -2,17 +2,17 @@
 ghost use Rattle.std.specs.Prelude.{◌≡◌, IfOk, OnOk};
 ghost use Rattle.rules.specs.Lines.{AreAgreeing};
 ghost use Rattle.world.specs.Law.{Goes, Lasts};
-ghost use Rattle.builtins.specs.Requests.{acting_of, said_of};
+ghost use Rattle.builtins_view.specs.Requests.{acting_of, said_of};
 ghost use Rattle.builtins.specs.BuiltinDeedsActing.{ActsFor};
 
-use crate::builtin_requests::acting::Acting;
 use crate::builtins_links::acting::set_task_perms;
 use crate::builtins_links::links::{boot_player, read};
 use crate::builtins_links::notify::notify;
 use crate::builtins_objects::players::set_player_flag;
 use crate::builtins_queue::kill::kill_task;
 use crate::builtins_queue::resume::{resume, resume_with};
-use builtins_task::server::dump_database;
+use builtins_view::builtin_requests::acting::Acting;
+use builtins_view::builtins_task::server::dump_database;
 use moo_task::deeds::Deeds;
 use moo_task::effect::NativeEffect;
 use moo_task::running::Running;

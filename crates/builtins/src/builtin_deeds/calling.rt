@@ -2,14 +2,14 @@
 ghost use Rattle.std.specs.Prelude.{IfOk, OnOk};
 ghost use Rattle.rules.specs.Lines.{AreAgreeing};
 ghost use Rattle.world.specs.Law.{Goes, Lasts};
-ghost use Rattle.builtins.specs.Requests.{calling_of, said_of};
+ghost use Rattle.builtins_view.specs.Requests.{calling_of, said_of};
 ghost use Rattle.builtins.specs.BuiltinDeedsActing.{ActsFor};
 
-use crate::builtin_requests::calling::Calling;
 use crate::builtins_code::evaluating::eval;
 use crate::builtins_staged::create::{create, create_for};
 use crate::builtins_staged::moving::move_object;
 use crate::builtins_staged::recycling::recycle;
+use builtins_view::builtin_requests::calling::Calling;
 use moo_task::deeds::Deeds;
 use moo_task::effect::NativeEffect;
 use moo_task::running::Running;

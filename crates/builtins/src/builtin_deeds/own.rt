@@ -1,13 +1,13 @@
 //! What a task knows and does of itself.
 ghost use Rattle.std.specs.Prelude.{IfOk};
 ghost use Rattle.spec_world.specs.World.{World};
-ghost use Rattle.builtins.specs.Requests.{own_of, said_of};
+ghost use Rattle.builtins_view.specs.Requests.{own_of, said_of};
 ghost use Rattle.builtins.specs.BuiltinDeedsActing.{ActsFor};
 
-use crate::builtin_requests::own::Own;
 use crate::builtins_queue::callers::caller_perms;
-use builtins_task::chance::{random, random_integer};
-use builtins_task::tasks::{
+use builtins_view::builtin_requests::own::Own;
+use builtins_view::builtins_task::chance::{random, random_integer};
+use builtins_view::builtins_task::tasks::{
     raise, raise_told, raise_with, suspend, suspend_for, task_id, ticks_left, time,
 };
 use moo_task::deeds::Deeds;

@@ -11,10 +11,10 @@ ghost use Rattle.builtin_table.specs.Functions.{call_of, row_of_function};
 ghost use Rattle.builtins.specs.BuiltinDeedsActing.{ActsFor};
 
 use crate::builtin_natives::perform::perform;
-use crate::builtin_requests::request::read_request;
 use builtin_table::function::Builtin;
 use builtin_table::world_function::WorldFunction;
 use builtins_value::function as values;
+use builtins_view::builtin_requests::request::read_request;
 use moo_task::deeds::Deeds;
 use moo_task::effect::NativeEffect;
 use moo_task::running::Running;

@@ -2,7 +2,7 @@
 ghost use Rattle.std.specs.Prelude.{IfOk, OnOk};
 ghost use Rattle.rules.specs.Lines.{AreAgreeing};
 ghost use Rattle.world.specs.Law.{Goes, Lasts};
-ghost use Rattle.builtins.specs.Requests.{asking_of, changing_of, request_of, said_of};
+ghost use Rattle.builtins_view.specs.Requests.{asking_of, changing_of, request_of, said_of};
 ghost use Rattle.builtins.specs.BuiltinDeedsActing.{ActsFor};
 
 use crate::builtin_calls::ask::ask;
@@ -10,9 +10,9 @@ use crate::builtin_calls::change::change;
 use crate::builtin_deeds::acting::{act, programmer};
 use crate::builtin_deeds::calling::call_verb;
 use crate::builtin_deeds::own::about_itself;
-use crate::builtin_requests::asking::Asking;
-use crate::builtin_requests::changing::Changing;
-use crate::builtin_requests::request::Request;
+use builtins_view::builtin_requests::asking::Asking;
+use builtins_view::builtin_requests::changing::Changing;
+use builtins_view::builtin_requests::request::Request;
 use moo_task::deeds::Deeds;
 use moo_task::effect::NativeEffect;
 use moo_task::running::Running;

@@ -3,20 +3,20 @@ ghost use Rattle.std.specs.Prelude.{◌≡◌, ◌++◌, [], ◌∷◌, Some, st
 ghost use Rattle.spec_value.specs.Datum.{object as object_of, list, of_list};
 ghost use Rattle.spec_program.specs.ReadPrograms as by;
 ghost use Rattle.spec_world.specs.Permissions.{in_place};
-ghost use Rattle.spec_view.specs.Questions.{verbs_at};
+ghost use Rattle.spec_world.specs.Questions.{verbs_at};
 ghost use Rattle.spec_moo.specs.Natives.Verbs.{set_verb_code_row, texts_of};
-ghost use Rattle.moo_parse.specs.Answer.{IsAnswer};
+ghost use Rattle.moo_syntax.specs.Answer.{IsAnswer};
 ghost use Rattle.moo_value.specs.Answers.{answer_of};
 ghost use Rattle.world.specs.Law.{Goes, Lasts};
 ghost use Rattle.rules.specs.Lines.{AreAgreeing};
-ghost use Rattle.builtins_world.specs.Said.{Does};
+ghost use Rattle.builtins_view.specs.Said.{Does};
 ghost use Rattle.builtins.specs.Later.{Programs};
 
 use crate::builtins_code::faults::fault_value;
-use builtins_change::put::put_program;
-use builtins_world::own_verb::own_verb;
+use builtins_view::builtins_change::put::put_program;
+use builtins_view::builtins_world::own_verb::own_verb;
 use moo_compiler::program::Program;
-use moo_parse::parse::answered;
+use moo_syntax::parse::answered;
 use moo_tree::statement::Tree;
 use moo_value::answer::Answer;
 use moo_value::error::MooError;

@@ -7,9 +7,9 @@ ghost use Rattle.spec_moo.specs.Natives.Properties.{as_texts};
 ghost use Rattle.spec_moo.specs.Natives.Verbs.{verb_code_row};
 ghost use Rattle.moo_value.specs.Answers.{answer_of};
 ghost use Rattle.world.specs.Law.{Lasts, Tells};
-ghost use Rattle.builtins_world.specs.Said.{Says};
+ghost use Rattle.builtins_view.specs.Said.{Says};
 
-use builtins_world::own_verb::own_verb;
+use builtins_view::builtins_world::own_verb::own_verb;
 use moo_printer::print::print;
 use moo_value::answer::Answer;
 use moo_value::error::MooError;

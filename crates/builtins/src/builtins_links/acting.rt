@@ -6,7 +6,7 @@ ghost use Rattle.spec_moo.specs.Natives.Tasks.{set_task_perms_row};
 ghost use Rattle.spec_moo.specs.Scene.{Scene, in_world};
 ghost use Rattle.moo_task.specs.Effects.{effect_of};
 ghost use Rattle.world.specs.Law.{Lasts, Tells};
-ghost use Rattle.builtins_world.specs.Said.{with_programmer};
+ghost use Rattle.builtins_view.specs.Said.{with_programmer};
 ghost use Rattle.builtins.specs.Refused.{IsRefusal};
 
 use moo_task::effect::NativeEffect;

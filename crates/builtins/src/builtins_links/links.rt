@@ -12,7 +12,7 @@ ghost use Rattle.rules.specs.Lines.{AreAgreeing};
 ghost use Rattle.builtins.specs.BuiltinsLinksActing.{Acts, with_player};
 
 use crate::builtins_links::acting::refusal;
-use builtins_task::ids::own_id;
+use builtins_view::builtins_task::ids::own_id;
 use moo_task::deeds::Deeds;
 use moo_task::effect::{NativeEffect, Waiting};
 use moo_value::answer::Answer;
@@ -20,8 +20,8 @@ use moo_value::error::MooError;
 use moo_value::value::Value;
 use rules::permissions::act::Act;
 use rules::permissions::may::may;
+use running::step_deeds::links::{close_connection_of, connection, reader};
 use std::alloc::AllocError;
-use step_deeds::links::{close_connection_of, connection, reader};
 use world::law::View;
 
 /// `boot_player`: the link of an object is closed, if it has one. `E_INVARG` where the object is not there, `E_PERM` where the

@@ -7,7 +7,7 @@ ghost use Rattle.spec_moo.specs.Natives.Tasks.{connected_players_row};
 ghost use Rattle.moo_value.specs.Answers.{answer_of};
 ghost use Rattle.world.specs.Law.{Lasts, Tells};
 ghost use Rattle.rules.specs.Lines.{AreAgreeing};
-ghost use Rattle.builtins_world.specs.Said.{Says};
+ghost use Rattle.builtins_view.specs.Said.{Says};
 
 use moo_value::answer::Answer;
 use moo_value::value::Value;

@@ -9,13 +9,13 @@ ghost use Rattle.moo_value.specs.Errors.{code_of};
 ghost use Rattle.rules.specs.Lines.{AreAgreeing};
 ghost use Rattle.rules.specs.Below.{IsFamily};
 ghost use Rattle.world.specs.Law.{Goes, Lasts, Tells};
-ghost use Rattle.builtins_world.specs.Said.{Does};
+ghost use Rattle.builtins_view.specs.Said.{Does};
 ghost use Rattle.builtins.specs.Verdict.{verdict};
 ghost use Rattle.builtins.specs.Parents.{adopted, parent_checks};
 
 use crate::builtins_objects::asked::{are_there, is_below, may_both};
-use crate::reparenting::clashes::any_clashes;
-use crate::reparenting::reparent::reparent;
+use builtins_view::reparenting::clashes::any_clashes;
+use builtins_view::reparenting::reparent::reparent;
 use moo_value::answer::Answer;
 use moo_value::error::MooError;
 use moo_value::value::Value;

@@ -7,7 +7,7 @@ ghost use Rattle.rules.specs.Lines.{AreAgreeing};
 ghost use Rattle.world.specs.Law.{Goes, Lasts};
 ghost use Rattle.builtins.specs.Going.{forgotten, HasChildren};
 
-use crate::reparenting::reparent::reparent;
+use builtins_view::reparenting::reparent::reparent;
 use rules::family::below::below;
 use rules::relatives::children::lose_child;
 use rules::relatives::contents::{out_of_place, put_location};

@@ -5,7 +5,7 @@ ghost use Rattle.spec_moo.specs.Natives.Tasks.{is_own_id, kills, kill_task_row};
 ghost use Rattle.moo_value.specs.Answers.{answer_of};
 ghost use Rattle.world.specs.Law.{Goes, Lasts};
 ghost use Rattle.rules.specs.Lines.{AreAgreeing};
-ghost use Rattle.builtins_world.specs.Said.{Does};
+ghost use Rattle.builtins_view.specs.Said.{Does};
 ghost use Rattle.builtins.specs.BuiltinsQueueActing.{Acts};
 
 use crate::builtins_queue::owners::programmer_of;

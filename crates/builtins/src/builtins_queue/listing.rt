@@ -8,7 +8,7 @@ ghost use Rattle.moo_value.specs.Answers.{answer_of};
 ghost use Rattle.moo_task.specs.Effects.{waiting_of};
 ghost use Rattle.world.specs.Law.{Lasts, Tells};
 ghost use Rattle.rules.specs.Lines.{AreAgreeing};
-ghost use Rattle.builtins_world.specs.Said.{Says};
+ghost use Rattle.builtins_view.specs.Said.{Says};
 ghost use Rattle.builtins.specs.Listed.{seen_task, seen_at, seen_of};
 
 use crate::builtins_queue::owners::programmer_of;

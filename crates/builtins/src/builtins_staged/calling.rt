@@ -6,9 +6,9 @@ ghost use Rattle.rules.specs.Lines.{AreAgreeing};
 ghost use Rattle.world.specs.Law.{Lasts, Tells};
 ghost use Rattle.builtins.specs.Led.{MayBegin};
 
-use moo_machine::call::Call;
 use moo_program::program::Program;
 use moo_task::effect::NativeEffect;
+use moo_task::moo_machine::call::Call;
 use moo_task::native::Native;
 use moo_value::text::Text;
 use moo_value::value::Value;

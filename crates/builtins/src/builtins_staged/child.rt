@@ -7,8 +7,8 @@ ghost use Rattle.rules.specs.Lines.{AreAgreeing};
 ghost use Rattle.world.specs.Law.{Goes, Lasts, Tells};
 ghost use Rattle.builtins.specs.Children.{child_header, child_with, put_heirs, IsNext};
 
-use crate::reparenting::along::inherited_slots;
-use crate::reparenting::heirs::heir_slot;
+use builtins_view::reparenting::along::inherited_slots;
+use builtins_view::reparenting::heirs::heir_slot;
 use moo_value::text::Text;
 use rules::relatives::children::add_child;
 use std::alloc::{AllocError, Global};

@@ -1,7 +1,7 @@
 //! The objects below one, from parents to children.
 ghost use Rattle.std.specs.Prelude.{◌≡◌, ◌<◌, ◌++◌, pos, length, get_or, is_some, IfOk, OnOk, IsTrue};
 ghost use Rattle.spec_world.specs.World.{World, object_at};
-ghost use Rattle.spec_view.specs.Questions.{children_at};
+ghost use Rattle.spec_world.specs.Questions.{children_at};
 ghost use Rattle.world.specs.Law.{Lasts, Tells};
 ghost use Rattle.rules.specs.Lines.{AreAgreeing};
 ghost use Rattle.rules.specs.Below.{IsFamily, among};

@@ -1,7 +1,7 @@
 //! Slots that objects lose.
 ghost use Rattle.std.specs.Prelude.{◌≡◌, None, IfOk, OnOk};
 ghost use Rattle.spec_world.specs.Families.{change_object};
-ghost use Rattle.spec_view.specs.Questions.{new_slot};
+ghost use Rattle.spec_world.specs.Questions.{new_slot};
 ghost use Rattle.world.specs.Meanings.{part_of};
 ghost use Rattle.world.specs.Law.{Goes, Lasts};
 ghost use Rattle.rules.specs.InTurn.{in_turn};

@@ -1,15 +1,15 @@
 //! Where an instruction leads a task.
 ghost use Rattle.std.specs.Prelude.{◌≡◌, IfOk};
 ghost use Rattle.spec_moo.specs.Scene.{Scene};
-ghost use Rattle.moo_machine.specs.Shown.{shown};
+ghost use Rattle.moo_task.specs.Shown.{shown};
 ghost use Rattle.moo_task.specs.Outcomes.{around, led};
 ghost use Rattle.running.specs.Called.{shown_called, HasList};
 
 use crate::moo_objects::calling::Called;
-use moo_machine::leaving::Leaving;
-use moo_machine::raising::raised;
-use moo_machine::verb::Did;
 use moo_program::program::Program;
+use moo_task::moo_machine::leaving::Leaving;
+use moo_task::moo_machine::raising::raised;
+use moo_task::moo_machine::verb::Did;
 use moo_task::outcome::Outcome;
 use moo_task::running::Running;
 use rules::inherit::verb::FoundVerb;

@@ -7,14 +7,14 @@ ghost use Rattle.spec_moo.specs.Effect.{Effect, erring};
 ghost use Rattle.moo_value.specs.Errors.{code_of};
 ghost use Rattle.spec_moo.specs.Effects.Calls.{with_arguments, found_effect};
 ghost use Rattle.moo_code.specs.Instruction.{call_verb as call_verb_of, call_function};
-ghost use Rattle.moo_machine.specs.Shown.{Around, here};
+ghost use Rattle.moo_task.specs.Shown.{Around, here};
 ghost use Rattle.rules.specs.Lines.{AreAgreeing};
 ghost use Rattle.rules.specs.Calling.{call_effect};
 ghost use Rattle.world.specs.Law.{Goes, Lasts};
 ghost use Rattle.running.specs.Called.{items_of, running, effect_of, shown_called, weighed_effect, Calls, HasList};
 
-use moo_machine::call::Call;
-use moo_machine::verb::{Did, State};
+use moo_task::moo_machine::call::Call;
+use moo_task::moo_machine::verb::{Did, State};
 use moo_value::answer::limited;
 use moo_value::error::MooError;
 use moo_value::text::Text;

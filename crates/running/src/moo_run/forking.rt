@@ -6,12 +6,12 @@ ghost use Rattle.moo_program.specs.Gathering.{forks_in};
 ghost use Rattle.moo_program.specs.Meaning.{some_name_at, body_at};
 ghost use Rattle.rules.specs.Lines.{AreAgreeing};
 ghost use Rattle.world.specs.Law.{Goes, Lasts};
-ghost use Rattle.moo_forks.specs.Forking.{forks};
+ghost use Rattle.moo_task.specs.Forking.{forks};
 ghost use Rattle.running.specs.Scenes.{led_at};
 
 use crate::moo_asking::leading::led_by;
-use moo_forks::fork::{Fork, start_fork};
 use moo_task::deeds::Deeds;
+use moo_task::moo_forks::fork::{Fork, start_fork};
 use moo_task::outcome::Outcome;
 use moo_task::running::Running;
 use std::alloc::{AllocError, Global};

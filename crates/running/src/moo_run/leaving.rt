@@ -1,7 +1,7 @@
 //! Out of verbs, into what waits for them.
 ghost use Rattle.std.specs.Prelude.{◌≡◌, ◌<◌, ℕ, length, IfOk, OnOk};
 ghost use Rattle.spec_moo.specs.Scene.{Scene};
-ghost use Rattle.moo_machine.specs.Meant.{failure_meant, leaving_meant};
+ghost use Rattle.moo_task.specs.Meant.{failure_meant, leaving_meant};
 ghost use Rattle.spec_moo.specs.Leaving.{returned, failed, broken, continued};
 ghost use Rattle.rules.specs.Lines.{AreAgreeing};
 ghost use Rattle.world.specs.Law.{Goes, Lasts};
@@ -13,9 +13,9 @@ ghost use Rattle.running.specs.Steps.{out_at, out_in, into_native_at, leaves_at,
 use crate::moo_run::natives::Natives;
 use crate::moo_unwind::offer::Offer;
 use crate::moo_unwind::unwind::leave;
-use moo_machine::leaving::{Failure, Leaving};
 use moo_task::deeds::Deeds;
 use moo_task::frame::{Frame, Outer};
+use moo_task::moo_machine::leaving::{Failure, Leaving};
 use moo_task::native::Native;
 use moo_task::outcome::{End, Outcome};
 use moo_task::running::Running;

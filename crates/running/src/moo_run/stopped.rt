@@ -1,8 +1,8 @@
 //! How a run of a task stops.
-use moo_machine::leaving::Traced;
 use moo_task::deeds::Deeds;
 use moo_task::effect::Waiting;
 use moo_task::frame::Frame;
+use moo_task::moo_machine::leaving::Traced;
 use moo_task::outcome::End;
 use moo_task::outers::Outers;
 

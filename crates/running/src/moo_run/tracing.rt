@@ -5,9 +5,9 @@ ghost use Rattle.moo_code.specs.Machine.{entries};
 ghost use Rattle.moo_task.specs.Frames.{outer_of, outers_of};
 ghost use Rattle.moo_task.specs.Outcomes.{pending_of};
 
-use moo_machine::leaving::Traced;
-use moo_machine::raising::traced;
 use moo_task::frame::Outer;
+use moo_task::moo_machine::leaving::Traced;
+use moo_task::moo_machine::raising::traced;
 use moo_task::running::Running;
 use std::alloc::{AllocError, Global};
 

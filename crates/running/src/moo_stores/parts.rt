@@ -3,13 +3,13 @@ ghost use Rattle.std.specs.Prelude.{◌≡◌, ◌<◌, ◌+◌, ◌^◌, [], le
 ghost use Rattle.spec_value.specs.Datum.{Text as TextOf};
 ghost use Rattle.moo_code.specs.Instruction.{length_of, target_at, store as store_of, in_variable};
 ghost use Rattle.moo_program.specs.Meaning.{bracketed};
-ghost use Rattle.moo_machine.specs.Shown.{Around, Names, shown, performs_of};
+ghost use Rattle.moo_task.specs.Shown.{Around, Names, shown, performs_of};
 
 use crate::moo_stores::slots::{length_in_slot, put_in_slot};
 use crate::moo_targets::parts::count_in;
-use moo_machine::call::Call;
-use moo_machine::verb::{Did, State};
 use moo_program::instruction::Bracket;
+use moo_task::moo_machine::call::Call;
+use moo_task::moo_machine::verb::{Did, State};
 use std::alloc::{AllocError, Global};
 
 /// `$` in brackets behind a part of a variable, where the values in the brackets before begin above so many operands.

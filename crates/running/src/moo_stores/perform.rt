@@ -4,16 +4,16 @@ ghost use Rattle.spec_program.specs.Tree.{Program};
 ghost use Rattle.moo_code.specs.Instruction.{length_of, target_at, store as store_of};
 ghost use Rattle.moo_code.specs.Names.{names_of};
 ghost use Rattle.moo_program.specs.Meaning.{shape_meant};
-ghost use Rattle.moo_machine.specs.Shown.{Around, shown, performs_of};
+ghost use Rattle.moo_task.specs.Shown.{Around, shown, performs_of};
 ghost use Rattle.moo_task.specs.Performing.{HasNames, IsDone};
 ghost use Rattle.running.specs.Giving.{AreWithin};
 
 use crate::moo_stores::parts::{length_of_part, store_part};
 use crate::moo_stores::scatter::{scatter, scatter_on};
 use crate::moo_stores::shares::are_within;
-use moo_machine::call::Call;
-use moo_machine::verb::{Did, State};
 use moo_program::instruction::{Instruction, Scatter, Shape};
+use moo_task::moo_machine::call::Call;
+use moo_task::moo_machine::verb::{Did, State};
 use moo_task::perform::slot_there;
 use std::alloc::{AllocError, Global};
 

@@ -4,13 +4,13 @@ ghost use Rattle.moo_code.specs.Instruction.{scatter as scatter_of, scatter_on a
 ghost use Rattle.moo_code.specs.Machine.{place_for};
 ghost use Rattle.moo_code.specs.Names.{names_of};
 ghost use Rattle.moo_program.specs.Meaning.{slot_meant, part_meant};
-ghost use Rattle.moo_machine.specs.Shown.{Around, shown, performs_of};
+ghost use Rattle.moo_task.specs.Shown.{Around, shown, performs_of};
 ghost use Rattle.running.specs.Giving.{AreWithin};
 
 use crate::moo_stores::shares::{give, next_default, shares};
-use moo_machine::call::Call;
-use moo_machine::verb::{Did, State};
 use moo_program::instruction::{Part, Scatter};
+use moo_task::moo_machine::call::Call;
+use moo_task::moo_machine::verb::{Did, State};
 use std::alloc::{AllocError, Global};
 
 // Where the part with a number begins, if it is one of these, and else the place behind.

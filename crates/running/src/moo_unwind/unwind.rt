@@ -9,15 +9,15 @@ ghost use Rattle.moo_code.specs.Layout.{handlers_of};
 ghost use Rattle.moo_code.specs.Machine.{Step, covers as covers_of, handlers_here};
 ghost use Rattle.moo_code.specs.Names.{names_of};
 ghost use Rattle.moo_program.specs.Meaning.{handler_meant};
-ghost use Rattle.moo_machine.specs.Meant.{leaving_meant};
-ghost use Rattle.moo_machine.specs.Shown.{Around, kept};
+ghost use Rattle.moo_task.specs.Meant.{leaving_meant};
+ghost use Rattle.moo_task.specs.Shown.{Around, kept};
 ghost use Rattle.running.specs.Taking.{CatchWithin, HandlersWithin};
 ghost use Rattle.running.specs.Offers.{offered, offer_shown, UnlessPassed};
 
 use crate::moo_unwind::offer::{Offer, offer_to};
-use moo_machine::leaving::Leaving;
-use moo_machine::verb::State;
 use moo_program::instruction::Handler;
+use moo_task::moo_machine::leaving::Leaving;
+use moo_task::moo_machine::verb::State;
 use std::alloc::{AllocError, Global};
 
 /// Offers a leaving to the handlers around the place of a verb, the innermost first: one of them takes it, and the verb goes on where the state

@@ -9,8 +9,8 @@ ghost use Rattle.rules.specs.Writing.{IsWritten};
 ghost use Rattle.running.specs.Parts.{part_there, part_written};
 
 use crate::moo_targets::parts::{part, put};
-use moo_machine::lengths::length as length_of;
 use moo_program::instruction::Bracket;
+use moo_task::moo_machine::lengths::length as length_of;
 use moo_value::answer::Answer;
 use moo_value::error::MooError;
 use moo_value::value::Value;

@@ -13,9 +13,9 @@ use Rattle.spec_moo.specs.Scene.{Scene, in_world, has_ids, next_id, id_taken, en
 use Rattle.spec_moo.specs.Linking.{link_closed}
 use Rattle.spec_moo.specs.Pending.{Pending, Stop, done}
 use Rattle.spec_moo.specs.Natives.Properties.{as_texts}
-use Rattle.spec_step.specs.Step as step
-use Rattle.spec_step.specs.Step.{Event, line_of, ready_task, Step}
-use Rattle.spec_step.specs.Outcome.{Result, Outcome, none, absent, early}
+use Rattle.spec_world.specs.Step as step
+use Rattle.spec_world.specs.Step.{Event, line_of, ready_task, Step}
+use Rattle.spec_world.specs.Outcome.{Result, Outcome, none, absent, early}
 use Rattle.spec_moo.specs.Steps.Outcomes.{opening_scene, comes_to, idle_with}
 use Rattle.spec_moo.specs.Steps.Running.{Ran, run, came_to, told_on, system_task, system, on_system, begun, gone_on}
 use Rattle.spec_moo.specs.Steps.Programming.{says, requested, collected}

@@ -2,8 +2,8 @@
 use Rattle.std.specs.Prelude.{ℕ, ℤ, List, [], Bool, false, None}
 use Rattle.spec_value.specs.Datum.{Datum, Text}
 use Rattle.spec_world.specs.World.{World}
-use Rattle.spec_step.specs.Outcome.{Result, Outcome}
-use Rattle.spec_step.specs.Step.{Step}
+use Rattle.spec_world.specs.Outcome.{Result, Outcome}
+use Rattle.spec_world.specs.Step.{Step}
 use Rattle.spec_moo.specs.Scene.{Scene}
 
 -- nothing was done

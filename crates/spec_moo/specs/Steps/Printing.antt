@@ -3,8 +3,8 @@ use Rattle.std.specs.Prelude.{ℕ, ℤ, List, [], ◌∷◌, ◌++◌, codes}
 use Rattle.std.specs.Fmt.{decimal, signed_decimal}
 use Rattle.spec_value.specs.Datum.{Text}
 use Rattle.spec_value.specs.Literal.{literal}
-use Rattle.spec_step.specs.Outcome.{Due, at_moment, never, when_read, Queued}
-use Rattle.spec_step.specs.Outcome.{Result, value_of, raised_by, suspended, reading, ran_out, killed, none, absent, early, ended, Outcome}
+use Rattle.spec_world.specs.Outcome.{Due, at_moment, never, when_read, Queued}
+use Rattle.spec_world.specs.Outcome.{Result, value_of, raised_by, suspended, reading, ran_out, killed, none, absent, early, ended, Outcome}
 
 abbrev pub result_text : Result → Text
 result_text (value_of v) = codes "value " ++ literal v

@@ -14,7 +14,7 @@ use Rattle.spec_world.specs.CommandLines.{Request, other_form}
 use Rattle.spec_moo.specs.Scene.{Scene, in_world}
 use Rattle.spec_moo.specs.Natives.Properties.{as_texts}
 use Rattle.spec_moo.specs.Natives.Verbs.{place_of_word}
-use Rattle.spec_step.specs.Outcome.{Outcome, none}
+use Rattle.spec_world.specs.Outcome.{Outcome, none}
 use Rattle.spec_moo.specs.Steps.Outcomes.{comes_to}
 use Rattle.spec_moo.specs.Steps.Running.{told_on}
 

@@ -11,8 +11,8 @@ use Rattle.spec_moo.specs.Pending.{begin, hand, Pending, Stop, done, raised, out
 use Rattle.spec_moo.specs.Segment.{Ended, segment}
 use Rattle.spec_moo.specs.Telling.{stop_lines}
 use Rattle.spec_moo.specs.Calling.{nowhere, starting}
-use Rattle.spec_step.specs.Outcome as outcome
-use Rattle.spec_step.specs.Outcome.{Result, Outcome, value_of, raised_by, suspended, reading, ran_out}
+use Rattle.spec_world.specs.Outcome as outcome
+use Rattle.spec_world.specs.Outcome.{Result, Outcome, value_of, raised_by, suspended, reading, ran_out}
 use Rattle.spec_moo.specs.Steps.Outcomes.{comes_to}
 
 -- ---- what is told

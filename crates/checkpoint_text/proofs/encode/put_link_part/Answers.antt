@@ -1,7 +1,7 @@
 use Rattle.std.proofs.Common.{length, refl, ◌∙◌}
 use Rattle.std.specs.Prelude.{codes}
 use Rattle.spec_world.specs.Checkpoint.{link_lines}
-use Rattle.checkpoint_objects.specs.Lines.{link_line}
+use Rattle.checkpoint_text.specs.CheckpointObjectsLines.{link_line}
 use Rattle.checkpoint_text.proofs.Parts.{all_links, part_written}
 use Rattle.checkpoint_text.proofs.encode.put_link_part.Goals as goal
 

@@ -1,8 +1,8 @@
 use Rattle.std.proofs.Common.{◌≡◌, pos, ◌++◌, get_or, rules, w32, to_z, of_z}
 use Rattle.std.proofs.lemmas.List.{get_or_default}
 use Rattle.spec_world.specs.Checkpoint.{task_lines, with_line_ends}
-use Rattle.checkpoint_fields.specs.Each.{of_each}
-use Rattle.checkpoint_fields.proofs.Turns.{next_found}
+use Rattle.checkpoint_text.specs.Each.{of_each}
+use Rattle.checkpoint_text.proofs.Turns.{next_found}
 use Rattle.checkpoint_text.proofs.tasks.put_tasks.Goals as goal
 
 pub loop-id-preserved : goal.loop-id-preserved

@@ -1,6 +1,6 @@
 use Rattle.std.proofs.Common.{◌≡◌, ◌++◌, drop}
 use Rattle.spec_world.specs.Checkpoint.{task_lines, with_line_ends}
-use Rattle.checkpoint_fields.specs.Each.{of_each}
+use Rattle.checkpoint_text.specs.Each.{of_each}
 use Rattle.checkpoint_text.proofs.tasks.put_tasks.Given as goal
 
 abbrev pub invariant-loop-id : goal.invariant-loop-id

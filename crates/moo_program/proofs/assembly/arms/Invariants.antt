@@ -1,7 +1,7 @@
 use Rattle.std.proofs.Common.{◌≡◌, map, take}
 use Rattle.moo_code.specs.Instruction.{placed, handler_parts}
-use Rattle.moo_bytecode.specs.Drafting.{row_of}
-use Rattle.moo_bytecode.specs.Assembling.{place_of}
+use Rattle.moo_program.specs.Drafting.{row_of}
+use Rattle.moo_program.specs.Assembling.{place_of}
 use Rattle.moo_program.specs.Meaning.{arm_meant, arm_place}
 use Rattle.moo_program.specs.Names.{known}
 use Rattle.moo_program.specs.Opens.{open_of}

@@ -1,5 +1,5 @@
 use Rattle.std.proofs.Common.{◌<◌, ◌≤◌, length, map, ◌∙◌, arith}
-use Rattle.moo_bytecode.specs.Drafting.{item_of}
+use Rattle.moo_program.specs.Drafting.{item_of}
 use Rattle.moo_program.specs.Walking.{walk_of}
 use Rattle.moo_program.proofs.Walked.{starts_all, starts_handlers, code_next, handlers_next, ends_all, ends_handlers}
 use Rattle.moo_program.proofs.assembly.assemble.Goals as goal

@@ -1,6 +1,6 @@
 use Rattle.std.proofs.Common.{◌≡◌, [], ◌∷◌, drop, map}
-use Rattle.moo_bytecode.specs.Drafting.{item_of}
-use Rattle.moo_bytecode.specs.Assembling.{opened, code_in, handlers_in}
+use Rattle.moo_program.specs.Drafting.{item_of}
+use Rattle.moo_program.specs.Assembling.{opened, code_in, handlers_in}
 use Rattle.moo_program.specs.Walking.{walk_of, all_code, all_handlers}
 use Rattle.moo_program.proofs.assembly.assemble.Given as goal
 

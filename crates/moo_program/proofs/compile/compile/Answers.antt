@@ -1,8 +1,8 @@
 use Rattle.std.proofs.Common.{map, length, ap, sym, ◌≡◌, ◌∙◌}
 use Rattle.std.specs.List.{list_all}
 use Rattle.moo_code.specs.Names.{names_of}
-use Rattle.moo_bytecode.specs.Drafting.{item_of}
-use Rattle.moo_bytecode.specs.Assembling.{draft_of}
+use Rattle.moo_program.specs.Drafting.{item_of}
+use Rattle.moo_program.specs.Assembling.{draft_of}
 use Rattle.moo_program.specs.Names.{known}
 use Rattle.moo_program.specs.Outline.{step_of}
 use Rattle.moo_program.specs.Tables.{bodies_of}

@@ -1,6 +1,6 @@
 use Rattle.std.proofs.Common.{[], ap, ◌∙◌}
 use Rattle.moo_code.specs.Layout.{outermost, program_layout, whole_layout}
-use Rattle.moo_bytecode.specs.Drafting.{state, over}
+use Rattle.moo_program.specs.Drafting.{state, over}
 use Rattle.moo_program.proofs.Whole.{is_draft}
 use Rattle.moo_program.proofs.compile.drafted.Goals as goal
 

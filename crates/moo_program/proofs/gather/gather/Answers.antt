@@ -1,5 +1,5 @@
 use Rattle.std.proofs.Common.{map, ap, ◌∙◌}
-use Rattle.moo_bytecode.specs.Drafting.{item_of}
+use Rattle.moo_program.specs.Drafting.{item_of}
 use Rattle.moo_program.specs.Gathering.{draft_names, draft_handled}
 use Rattle.moo_program.specs.Names.{known}
 use Rattle.moo_program.proofs.GatherSteps.{known_none}

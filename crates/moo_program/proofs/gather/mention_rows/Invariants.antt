@@ -1,7 +1,7 @@
 use Rattle.std.proofs.Common.{◌≡◌, drop, map}
 use Rattle.moo_code.specs.Instruction.{with_handlers}
 use Rattle.moo_code.specs.Names.{with_names, handler_names}
-use Rattle.moo_bytecode.specs.Drafting.{row_of}
+use Rattle.moo_program.specs.Drafting.{row_of}
 use Rattle.moo_program.specs.Names.{known}
 use Rattle.moo_program.proofs.gather.mention_rows.Given as goal
 

@@ -1,6 +1,6 @@
 use Rattle.std.proofs.Common.{map, arith}
-use Rattle.moo_bytecode.specs.Drafting.{item_of}
-use Rattle.moo_bytecode.specs.Assembling.{scan}
+use Rattle.moo_program.specs.Drafting.{item_of}
+use Rattle.moo_program.specs.Assembling.{scan}
 use Rattle.moo_program.proofs.Opens.{scan_next}
 use Rattle.moo_program.proofs.open.starts.Goals as goal
 

@@ -1,6 +1,6 @@
 use Rattle.std.proofs.Common.{◌≡◌, ◌++◌, ◌-◌, drop, map, length}
-use Rattle.moo_bytecode.specs.Drafting.{item_of}
-use Rattle.moo_bytecode.specs.Assembling.{scan}
+use Rattle.moo_program.specs.Drafting.{item_of}
+use Rattle.moo_program.specs.Assembling.{scan}
 use Rattle.moo_program.proofs.open.starts.Given as goal
 
 abbrev pub invariant-loop-i : goal.invariant-loop-i

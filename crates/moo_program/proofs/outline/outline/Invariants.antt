@@ -1,5 +1,5 @@
 use Rattle.std.proofs.Common.{◌≡◌, map, take}
-use Rattle.moo_bytecode.specs.Drafting.{item_of}
+use Rattle.moo_program.specs.Drafting.{item_of}
 use Rattle.moo_program.specs.Outline.{step_of}
 use Rattle.moo_program.proofs.outline.outline.Given as goal
 

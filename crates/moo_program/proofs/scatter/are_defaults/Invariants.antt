@@ -3,7 +3,7 @@ use Rattle.std.specs.Prelude.{take}
 use Rattle.moo_code.specs.Instruction.{placed}
 use Rattle.moo_code.specs.Layout.{default_parts}
 use Rattle.moo_tree.specs.ExpressionView.{items_of}
-use Rattle.moo_bytecode.specs.Assembling.{place_of}
+use Rattle.moo_program.specs.Assembling.{place_of}
 use Rattle.moo_program.specs.Meaning.{part_meant}
 use Rattle.moo_program.specs.Opens.{open_of}
 use Rattle.moo_program.proofs.scatter.are_defaults.Given as goal

@@ -1,5 +1,5 @@
 use Rattle.std.proofs.Common.{◌<◌, ◌≤◌, length, map, suc, arith}
-use Rattle.moo_bytecode.specs.Assembling.{place_of}
+use Rattle.moo_program.specs.Assembling.{place_of}
 use Rattle.moo_program.specs.Meaning.{slot_meant, part_meant}
 use Rattle.moo_program.specs.Names.{known}
 use Rattle.moo_program.specs.Opens.{open_of}

@@ -2,7 +2,7 @@ use Rattle.std.proofs.Common.{◌≡◌, ◌++◌, suc, drop, map}
 use Rattle.moo_code.specs.Instruction.{placed}
 use Rattle.moo_code.specs.Layout.{slots_of, default_parts}
 use Rattle.moo_tree.specs.ExpressionView.{items_of}
-use Rattle.moo_bytecode.specs.Assembling.{place_of}
+use Rattle.moo_program.specs.Assembling.{place_of}
 use Rattle.moo_program.specs.Meaning.{slot_meant, part_meant}
 use Rattle.moo_program.specs.Names.{known}
 use Rattle.moo_program.specs.Opens.{open_of}

@@ -1,5 +1,5 @@
 use Rattle.std.proofs.Common.{◌≡◌, List, None, rules}
-use Rattle.spec_step.specs.Step.{Step, RunsOn, AllInRange}
+use Rattle.spec_world.specs.Step.{Step, RunsOn, AllInRange}
 use Rattle.moo_script.specs.Scripts.{IsScript}
 use Rattle.moo_server.proofs.Told.{of_both, played_as, may_run, whole_told, part_told, WholeTold, PartTold}
 use Rattle.moo_server.proofs.play.play_script.Goals as goal

@@ -1,7 +1,7 @@
 use Rattle.std.proofs.Common.{◌≡◌, ◌∙◌, ap, sym, drop, map, true, false}
 use Rattle.spec_value.specs.Datum.{same_text}
 use Rattle.spec_value.specs.Table.{named}
-use Rattle.moo_machine.proofs.Next.{next_place}
+use Rattle.moo_task.proofs.Next.{next_place}
 use Rattle.moo_task.specs.Variables.{variable_of}
 use Rattle.moo_task.proofs.Finding.{found_at}
 use Rattle.moo_task.proofs.variables.find_among.Goals as goal

@@ -1,6 +1,6 @@
 use Rattle.std.proofs.Common.{rules, subst}
-use Rattle.spec_view.specs.Questions.{Agrees}
-use Rattle.spec_step.specs.Step.{Step}
+use Rattle.spec_world.specs.Questions.{Agrees}
+use Rattle.spec_world.specs.Step.{Step}
 use Rattle.world.specs.Sound.{IsSound}
 use Rattle.speculate.specs.declared.held.Held.{Held}
 use Rattle.speculate.specs.declared.held.Held.TheVariants.{Holds}

@@ -1,5 +1,5 @@
 use Rattle.std.proofs.Common.{◌∙◌, refl, arith}
-use Rattle.spec_step.specs.Step.{RunsOn, AllInRange}
+use Rattle.spec_world.specs.Step.{RunsOn, AllInRange}
 use Rattle.speculate.proofs.Plays.{nothing_played, runs_few}
 use Rattle.speculate.proofs.list.run_list.Goals as goal
 

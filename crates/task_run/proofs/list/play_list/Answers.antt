@@ -1,5 +1,5 @@
 use Rattle.std.proofs.Common.{List, ◌∙◌, ap, sym, refl, arith, vec_items}
-use Rattle.spec_step.specs.Outcome.{Outcome}
+use Rattle.spec_world.specs.Outcome.{Outcome}
 use Rattle.spec_moo.specs.Steps.{play1}
 use Rattle.world.specs.Counted.{Counted}
 use Rattle.task_run.proofs.Playing.{played_more, none_played, first_played, all_played}

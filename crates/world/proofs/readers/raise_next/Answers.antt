@@ -1,4 +1,4 @@
-use Rattle.spec_view.specs.Questions.{new_next}
+use Rattle.spec_world.specs.Questions.{new_next}
 use Rattle.world.proofs.SoundKeeps.{sound_raised}
 use Rattle.world.proofs.StaysSound.{sound_changed}
 use Rattle.world.proofs.readers.raise_next.Goals as goal

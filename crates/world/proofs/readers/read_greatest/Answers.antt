@@ -1,5 +1,5 @@
 use Rattle.std.proofs.Common.{◌≡◌, ℤ, ap, ◌∙◌, sym, rules, w32, to_z, of_z}
-use Rattle.spec_view.specs.Questions.{the_greatest}
+use Rattle.spec_world.specs.Questions.{the_greatest}
 use Rattle.world.specs.Meanings.{answer_of}
 use Rattle.world.proofs.readers.read_greatest.Goals as goal
 

@@ -1,6 +1,6 @@
 use Rattle.std.proofs.Common.{◌≡◌, pos, sym, ap, ◌∙◌, rules}
 use Rattle.std.proofs.lemmas.Result.{on_ok_weaker}
-use Rattle.spec_view.specs.Questions.{put_record}
+use Rattle.spec_world.specs.Questions.{put_record}
 use Rattle.world.specs.Numbered.{numbered}
 use Rattle.world.proofs.Maps.{one_at, none_at}
 use Rattle.world.proofs.records.set_record.Goals as goal

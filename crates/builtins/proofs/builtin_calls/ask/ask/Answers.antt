@@ -1,6 +1,6 @@
 use Rattle.std.proofs.Common.{◌≡◌, rules, w32, to_z, of_z}
 use Rattle.moo_value.specs.Answers.{answer_of}
-use Rattle.builtins.specs.declared.builtin_requests.asking.Asking.TheVariants.{Valid, IsPlayer, Parent, Children, MaxObject, Players, ConnectedPlayers}
+use Rattle.builtins_view.specs.declared.builtin_requests.asking.Asking.TheVariants.{Valid, IsPlayer, Parent, Children, MaxObject, Players, ConnectedPlayers}
 use Rattle.builtins.proofs.Requested.{told_anyone}
 use Rattle.builtins.proofs.builtin_calls.ask.ask.Goals as goal
 

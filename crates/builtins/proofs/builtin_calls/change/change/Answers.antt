@@ -2,8 +2,8 @@ use Rattle.std.proofs.Common.{◌≡◌, [], rules, w32, to_z, of_z}
 use Rattle.std.proofs.lemmas.Int.{to_z-of_z}
 use Rattle.spec_moo.specs.Natives.Tasks.{shutdown_row}
 use Rattle.moo_value.specs.Answers.{answer_of}
-use Rattle.builtins_world.proofs.Keeping.{goes_well}
-use Rattle.builtins.specs.declared.builtin_requests.changing.Changing.TheVariants.{Chparent, SetPropertyInfo, AddProperty, DeleteProperty, ClearProperty, SetVerbInfo, SetVerbArgs, SetVerbCode, AddVerb, DeleteVerb, Shutdown}
+use Rattle.builtins_view.proofs.Keeping.{goes_well}
+use Rattle.builtins_view.specs.declared.builtin_requests.changing.Changing.TheVariants.{Chparent, SetPropertyInfo, AddProperty, DeleteProperty, ClearProperty, SetVerbInfo, SetVerbArgs, SetVerbCode, AddVerb, DeleteVerb, Shutdown}
 use Rattle.builtins.proofs.Ending.{shutdown_keeps}
 use Rattle.builtins.proofs.Requested.{done_so}
 use Rattle.builtins.proofs.builtin_calls.change.change.Goals as goal

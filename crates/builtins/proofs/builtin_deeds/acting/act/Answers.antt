@@ -1,7 +1,7 @@
 use Rattle.std.proofs.Common.{◌≡◌, ◌∙◌, rules, w32, to_z, of_z}
 use Rattle.moo_task.specs.declared.effect.NativeEffect.TheVariants.{Answers}
-use Rattle.builtins.specs.Requests.{acting_of, said_of}
-use Rattle.builtins.specs.declared.builtin_requests.acting.Acting.TheVariants.{SetPlayerFlag, Notify, Read, Resume, ResumeWith, KillTask, SetTaskPerms, BootPlayer, DumpDatabase}
+use Rattle.builtins_view.specs.Requests.{acting_of, said_of}
+use Rattle.builtins_view.specs.declared.builtin_requests.acting.Acting.TheVariants.{SetPlayerFlag, Notify, Read, Resume, ResumeWith, KillTask, SetTaskPerms, BootPlayer, DumpDatabase}
 use Rattle.builtins.proofs.Acts.{goes_acts, tells_acts, shows_acts, player_acts, known_so}
 use Rattle.builtins.proofs.builtin_deeds.acting.act.Goals as goal
 

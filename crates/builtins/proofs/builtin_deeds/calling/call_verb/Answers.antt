@@ -1,6 +1,6 @@
 use Rattle.std.proofs.Common.{◌≡◌, rules, w32, to_z, of_z}
-use Rattle.builtins.specs.Requests.{calling_of, said_of}
-use Rattle.builtins.specs.declared.builtin_requests.calling.Calling.TheVariants.{Create, CreateFor, Recycle, Move, Eval}
+use Rattle.builtins_view.specs.Requests.{calling_of, said_of}
+use Rattle.builtins_view.specs.declared.builtin_requests.calling.Calling.TheVariants.{Create, CreateFor, Recycle, Move, Eval}
 use Rattle.rules.proofs.Tellings.{known_on}
 use Rattle.builtins.proofs.Acts.{known_so, leads_acts, leads_over_acts, told_acts}
 use Rattle.builtins.proofs.builtin_deeds.calling.call_verb.Goals as goal

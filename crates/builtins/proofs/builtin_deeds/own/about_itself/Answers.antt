@@ -1,7 +1,7 @@
 use Rattle.std.proofs.Common.{◌≡◌, rules, w32, to_z, of_z}
 use Rattle.moo_task.specs.Outcomes.{ticks_of}
 use Rattle.moo_task.specs.declared.effect.NativeEffect.TheVariants.{Answers, Complains}
-use Rattle.builtins.specs.declared.builtin_requests.own.Own.TheVariants.{Suspend, SuspendFor, TaskId, TicksLeft, Raise, RaiseTold, RaiseWith, CallerPerms, Random, RandomTo, Time}
+use Rattle.builtins_view.specs.declared.builtin_requests.own.Own.TheVariants.{Suspend, SuspendFor, TaskId, TicksLeft, Raise, RaiseTold, RaiseWith, CallerPerms, Random, RandomTo, Time}
 use Rattle.builtins.specs.BuiltinDeedsActing.{scene_for, caller_for}
 use Rattle.builtins.proofs.Acts.{own_so}
 use Rattle.builtins.proofs.builtin_deeds.own.about_itself.Goals as goal

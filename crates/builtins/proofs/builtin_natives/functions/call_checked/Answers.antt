@@ -1,7 +1,7 @@
 use Rattle.std.proofs.Common.{◌∙◌, ap, sym}
 use Rattle.spec_moo.specs.Natives.Rows.{by_row}
 use Rattle.builtin_table.specs.Functions.{row_of_function}
-use Rattle.builtins.specs.Requests.{request_of, said_of}
+use Rattle.builtins_view.specs.Requests.{request_of, said_of}
 use Rattle.builtins.proofs.Acts.{same_acts}
 use Rattle.builtins.proofs.builtin_natives.functions.call_checked.Goals as goal
 

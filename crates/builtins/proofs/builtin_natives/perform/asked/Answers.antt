@@ -1,7 +1,7 @@
 use Rattle.std.proofs.Common.{◌≡◌, ◌∙◌, rules, w32, to_z, of_z}
 use Rattle.moo_value.specs.Answers.{answer_of}
-use Rattle.builtins_world.specs.Said.{Says}
-use Rattle.builtins.specs.Requests.{asking_of, said_of}
+use Rattle.builtins_view.specs.Said.{Says}
+use Rattle.builtins_view.specs.Requests.{asking_of, said_of}
 use Rattle.builtins.proofs.Acts.{says_acts}
 use Rattle.rules.proofs.Tellings.{known_on}
 use Rattle.builtins.proofs.builtin_natives.perform.asked.Goals as goal

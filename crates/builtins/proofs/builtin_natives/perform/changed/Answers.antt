@@ -1,5 +1,5 @@
 use Rattle.std.proofs.Common.{◌≡◌, ◌∙◌, rules, w32, to_z, of_z}
-use Rattle.builtins.specs.Requests.{changing_of, said_of}
+use Rattle.builtins_view.specs.Requests.{changing_of, said_of}
 use Rattle.builtins.proofs.Acts.{does_acts}
 use Rattle.builtins.proofs.builtin_natives.perform.changed.Goals as goal
 

@@ -1,5 +1,5 @@
-use Rattle.builtins.specs.Requests.{request_of, said_of}
-use Rattle.builtins.specs.declared.builtin_requests.request.Request.TheVariants.{Asks, Changes, OfItself, Acts, Calls}
+use Rattle.builtins_view.specs.Requests.{request_of, said_of}
+use Rattle.builtins_view.specs.declared.builtin_requests.request.Request.TheVariants.{Asks, Changes, OfItself, Acts, Calls}
 use Rattle.builtins.proofs.Acts.{known_so}
 use Rattle.builtins.proofs.builtin_natives.perform.perform.Goals as goal
 

@@ -3,12 +3,12 @@ use Rattle.std.proofs.lemmas.Int.{to_z-of_z}
 use Rattle.spec_value.specs.Datum.{object as object_of, list, of_list}
 use Rattle.spec_program.specs.ReadPrograms.{parsed_lines}
 use Rattle.spec_world.specs.Permissions.{in_place, may, program_verb}
-use Rattle.spec_view.specs.Questions.{verbs_at}
+use Rattle.spec_world.specs.Questions.{verbs_at}
 use Rattle.spec_moo.specs.Natives.Verbs.{verb_place, texts_of, programmed, set_verb_code_row}
 use Rattle.moo_value.specs.Answers.{answer_of}
-use Rattle.builtins_world.specs.Said.{with_programmer}
-use Rattle.builtins_world.proofs.Keeping.{goes_well}
-use Rattle.builtins_change.proofs.Chains.{then_does}
+use Rattle.builtins_view.specs.Said.{with_programmer}
+use Rattle.builtins_view.proofs.Keeping.{goes_well}
+use Rattle.builtins_view.proofs.Chains.{then_does}
 use Rattle.builtins.proofs.BuiltinsCodeChains.{verb_is_programmed}
 use Rattle.builtins.proofs.BuiltinsCodeRowsKeep.{set_verb_code_keeps}
 use Rattle.builtins.proofs.builtins_code.programming.set_verb_code.Goals as goal

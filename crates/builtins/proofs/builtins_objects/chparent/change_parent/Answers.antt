@@ -3,7 +3,7 @@ use Rattle.std.proofs.lemmas.Int.{to_z-of_z}
 use Rattle.moo_value.specs.Errors.{code_of}
 use Rattle.rules.proofs.Tellings.{known_on}
 use Rattle.rules.specs.Below.{IsFamily}
-use Rattle.builtins.specs.Clashes.{any_clashes}
+use Rattle.builtins_view.specs.Clashes.{any_clashes}
 use Rattle.builtins.specs.Verdict.{verdict}
 use Rattle.builtins.specs.Parents.{parent_checks}
 use Rattle.builtins.proofs.Parents.{refused_told, clashing_told, adopted_told}

@@ -2,7 +2,7 @@ use Rattle.std.proofs.Common.{[], ◌∷◌, w32}
 use Rattle.std.proofs.lemmas.Int.{to_z-of_z}
 use Rattle.spec_value.specs.Datum.{object as object_of}
 use Rattle.spec_moo.specs.Natives.Objects.{chparent_row}
-use Rattle.builtins_world.proofs.Keeping.{leaves_well}
+use Rattle.builtins_view.proofs.Keeping.{leaves_well}
 use Rattle.builtins.proofs.BuiltinsObjectsRowsKeep.{chparent_keeps}
 use Rattle.builtins.proofs.builtins_objects.chparent.chparent.Goals as goal
 

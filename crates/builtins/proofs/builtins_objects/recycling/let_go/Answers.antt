@@ -1,7 +1,7 @@
 use Rattle.std.proofs.Common.{◌≡◌, ap, ◌∙◌, Some, None, rules, w32, to_z, of_z}
 use Rattle.std.proofs.lemmas.Int.{to_z-of_z}
 use Rattle.spec_world.specs.World.{Header}
-use Rattle.spec_view.specs.Questions.{header_at, children_at, contents_at}
+use Rattle.spec_world.specs.Questions.{header_at, children_at, contents_at}
 use Rattle.rules.proofs.Tellings.{known_on}
 use Rattle.builtins.proofs.Gone.{absent_told, known_children, gone_told}
 use Rattle.builtins.proofs.builtins_objects.recycling.let_go.Goals as goal

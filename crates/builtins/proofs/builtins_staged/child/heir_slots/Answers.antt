@@ -3,7 +3,7 @@ use Rattle.std.proofs.lemmas.Int.{to_z-of_z}
 use Rattle.spec_world.specs.World.{object_at}
 use Rattle.spec_world.specs.Families.{heir_slots, slots_at}
 use Rattle.rules.proofs.Tellings.{told_as}
-use Rattle.builtins.specs.Heirs.{heritage}
+use Rattle.builtins_view.specs.Heirs.{heritage}
 use Rattle.builtins.specs.Children.{put_heirs}
 use Rattle.builtins.proofs.Children.{heirs_are}
 use Rattle.builtins.proofs.builtins_staged.child.heir_slots.Goals as goal

@@ -3,7 +3,7 @@ use Rattle.std.specs.Ordering.{int_eq}
 use Rattle.std.proofs.lemmas.Int.{to_z-of_z, of_z-to_z}
 use Rattle.spec_value.proofs.Same.{integer_itself}
 use Rattle.spec_world.specs.World.{Header}
-use Rattle.spec_view.specs.Questions.{header_at}
+use Rattle.spec_world.specs.Questions.{header_at}
 use Rattle.spec_world.specs.Whereabouts.{is_inside}
 use Rattle.rules.proofs.Tellings.{known_on, told_as, told_before, told_on}
 use Rattle.builtins.proofs.Parents.{unlike}

@@ -1,4 +1,4 @@
-use Rattle.moo_bytecode.specs.Drafting.{reception_of}
+use Rattle.moo_program.specs.Drafting.{reception_of}
 use Rattle.moo_program.specs.Walking.{caught_in}
 use Rattle.moo_program.proofs.Walked.{closed}
 use Rattle.moo_program.proofs.assembly.Assembly.close.Goals as goal

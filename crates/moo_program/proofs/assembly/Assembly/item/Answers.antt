@@ -1,5 +1,5 @@
 use Rattle.std.proofs.Common.{map, ap, ◌∙◌}
-use Rattle.moo_bytecode.specs.Drafting.{item_of, reception_of}
+use Rattle.moo_program.specs.Drafting.{item_of, reception_of}
 use Rattle.moo_program.specs.Walking.{walk_of, with_close}
 use Rattle.moo_program.proofs.Walked.{at_item, own_adds, part_adds, close_adds, gap_adds}
 use Rattle.moo_program.proofs.assembly.Assembly.item.Goals as goal

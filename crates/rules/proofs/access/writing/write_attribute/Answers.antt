@@ -2,7 +2,7 @@ use Rattle.std.proofs.Common.{◌≡◌, ◌||◌, true, false, Some, w32}
 use Rattle.std.proofs.lemmas.Int.{to_z-of_z}
 use Rattle.spec_world.specs.World.{object_at}
 use Rattle.spec_world.specs.Permissions.{is_wizard}
-use Rattle.spec_view.specs.Questions.{header_at, new_part, new_header}
+use Rattle.spec_world.specs.Questions.{header_at, new_part, new_header}
 use Rattle.moo_value.specs.declared.error.MooError.TheVariants.{PermissionDenied}
 use Rattle.rules.specs.BuiltIn.{attribute_of}
 use Rattle.rules.specs.Writing.{built_in_written, owner_may}

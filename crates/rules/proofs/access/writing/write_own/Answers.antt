@@ -3,7 +3,7 @@ use Rattle.std.proofs.lemmas.Int.{to_z-of_z}
 use Rattle.spec_world.specs.World.{Slot, object_at}
 use Rattle.spec_world.specs.Inherit.{slot_at}
 use Rattle.spec_world.specs.Permissions.{is_wizard, owns_or}
-use Rattle.spec_view.specs.Questions.{new_value}
+use Rattle.spec_world.specs.Questions.{new_value}
 use Rattle.spec_moo.specs.Properties.{refused}
 use Rattle.moo_value.specs.Errors.{code_of}
 use Rattle.moo_value.specs.declared.error.MooError.TheVariants.{PermissionDenied}

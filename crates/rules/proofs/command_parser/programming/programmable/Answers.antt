@@ -1,6 +1,6 @@
 use Rattle.std.proofs.Common.{◌≡◌, w32}
 use Rattle.std.proofs.lemmas.Int.{to_z-of_z}
-use Rattle.spec_view.specs.Questions.{verbs_at}
+use Rattle.spec_world.specs.Questions.{verbs_at}
 use Rattle.spec_moo.specs.Steps.Programming.{programmable, programmable_at}
 use Rattle.rules.proofs.Tellings.{told_on}
 use Rattle.rules.specs.Openings.{place_among}

@@ -1,6 +1,6 @@
 use Rattle.std.proofs.Common.{◌≡◌, ◌+◌, ◌++◌, [], ◌∷◌, get_or, pos, refl, sym, ap, ◌∙◌, subst, arith, w32}
 use Rattle.std.proofs.lemmas.Int.{to_z-of_z}
-use Rattle.spec_view.specs.Questions.{children_at}
+use Rattle.spec_world.specs.Questions.{children_at}
 use Rattle.rules.proofs.Tellings.{known_on, told_as, told_before, told_on}
 use Rattle.rules.specs.Below.{IsFamily, Walked, among}
 use Rattle.rules.proofs.Walking.{walk_begins, walk_goes_on, walk_ends}

@@ -1,7 +1,7 @@
 use Rattle.std.proofs.Common.{◌≡◌, ◌++◌, Some, not, sym, ap, ◌∙◌, rules, w32, to_z, of_z}
 use Rattle.std.proofs.lemmas.Int.{to_z-of_z}
 use Rattle.spec_world.specs.Inherit.{ancestors}
-use Rattle.spec_view.specs.Questions.{header_at}
+use Rattle.spec_world.specs.Questions.{header_at}
 use Rattle.rules.specs.Lines.{from}
 use Rattle.rules.proofs.Walks.{line_ends, line_goes_on, nearer_by}
 use Rattle.rules.proofs.Tellings.{known_on, told_on, nearer_told}

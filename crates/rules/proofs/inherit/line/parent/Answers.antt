@@ -1,6 +1,6 @@
 use Rattle.std.proofs.Common.{◌≡◌, w32}
 use Rattle.std.proofs.lemmas.Int.{to_z-of_z}
-use Rattle.spec_view.specs.Questions.{header_at}
+use Rattle.spec_world.specs.Questions.{header_at}
 use Rattle.rules.specs.Lines.{IsAbove}
 use Rattle.rules.proofs.Walks.{above_by}
 use Rattle.rules.proofs.Tellings.{told_as}

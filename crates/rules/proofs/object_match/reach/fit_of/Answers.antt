@@ -1,7 +1,7 @@
 use Rattle.std.proofs.Common.{◌≡◌, sym, ap, ◌∙◌, codes, w32}
 use Rattle.std.proofs.lemmas.Int.{to_z-of_z}
 use Rattle.spec_world.specs.Inherit.{property_value}
-use Rattle.spec_view.specs.Questions.{header_at}
+use Rattle.spec_world.specs.Questions.{header_at}
 use Rattle.spec_world.specs.Naming.{aliases_in}
 use Rattle.rules.proofs.Tellings.{known_on, told_as, told_on}
 use Rattle.rules.specs.Fits.{some_fit, either_fit, named_in, object_fit}

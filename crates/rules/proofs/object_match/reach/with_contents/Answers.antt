@@ -1,7 +1,7 @@
 use Rattle.std.proofs.Common.{◌≡◌, Some, w32}
 use Rattle.std.proofs.lemmas.Int.{to_z-of_z}
 use Rattle.spec_world.specs.World.{object_at}
-use Rattle.spec_view.specs.Questions.{contents_at}
+use Rattle.spec_world.specs.Questions.{contents_at}
 use Rattle.spec_world.specs.Naming.{contents_of}
 use Rattle.rules.proofs.Tellings.{known_on, told_on}
 use Rattle.rules.specs.Fits.{with_objects}

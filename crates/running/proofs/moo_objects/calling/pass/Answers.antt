@@ -1,7 +1,7 @@
 use Rattle.std.proofs.Common.{◌≡◌, ◌∙◌, ap, suc, ◌-◌, Some, None, arith, rules, w32, to_z, of_z}
 use Rattle.spec_world.specs.World.{Call}
 use Rattle.spec_moo.specs.Effects.Calls.{found_effect}
-use Rattle.moo_machine.specs.Shown.{here}
+use Rattle.moo_task.specs.Shown.{here}
 use Rattle.running.specs.Called.{items_of, running}
 use Rattle.running.proofs.Entering.{passes_there, pass_refused, pass_found, in_that}
 use Rattle.running.proofs.moo_objects.calling.pass.Goals as goal

@@ -1,7 +1,7 @@
 use Rattle.std.proofs.Common.{◌≡◌, ◌∙◌, ap, sym, suc, ◌-◌, arith}
 use Rattle.spec_moo.specs.Leaving.{failure}
 use Rattle.moo_value.specs.Errors.{code_of}
-use Rattle.moo_machine.proofs.Next.{next_place}
+use Rattle.moo_task.proofs.Next.{next_place}
 use Rattle.moo_task.specs.Outcomes.{around, fails_at}
 use Rattle.moo_task.specs.declared.running.Running.{Running}
 use Rattle.running.specs.Calls.{calls_native_at}

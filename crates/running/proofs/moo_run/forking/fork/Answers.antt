@@ -1,7 +1,7 @@
 use Rattle.std.proofs.Common.{◌≡◌, ◌∙◌, ap, sym, subst, rules, w32, to_z, of_z}
 use Rattle.spec_world.specs.World.{World}
-use Rattle.moo_forks.specs.Forking.{fork_shown, ReadsNowhere}
-use Rattle.moo_forks.specs.declared.fork.Fork.{Fork}
+use Rattle.moo_task.specs.Forking.{fork_shown, ReadsNowhere}
+use Rattle.moo_task.specs.declared.moo_forks.fork.Fork.{Fork}
 use Rattle.moo_task.specs.declared.outcome.Outcome.TheVariants.{On}
 use Rattle.running.specs.Scenes.{scene_at, led_at}
 use Rattle.running.proofs.Steps.{queued_agree}

@@ -1,7 +1,7 @@
 use Rattle.std.proofs.Common.{◌≡◌, ◌∙◌, ap, sym, ℤ, w32, to_z, of_z, rules}
 use Rattle.spec_moo.specs.Leaving.{Failure, failed, come_by}
-use Rattle.moo_machine.specs.Meant.{failure_meant}
-use Rattle.moo_machine.specs.Shown.{leaves}
+use Rattle.moo_task.specs.Meant.{failure_meant}
+use Rattle.moo_task.specs.Shown.{leaves}
 use Rattle.moo_task.specs.Outcomes.{around}
 use Rattle.moo_task.specs.declared.running.Running.{Running}
 use Rattle.running.proofs.moo_run.leaving.raise_into.Goals as goal

@@ -1,7 +1,7 @@
 use Rattle.std.proofs.Common.{◌∙◌, ap, ◌∷◌, length, arith}
 use Rattle.spec_moo.specs.Leaving.{failed}
 use Rattle.moo_code.specs.Machine.{out_of}
-use Rattle.moo_machine.specs.Meant.{failure_meant}
+use Rattle.moo_task.specs.Meant.{failure_meant}
 use Rattle.moo_task.specs.Frames.{outer_of}
 use Rattle.moo_task.specs.Outcomes.{ticks_of, scene_in}
 use Rattle.moo_task.specs.declared.frame.Outer.{Outer}

@@ -1,7 +1,7 @@
 use Rattle.std.proofs.Common.{◌≡◌, ◌≤◌, length}
 use Rattle.spec_moo.specs.Scene.{Scene}
 use Rattle.spec_moo.specs.Leaving.{failed}
-use Rattle.moo_machine.specs.Meant.{failure_meant}
+use Rattle.moo_task.specs.Meant.{failure_meant}
 use Rattle.running.specs.Steps.{out_in}
 use Rattle.running.proofs.moo_run.leaving.raise_out.Given as goal
 

@@ -1,7 +1,7 @@
 use Rattle.std.proofs.Common.{◌≡◌, ◌∙◌, ap, sym, suc, ◌-◌, arith}
 use Rattle.spec_moo.specs.Effects.Lists.{length_in}
 use Rattle.running.specs.Targets.{part_answer}
-use Rattle.moo_machine.specs.Shown.{answered_of}
+use Rattle.moo_task.specs.Shown.{answered_of}
 use Rattle.running.specs.Putting.{held_in}
 use Rattle.running.proofs.MooStoresStoring.{length_is}
 use Rattle.running.proofs.moo_stores.parts.length_of_part.Goals as goal

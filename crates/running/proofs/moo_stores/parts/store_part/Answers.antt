@@ -2,7 +2,7 @@ use Rattle.std.proofs.Common.{◌≡◌, ◌∙◌, ◌<◌, ap, sym, subst, suc
 use Rattle.std.proofs.lemmas.List.{length-reverse, length-take}
 use Rattle.spec_value.specs.Answer.{gives, raises}
 use Rattle.moo_value.specs.Errors.{code_of}
-use Rattle.moo_machine.specs.Shown.{answered_of}
+use Rattle.moo_task.specs.Shown.{answered_of}
 use Rattle.running.specs.Targets.{count_in, whole_answer}
 use Rattle.running.specs.Putting.{held_in, IsPut}
 use Rattle.running.proofs.MooStoresStoring.{store_lacks, store_unpaid, part_stored, part_refused}

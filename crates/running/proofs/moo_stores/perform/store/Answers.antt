@@ -2,7 +2,7 @@ use Rattle.std.proofs.Common.{◌∙◌, ap, sym, []}
 use Rattle.moo_code.specs.Instruction.{store, in_variable}
 use Rattle.moo_code.specs.Names.{names_of}
 use Rattle.moo_program.specs.Meaning.{bracketed, base_of, name_at, some_name_at}
-use Rattle.moo_machine.specs.Shown.{performs_of}
+use Rattle.moo_task.specs.Shown.{performs_of}
 use Rattle.moo_task.proofs.Performing.{name_there}
 use Rattle.running.proofs.moo_stores.perform.store.Goals as goal
 

@@ -6,8 +6,8 @@ use Rattle.moo_code.specs.Instruction.{as_value}
 use Rattle.moo_code.specs.Machine.{place_for}
 use Rattle.moo_code.specs.Names.{names_of}
 use Rattle.moo_program.specs.Meaning.{part_meant}
-use Rattle.moo_machine.specs.Shown.{fails_of}
-use Rattle.moo_machine.proofs.Next.{next_place}
+use Rattle.moo_task.specs.Shown.{fails_of}
+use Rattle.moo_task.proofs.Next.{next_place}
 use Rattle.running.specs.Giving.{AreWithin}
 use Rattle.running.proofs.Scattering.{scatter_gives, scatter_refuses}
 use Rattle.running.proofs.moo_stores.scatter.scatter.Goals as goal

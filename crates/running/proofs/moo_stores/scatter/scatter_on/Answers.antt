@@ -6,7 +6,7 @@ use Rattle.moo_arith.specs.Targets.{scattering_of}
 use Rattle.moo_code.specs.Machine.{place_for}
 use Rattle.moo_code.specs.Names.{names_of}
 use Rattle.moo_program.specs.Meaning.{part_meant}
-use Rattle.moo_machine.proofs.Next.{next_place}
+use Rattle.moo_task.proofs.Next.{next_place}
 use Rattle.running.specs.Giving.{items_meant, next_part}
 use Rattle.running.proofs.Scattering.{scatter_goes_on, scatter_on_refuses}
 use Rattle.running.proofs.moo_stores.scatter.scatter_on.Goals as goal

@@ -1,5 +1,5 @@
 use Rattle.std.proofs.Common.{◌∙◌, ◌<◌, ap, arith, suc, drop, length, sym}
-use Rattle.moo_machine.proofs.Next.{next_place}
+use Rattle.moo_task.proofs.Next.{next_place}
 use Rattle.running.specs.Giving.{given_slots}
 use Rattle.running.proofs.Sharing.{gives_next, all_given}
 use Rattle.running.proofs.moo_stores.shares.give.Goals as goal

@@ -1,6 +1,6 @@
 use Rattle.std.proofs.Common.{◌∙◌, ◌<◌, ap, sym, arith, length}
 use Rattle.spec_moo.specs.Effects.Scatter.{missing}
-use Rattle.moo_machine.proofs.Next.{next_place}
+use Rattle.moo_task.proofs.Next.{next_place}
 use Rattle.running.specs.Giving.{items_meant, next_part}
 use Rattle.running.proofs.Sharing.{missing_later, missing_here, none_missing}
 use Rattle.running.proofs.moo_stores.shares.next_default.Goals as goal

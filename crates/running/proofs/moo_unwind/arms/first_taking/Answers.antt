@@ -1,5 +1,5 @@
 use Rattle.std.proofs.Common.{◌≡◌, ◌∙◌, ◌<◌, ap, sym, arith, drop, length}
-use Rattle.moo_machine.proofs.Next.{next_place}
+use Rattle.moo_task.proofs.Next.{next_place}
 use Rattle.running.specs.Taking.{first_taking}
 use Rattle.running.proofs.Passing.{step_past, none_left}
 use Rattle.running.proofs.moo_unwind.arms.first_taking.Goals as goal

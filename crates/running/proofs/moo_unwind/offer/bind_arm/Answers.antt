@@ -1,6 +1,6 @@
 use Rattle.std.proofs.Common.{◌≡◌, ◌+◌, length, reverse, take}
 use Rattle.moo_code.specs.Machine.{lowest}
-use Rattle.moo_machine.specs.Meant.{failure_meant}
+use Rattle.moo_task.specs.Meant.{failure_meant}
 use Rattle.running.proofs.Offering.{arm_binds, taking_within}
 use Rattle.running.proofs.moo_unwind.offer.bind_arm.Goals as goal
 

@@ -1,7 +1,7 @@
 use Rattle.std.proofs.Common.{◌≡◌, ◌<◌, length, arith}
 use Rattle.moo_code.specs.Names.{names_of}
 use Rattle.moo_program.specs.Meaning.{handler_meant}
-use Rattle.moo_machine.specs.Meant.{leaving_meant}
+use Rattle.moo_task.specs.Meant.{leaving_meant}
 use Rattle.running.proofs.Offering.{held_lacks}
 use Rattle.running.proofs.moo_unwind.offer.offer_to.Goals as goal
 

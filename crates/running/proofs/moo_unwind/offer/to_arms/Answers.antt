@@ -2,7 +2,7 @@ use Rattle.std.proofs.Common.{◌≡◌, ◌∙◌, ◌∷◌, ap, sym, map}
 use Rattle.moo_code.specs.Instruction.{with_handlers}
 use Rattle.moo_code.specs.Names.{names_of}
 use Rattle.moo_program.specs.Meaning.{arm_meant, arm_place}
-use Rattle.moo_machine.specs.Meant.{failure_meant, leaving_meant}
+use Rattle.moo_task.specs.Meant.{failure_meant, leaving_meant}
 use Rattle.running.specs.Offers.{handler, offered}
 use Rattle.running.proofs.Offering.{arms_refuse, arms_returned, arms_broken, arms_continued}
 use Rattle.running.proofs.moo_unwind.offer.to_arms.Goals as goal

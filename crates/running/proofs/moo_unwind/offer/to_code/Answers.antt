@@ -1,5 +1,5 @@
 use Rattle.std.proofs.Common.{◌∙◌, ◌∷◌, ap, sym}
-use Rattle.moo_machine.specs.Meant.{failure_meant}
+use Rattle.moo_task.specs.Meant.{failure_meant}
 use Rattle.running.specs.Offers.{goes_on}
 use Rattle.running.proofs.Offering.{code_takes, code_refuses, code_returned, code_broken, code_continued}
 use Rattle.running.proofs.moo_unwind.offer.to_code.Goals as goal

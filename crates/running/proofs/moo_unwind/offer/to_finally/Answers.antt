@@ -1,6 +1,6 @@
 use Rattle.std.proofs.Common.{◌∙◌, ◌∷◌, ap, sym}
 use Rattle.spec_moo.specs.Leaving.{leaving_held}
-use Rattle.moo_machine.specs.Meant.{leaving_meant}
+use Rattle.moo_task.specs.Meant.{leaving_meant}
 use Rattle.running.specs.Offers.{goes_on}
 use Rattle.running.proofs.Offering.{finally_takes}
 use Rattle.running.proofs.moo_unwind.offer.to_finally.Goals as goal

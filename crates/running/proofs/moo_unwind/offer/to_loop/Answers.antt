@@ -1,7 +1,7 @@
 use Rattle.std.proofs.Common.{◌≡◌, ◌∙◌, ◌<◌, ◌∷◌, [], ap, sym, arith}
 use Rattle.moo_code.specs.Instruction.{in_loop}
-use Rattle.moo_machine.specs.declared.leaving.Leaving.TheVariants.{Broken, Continued}
-use Rattle.moo_machine.specs.Meant.{leaving_meant, failure_meant}
+use Rattle.moo_task.specs.declared.moo_machine.leaving.Leaving.TheVariants.{Broken, Continued}
+use Rattle.moo_task.specs.Meant.{leaving_meant, failure_meant}
 use Rattle.running.specs.Offers.{handler, offered, goes_on}
 use Rattle.running.proofs.Offering.{loop_broken, loop_continued, broken_on, continued_on, loop_returned, loop_failed}
 use Rattle.running.proofs.moo_unwind.offer.to_loop.Goals as goal

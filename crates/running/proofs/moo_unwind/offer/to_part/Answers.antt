@@ -1,5 +1,5 @@
 use Rattle.std.proofs.Common.{◌∙◌, ◌∷◌, ap, sym}
-use Rattle.moo_machine.specs.Meant.{failure_meant}
+use Rattle.moo_task.specs.Meant.{failure_meant}
 use Rattle.running.specs.Offers.{goes_on}
 use Rattle.running.proofs.Offering.{part_takes, part_refuses, part_returned, part_broken, part_continued}
 use Rattle.running.proofs.moo_unwind.offer.to_part.Goals as goal

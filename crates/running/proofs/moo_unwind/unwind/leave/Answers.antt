@@ -2,8 +2,8 @@ use Rattle.std.proofs.Common.{◌≡◌, ◌∙◌, ◌≤◌, ap, sym, subst, l
 use Rattle.moo_code.specs.Machine.{handlers_at}
 use Rattle.moo_code.specs.Names.{names_of}
 use Rattle.moo_program.specs.Meaning.{handler_meant}
-use Rattle.moo_machine.specs.Meant.{leaving_meant}
-use Rattle.moo_machine.proofs.Next.{next_place}
+use Rattle.moo_task.specs.Meant.{leaving_meant}
+use Rattle.moo_task.proofs.Next.{next_place}
 use Rattle.running.specs.Offers.{offered, offer_shown, UnlessPassed}
 use Rattle.running.proofs.Around.{handler_there, later, next_offer}
 use Rattle.running.proofs.moo_unwind.unwind.leave.Goals as goal

@@ -5,8 +5,8 @@ use Rattle.spec_moo.specs.Leaving.{Leaving}
 use Rattle.moo_code.specs.Machine.{Step, handlers_at}
 use Rattle.moo_code.specs.Names.{names_of}
 use Rattle.moo_program.specs.Meaning.{handler_meant}
-use Rattle.moo_machine.specs.Meant.{leaving_meant}
-use Rattle.moo_machine.specs.Shown.{Around}
+use Rattle.moo_task.specs.Meant.{leaving_meant}
+use Rattle.moo_task.specs.Shown.{Around}
 use Rattle.running.specs.Offers.{offered}
 use Rattle.running.proofs.moo_unwind.unwind.leave.Given as goal
 

@@ -2,7 +2,7 @@ use Rattle.std.proofs.Common.{◌≡◌, ◌∙◌, ◌∷◌, ap, sym, cond, ar
 use Rattle.moo_code.specs.Machine.{covers}
 use Rattle.moo_code.specs.Names.{names_of}
 use Rattle.moo_program.specs.Meaning.{handler_meant}
-use Rattle.moo_machine.specs.Meant.{leaving_meant}
+use Rattle.moo_task.specs.Meant.{leaving_meant}
 use Rattle.running.specs.Offers.{offered}
 use Rattle.running.proofs.moo_unwind.unwind.offer_around.Goals as goal
 

@@ -5,7 +5,7 @@ use Rattle.moo_value.specs.Answers.{answer_of}
 use Rattle.moo_code.specs.Instruction as code
 use Rattle.moo_code.specs.Performing.{from_height}
 use Rattle.rules.proofs.Tellings.{known_on}
-use Rattle.moo_machine.specs.declared.verb.Did.TheVariants.{RanOut}
+use Rattle.moo_task.specs.declared.moo_machine.verb.Did.TheVariants.{RanOut}
 use Rattle.running.proofs.Asking.{still, answered_so}
 use Rattle.running.specs.Parts.{part_there}
 use Rattle.running.proofs.PropertyPartsStoring.{shape, length_is, length_unpaid}

@@ -1,6 +1,6 @@
 use Rattle.std.proofs.Common.{arith}
 use Rattle.moo_code.specs.Instruction as code
-use Rattle.moo_machine.specs.declared.verb.Did.TheVariants.{RanOut, LacksOperand}
+use Rattle.moo_task.specs.declared.moo_machine.verb.Did.TheVariants.{RanOut, LacksOperand}
 use Rattle.running.proofs.Asking.{still}
 use Rattle.running.proofs.PropertyPartsStoring.{shape, store_unpaid, store_lacks}
 use Rattle.running.proofs.property_parts.instructions.store_part.Goals as goal

@@ -1,5 +1,5 @@
 use Rattle.std.proofs.Common.{◌≡◌, length, vec_len, refl, arith}
-use Rattle.spec_step.specs.Step.{RunsOn, AllInRange}
+use Rattle.spec_world.specs.Step.{RunsOn, AllInRange}
 use Rattle.speculate.proofs.Honest.{opened_honest}
 use Rattle.speculate.proofs.board.Board.new.Goals as goal
 

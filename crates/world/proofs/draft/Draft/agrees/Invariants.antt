@@ -1,5 +1,5 @@
 use Rattle.std.proofs.Common.{◌↔◌, map, drop}
-use Rattle.spec_view.specs.Questions.{Agrees}
+use Rattle.spec_world.specs.Questions.{Agrees}
 use Rattle.world.specs.ReadMeaning.{read_of}
 use Rattle.world.proofs.draft.Draft.agrees.Given as goal
 

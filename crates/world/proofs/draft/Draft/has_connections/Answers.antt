@@ -2,7 +2,7 @@ use Rattle.std.proofs.Common.{◌≡◌, ◌<◌, ◌≤◌, ◌∙◌, ℕ, sym
 use Rattle.std.proofs.lemmas.Int.{to_z-of_z}
 use Rattle.std.specs.List.{AllByRecursion}
 use Rattle.spec_world.specs.World.{World, Link}
-use Rattle.spec_view.specs.Listings.{connections_of, connected}
+use Rattle.spec_world.specs.Listings.{connections_of, connected}
 use Rattle.world.proofs.Listed.{links_of, within}
 use Rattle.world.proofs.draft.Draft.has_connections.Goals as goal
 

@@ -1,5 +1,5 @@
 use Rattle.std.proofs.Common.{◌≡◌, map, drop}
-use Rattle.spec_view.specs.Questions.{apply_all}
+use Rattle.spec_world.specs.Questions.{apply_all}
 use Rattle.world.specs.Meanings.{change_of}
 use Rattle.world.proofs.worlds.World.changed.Given as goal
 

@@ -1,6 +1,0 @@
-use Rattle.std.proofs.Common.{◌≡◌, drop}
-use Rattle.spec_world.specs.VerbNames.{names_in}
-use Rattle.builtins_change.proofs.made.has_names.Given as goal
-
-abbrev pub invariant-loop-byte : goal.invariant-loop-byte
-invariant-loop-byte l = names_in (drop l.byte-index l.names) ≡ names_in l.names

@@ -1,4 +1,0 @@
-pub mod Later
-pub mod Listed
-pub mod Programs
-pub mod Specifiers

@@ -1,3 +1,0 @@
-pub mod Done
-pub mod Named
-pub mod Bounds

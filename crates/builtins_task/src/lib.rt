@@ -1,7 +1,0 @@
-//! Built-in functions over tasks and the server (Programmer's Manual, "Operations on Tasks" and "Administrative Operations").
-#![tactic(auto)]
-
-pub mod chance;
-pub mod ids;
-pub mod server;
-pub mod tasks;

@@ -1,0 +1,14 @@
+use Rattle.std.proofs.Common.{◌≡◌, drop}
+use Rattle.world.specs.Law.{Tells}
+use Rattle.builtins_view.specs.Clashes.{any_clashes}
+use Rattle.builtins_view.proofs.reparenting.clashes.any_clashes.Given as goal
+
+abbrev pub invariant-loop-object : goal.invariant-loop-object
+invariant-loop-object g l =
+    let view = g.V.View in
+    record {
+      anchor : view.anchor l.view ≡ view.anchor l.fn.view;
+      home : view.home l.view ≡ view.home l.fn.view;
+      there : view.holds l.view (view.home l.view);
+      left : Tells view.holds view.now l.fn.view l.view (λ w. any_clashes w l.parent (drop l.object-index l.family) ≡ any_clashes w l.parent l.family);
+    }

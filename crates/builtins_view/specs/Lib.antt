@@ -1,0 +1,17 @@
+pub mod Missing
+pub mod Said
+pub mod Verbs
+pub mod BuiltinsChangeLater
+pub mod BuiltinsChangeListed
+pub mod Programs
+pub mod Specifiers
+pub mod Done
+pub mod Named
+pub mod Bounds
+pub mod Counting
+pub mod Along
+pub mod Heirs
+pub mod Clashes
+pub mod Defining
+pub mod Slots
+pub mod Requests

@@ -1,4 +1,0 @@
-pub mod Changes
-pub mod Keeping
-pub mod Places
-pub mod Specifiers

@@ -1,3 +1,0 @@
-pub mod Missing
-pub mod Said
-pub mod Verbs

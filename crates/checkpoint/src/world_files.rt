@@ -1,0 +1,2 @@
+//! Worlds in files, each as its text.
+pub mod reading;

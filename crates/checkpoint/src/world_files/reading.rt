@@ -1,0 +1,35 @@
+//! The world of a file.
+ghost use Rattle.std.specs.Prelude.{◌≡◌, IfOk};
+ghost use Rattle.spec_world.specs.Checkpoint.{checkpoint_text};
+
+use crate::checkpoint_lines::fault::DecodeError;
+use crate::decode::decode;
+use std::alloc::{AllocError, Global};
+use std::rt::Files;
+use std::{fs, io};
+use world::worlds::World;
+
+/// The world whose text a file holds. A file that cannot be read, or that holds no world's text, gives the line of its fault: `cannot read FILE`, or
+/// `world: line K: NAME`.
+pub fn read_world_file<R: AllocGlobal + Files>(
+    rt: &R,
+    name: &str,
+) -> Result<Result<World, String>, AllocError> {
+    let alloc = rt.alloc();
+    match fs::read(rt, name) {
+        Ok(text) => world_of(alloc, text.as_slice()),
+        Err(error) if error.kind() == io::ErrorKind::OutOfMemory => Err(AllocError),
+        Err(_) => Ok(Err(format!(in alloc; "cannot read {name}")?)),
+    }
+}
+
+/// The world of a text, or the line of the text's fault.
+pub fn world_of(alloc: Global, text: &[u8]) -> Result<Result<World, String>, AllocError>
+    ensures { IfOk result (λ read. IfOk read (λ world. text.now ≡ checkpoint_text world.plain)) }
+{
+    match decode(alloc, text) {
+        Ok(world) => Ok(Ok(world)),
+        Err(DecodeError::Memory(error)) => Err(error),
+        Err(fault) => Ok(Err(format!(in alloc; "world: {fault}")?)),
+    }
+}

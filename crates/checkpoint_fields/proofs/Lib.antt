@@ -1,4 +1,0 @@
-pub mod Each
-pub mod Joined
-pub mod Plain
-pub mod Turns

@@ -1,6 +1,0 @@
-//! The text of a world as it is being written: fields, values and lines.
-#![tactic(auto)]
-
-mod lines;
-mod list;
-pub mod page;

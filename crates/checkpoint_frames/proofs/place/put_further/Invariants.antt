@@ -1,6 +1,0 @@
-use Rattle.std.proofs.Common.{◌≡◌, ◌++◌, drop}
-use Rattle.checkpoint_frames.specs.Lines.{dotted}
-use Rattle.checkpoint_frames.proofs.place.put_further.Given as goal
-
-abbrev pub invariant-loop-number : goal.invariant-loop-number
-invariant-loop-number l = l.page ++ dotted (drop l.number-index l.numbers) ≡ l.fn.page ++ dotted l.numbers

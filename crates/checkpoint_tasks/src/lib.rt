@@ -1,6 +1,0 @@
-//! The lines of tasks.
-#![tactic(auto)]
-
-mod frame;
-mod outer;
-pub mod task;

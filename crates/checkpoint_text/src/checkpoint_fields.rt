@@ -1,0 +1,4 @@
+//! The text of a world as it is being written: fields, values and lines.
+mod lines;
+mod list;
+pub mod page;

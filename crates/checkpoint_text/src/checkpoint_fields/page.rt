@@ -1,0 +1,183 @@
+//! Text that is being written.
+ghost use Rattle.std.specs.Prelude.{◌≡◌, ◌<◌, ◌++◌, ◌∷◌, [], OnOk, IsTrue, string_bytes};
+ghost use Rattle.std.specs.Fmt.{decimal, signed_decimal};
+ghost use Rattle.spec_value.specs.Datum.{text as text_of, is_text};
+ghost use Rattle.spec_value.specs.Literal.{literal, escape, escaped};
+ghost use Rattle.spec_world.specs.Checkpoint.{flag, object_text, letter_if};
+
+use itoa::Buffer;
+use moo_value::text::Text;
+use moo_value::value::{Shown, Value};
+use moo_value::write::Literal;
+use std::alloc::{AllocError, Global};
+use std::marker::Model;
+
+/// Text that is being written, by its bytes. After an `Err` part of what was to come may stand there.
+#[derive(Drop)]
+pub struct Page {
+    text: String,
+}
+
+impl Model for Page {
+    ghost use Rattle.std.specs.Prelude.{ℕ, List, string_bytes};
+
+    ghost Value = { List ℕ };
+
+    ghost view = { λ a. string_bytes a.text };
+}
+
+impl Page {
+    /// Nothing is written.
+    pub fn new(alloc: Global) -> Page
+        ensures { result ≡ [] }
+    {
+        Page {
+            text: String::new(alloc),
+        }
+    }
+
+    /// What was written.
+    pub fn into_string(self) -> String
+        ensures { string_bytes result ≡ self }
+    {
+        self.text
+    }
+
+    /// Writes text.
+    pub fn put(&mut self, text: &str) -> Result<(), AllocError>
+        ensures { OnOk result (self.new ≡ self.old ++ text.now) }
+    {
+        self.text.push_str(text)
+    }
+
+    /// Ends the line.
+    pub fn end_line(&mut self) -> Result<(), AllocError>
+        ensures { OnOk result (self.new ≡ self.old ++ 10 ∷ []) }
+    {
+        self.text.push_str("\n")
+    }
+
+    /// Writes a number.
+    pub fn put_number(&mut self, number: u64) -> Result<(), AllocError>
+        ensures { OnOk result (self.new ≡ self.old ++ decimal number) }
+    {
+        let mut digits = Buffer::new();
+        self.text.push_str(digits.format(number))
+    }
+
+    /// Writes a number that may be negative.
+    pub fn put_signed(&mut self, number: i32) -> Result<(), AllocError>
+        ensures { OnOk result (self.new ≡ self.old ++ signed_decimal number) }
+    {
+        let mut digits = Buffer::new();
+        self.text.push_str(digits.format(number))
+    }
+
+    /// Writes an object.
+    pub fn put_object(&mut self, object: i32) -> Result<(), AllocError>
+        ensures { OnOk result (self.new ≡ self.old ++ object_text object) }
+    {
+        self.put("#")?;
+        self.put_signed(object)
+    }
+
+    /// Writes 1 or 0.
+    pub fn put_flag(&mut self, is_set: bool) -> Result<(), AllocError>
+        ensures { OnOk result (self.new ≡ self.old ++ flag is_set) }
+    {
+        self.put(if is_set { "1" } else { "0" })
+    }
+
+    /// Writes a letter if it is set.
+    pub fn put_letter(&mut self, letter: &str, is_set: bool) -> Result<(), AllocError>
+        ensures { OnOk result (self.new ≡ self.old ++ letter_if letter.now is_set) }
+    {
+        if is_set { self.put(letter) } else { Ok(()) }
+    }
+
+    /// Writes a value as a program would write it.
+    pub fn put_value(&mut self, value: &Value) -> Result<(), AllocError>
+        ensures { OnOk result (self.new ≡ self.old ++ literal value.now) }
+    {
+        match value.shown() {
+            Shown::List(items) => self.put_values(items),
+            _ => self.put_item(value),
+        }
+    }
+
+    /// Writes an item of a list as a program would write it.
+    pub fn put_item(&mut self, value: &Value) -> Result<(), AllocError>
+        ensures { OnOk result (self.new ≡ self.old ++ literal value.now) }
+    {
+        value.know();
+        match value.shown() {
+            Shown::Integer(number) => self.put_signed(number),
+            Shown::Object(number) => self.put_object(number),
+            Shown::Text(text) => self.put_quoted(text),
+            _ => self.put_literal(value),
+        }
+    }
+
+    // A list in a list too, however deep.
+    fn put_literal(&mut self, value: &Value) -> Result<(), AllocError>
+        ensures { OnOk result (self.new ≡ self.old ++ literal value.now) }
+    {
+        let literal = Literal(value);
+        write!(self.text, "{literal}")
+    }
+
+    /// Writes a text as a program would write it.
+    pub fn put_text(&mut self, text: &Text) -> Result<(), AllocError>
+        ensures { OnOk result (self.new ≡ self.old ++ literal (text_of text.now)) }
+    {
+        text.know();
+        self.put_quoted(text.as_str())
+    }
+
+    /// Writes a text, whose characters are known to be allowed, as a program would write it.
+    pub fn put_quoted(&mut self, text: &str) -> Result<(), AllocError>
+        requires { IsTrue (is_text text.now) }
+        ensures { OnOk result (self.new ≡ self.old ++ literal (text_of text.now)) }
+    {
+        self.put("\"")?;
+        if is_plain(text) {
+            self.put(text)?;
+        } else {
+            self.put_escaped(text)?;
+        }
+        self.put("\"")
+    }
+
+    // Writes a text with a backslash before each quote and backslash.
+    fn put_escaped(&mut self, text: &str) -> Result<(), AllocError>
+        requires { IsTrue (is_text text.now) }
+        ensures { OnOk result (self.new ≡ self.old ++ escaped text.now) }
+    {
+        for byte in text.as_bytes() {
+            self.put_byte(*byte)?;
+        }
+        Ok(())
+    }
+
+    fn put_byte(&mut self, byte: u8) -> Result<(), AllocError>
+        requires { byte < 128 }
+        ensures { OnOk result (self.new ≡ self.old ++ escape byte) }
+    {
+        if byte == b'"' || byte == b'\\' {
+            self.text.push_str("\\")?;
+        }
+        self.text.push(char::from(byte))
+    }
+}
+
+// Whether a text has no quote and no backslash.
+fn is_plain(text: &str) -> bool
+    ensures { IsTrue result → escaped text.now ≡ text.now }
+{
+    for byte in text.as_bytes() {
+        if *byte == b'"' || *byte == b'\\' {
+            return false;
+        }
+    }
+    true
+}

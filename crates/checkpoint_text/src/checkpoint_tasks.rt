@@ -1,0 +1,4 @@
+//! The lines of tasks.
+mod frame;
+mod outer;
+pub mod task;

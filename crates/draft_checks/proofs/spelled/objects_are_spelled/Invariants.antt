@@ -1,6 +1,0 @@
-use Rattle.std.proofs.Common.{ℕ, ◌<◌, ℤ, get_or}
-use Rattle.draft_checks.specs.Spelled.{ObjectSpelledAt}
-use Rattle.draft_checks.proofs.spelled.objects_are_spelled.Given as goal
-
-abbrev pub invariant-loop-number : goal.invariant-loop-number
-invariant-loop-number l = (k : ℕ) (d : ℤ) → k < l.number-index → ObjectSpelledAt l.draft (get_or l.numbers k d)

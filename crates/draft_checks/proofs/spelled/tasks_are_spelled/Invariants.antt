@@ -1,6 +1,0 @@
-use Rattle.std.proofs.Common.{ℕ, ◌<◌, ℤ, get_or}
-use Rattle.draft_checks.specs.Spelled.{TaskSpelledAt}
-use Rattle.draft_checks.proofs.spelled.tasks_are_spelled.Given as goal
-
-abbrev pub invariant-loop-id : goal.invariant-loop-id
-invariant-loop-id l = (k : ℕ) (d : ℤ) → k < l.id-index → TaskSpelledAt l.draft (get_or l.ids k d)

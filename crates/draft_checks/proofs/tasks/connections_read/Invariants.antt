@@ -1,6 +1,0 @@
-use Rattle.std.proofs.Common.{◌≡◌, ◌++◌, drop}
-use Rattle.draft_checks.specs.Tasks.{all_read}
-use Rattle.draft_checks.proofs.tasks.connections_read.Given as goal
-
-abbrev pub invariant-loop-id : goal.invariant-loop-id
-invariant-loop-id l = l.connections.items ++ all_read l.draft (drop l.id-index l.ids) ≡ all_read l.draft l.ids

@@ -1,8 +1,0 @@
-use Rattle.frame_laws.proofs.Told.{calls_told, forks_told}
-use Rattle.frame_laws.proofs.laws.telling.Goals as goal
-
-pub returns-clause-calls : goal.returns-clause-calls
-returns-clause-calls c = calls_told
-
-pub returns-clause-forks : goal.returns-clause-forks
-returns-clause-forks c = forks_told

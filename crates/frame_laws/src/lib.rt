@@ -1,4 +1,0 @@
-//! What the place and the operands of a verb tell: whether it stands at a call of its program, and what the text of a world has of it.
-#![tactic(auto)]
-
-pub mod laws;

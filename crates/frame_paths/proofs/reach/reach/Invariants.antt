@@ -1,9 +1,0 @@
-use Rattle.std.proofs.Common.{◌≡◌, ◌≤◌, length, drop, slice_index}
-use Rattle.moo_places.specs.Reaching.{reach}
-use Rattle.frame_paths.specs.Turns.{reached_from}
-use Rattle.frame_paths.proofs.reach.reach.Given as goal
-
-abbrev pub invariant-loop-step : goal.invariant-loop-step
-invariant-loop-step l =
-    (l.depth ≤ length l.path)
-    × (reached_from (drop l.step-index l.steps) (drop l.depth l.path) l.way ≡ reach l.steps 0 (slice_index l.path 0) (drop 1 l.path) 0)

@@ -1,8 +1,0 @@
-use Rattle.std.proofs.Common.{◌≡◌, drop}
-use Rattle.moo_code.specs.Paths.{onto_path}
-use Rattle.moo_places.specs.Seeking.{seek}
-use Rattle.frame_paths.specs.Turns.{sought_from}
-use Rattle.frame_paths.proofs.seek.seek.Given as goal
-
-abbrev pub invariant-loop-step : goal.invariant-loop-step
-invariant-loop-step l = onto_path l.path.items (sought_from (drop l.step-index l.steps) l.sought) ≡ seek l.steps 0 1 l.fn.offset

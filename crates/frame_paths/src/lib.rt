@@ -1,6 +1,0 @@
-//! Paths of part numbers down the tree of a program, of the instructions of its code, and the places to which they lead.
-#![tactic(auto)]
-
-pub mod paths;
-mod reach;
-mod seek;

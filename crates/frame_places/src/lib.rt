@@ -1,4 +1,0 @@
-//! What the text of a world has of tasks that wait.
-#![tactic(auto)]
-
-pub mod told;

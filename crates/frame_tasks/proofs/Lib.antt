@@ -1,3 +1,0 @@
-pub mod Descent
-pub mod Placed
-pub mod Waiting

@@ -1,8 +1,0 @@
-use Rattle.moo_task.specs.Frames.{kept_of}
-use Rattle.frame_tasks.proofs.Placed.{stands_there}
-use Rattle.frame_tasks.proofs.standing.stands_at_place.Goals as goal
-
-pub returns : goal.returns
-returns c =
-    stands_there (kept_of c.args.frame.now) c.args.path.now c.tree.result.now c.len-count.result c.args.place c.in_ok-so.so c.requires c.if-place-frame.false c.tree.ensures
-    c.len-count.ensures c.in_ok-so.ensures

@@ -1,6 +1,0 @@
-//! Tasks that wait, made of verbs that stand at calls of their programs.
-#![tactic(auto)]
-
-mod arrive;
-pub mod standing;
-pub mod task;

@@ -1,6 +1,0 @@
-//! The instruction that forks a task: the task that it starts, which goes into the world, and when it is due.
-#![tactic(auto)]
-
-pub mod body;
-pub mod fork;
-pub mod queue;

@@ -1,5 +1,0 @@
-pub mod Grammar
-pub mod Faults
-pub mod Postfix
-pub mod Machine
-pub mod Load

@@ -1,4 +1,0 @@
-pub mod TracedCode
-pub mod Meant
-pub mod Shown
-pub mod Turns

@@ -1,6 +1,0 @@
-pub mod Lines
-pub mod Ended
-pub mod EndsTell
-pub mod Going
-pub mod Trimmed
-pub mod Answered

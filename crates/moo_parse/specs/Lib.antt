@@ -1,4 +1,0 @@
-pub mod Answer
-pub mod Given
-pub mod Ends
-pub mod StandsFor

@@ -1,0 +1,44 @@
+//! The reader's steps, from the start of a text to its end.
+
+ghost use Rattle.std.specs.Prelude.{◌≡◌, IfOk};
+ghost use Rattle.spec_program.specs.ReadPrograms.{parsed_tokens};
+ghost use Rattle.spec_reader.specs.Whole.{start, outcome};
+ghost use Rattle.reader_frames.specs.StateView.{state_of};
+ghost use Rattle.moo_syntax.specs.Given.{given};
+
+use crate::ending::is_over;
+use crate::trim::trimmed;
+use moo_token::tokens::Tokens;
+use reader_frames::left::Left;
+use reader_frames::state::{Next, State};
+use reader_step::step::step;
+use std::alloc::{AllocError, Global};
+use std::collections::VecDeque;
+
+// Where the reader begins: statements, with nothing begun.
+fn start(alloc: Global, tokens: Tokens) -> State
+    ensures { state_of result ≡ start (given tokens) }
+{
+    let Tokens { tokens, fault } = tokens;
+    State {
+        next: Next::Block,
+        begun: VecDeque::new(alloc),
+        left: Left {
+            tokens: VecDeque::from(tokens),
+            fault,
+        },
+    }
+}
+
+/// Where the reader of these tokens comes to its end.
+#[tactic(auto, using(crate::proofs::Going::going_first, crate::proofs::Going::going_instead, crate::proofs::Going::going_less, crate::proofs::Going::going_over))]
+pub fn read(alloc: Global, tokens: Tokens) -> Result<State, AllocError>
+    ensures { IfOk result (λ s. outcome (given tokens) (state_of s) ≡ parsed_tokens (given tokens)) }
+{
+    let mut state = start(alloc, tokens);
+    'steps: while !is_over(&state) {
+        let next = step(alloc, state)?;
+        state = trimmed(alloc, next)?;
+    }
+    Ok(state)
+}

@@ -1,0 +1,93 @@
+//! A reader keeps of what is too deep only where it is.
+
+ghost use Rattle.std.specs.Prelude.{IfOk};
+ghost use Rattle.reader_frames.specs.StateView.{state_of};
+ghost use Rattle.moo_syntax.specs.StandsFor.{StandsFor, PartStandsFor, NextStandsFor};
+
+use moo_reader::trim::trimmed as trimmed_expression;
+use reader_frames::state::{Next, Part, State};
+use reader_trim::block::{trimmed_arms, trimmed_block, trimmed_branches, trimmed_statement};
+use reader_trim::expression::{trimmed_arguments, trimmed_codes, trimmed_items};
+use reader_trim::operand::trimmed_operand;
+use std::alloc::{AllocError, Global};
+
+fn trimmed_part(alloc: Global, part: Part) -> Result<Part, AllocError>
+    ensures { IfOk result (λ q. PartStandsFor part q) }
+{
+    match part {
+        Part::Expression(found) => {
+            let found = trimmed_expression(alloc, found)?;
+            Ok(Part::Expression(found))
+        }
+        Part::Operand(operand) => {
+            let operand = trimmed_operand(alloc, operand)?;
+            Ok(Part::Operand(operand))
+        }
+        Part::Arguments(arguments) => {
+            let arguments = trimmed_arguments(alloc, arguments)?;
+            Ok(Part::Arguments(arguments))
+        }
+        Part::Items(items) => {
+            let items = trimmed_items(alloc, items)?;
+            Ok(Part::Items(items))
+        }
+        Part::Codes(codes) => {
+            let codes = trimmed_codes(alloc, codes)?;
+            Ok(Part::Codes(codes))
+        }
+        Part::Statement(statement) => {
+            let statement = trimmed_statement(alloc, statement)?;
+            Ok(Part::Statement(statement))
+        }
+        Part::Block(block) => {
+            let block = trimmed_block(alloc, block)?;
+            Ok(Part::Block(block))
+        }
+        Part::Branches(branches) => {
+            let branches = trimmed_branches(alloc, branches)?;
+            Ok(Part::Branches(branches))
+        }
+        Part::Arms(arms) => {
+            let arms = trimmed_arms(alloc, arms)?;
+            Ok(Part::Arms(arms))
+        }
+    }
+}
+
+#[tactic(auto, using(crate::proofs::Trimmed::same_next))]
+fn trimmed_next(alloc: Global, next: Next) -> Result<Next, AllocError>
+    ensures { IfOk result (λ x. NextStandsFor next x) }
+{
+    match next {
+        Next::Found(part) => {
+            let part = trimmed_part(alloc, part)?;
+            Ok(Next::Found(part))
+        }
+        Next::Steps { brackets, operand } => {
+            let operand = trimmed_operand(alloc, operand)?;
+            Ok(Next::Steps { brackets, operand })
+        }
+        Next::Operators {
+            brackets,
+            level,
+            left,
+        } => {
+            let left = trimmed_expression(alloc, left)?;
+            Ok(Next::Operators {
+                brackets,
+                level,
+                left,
+            })
+        }
+        other => Ok(other),
+    }
+}
+
+/// The same state, with few nodes of what was read, and without trees that are too deep.
+pub fn trimmed(alloc: Global, state: State) -> Result<State, AllocError>
+    ensures { IfOk result (λ s. StandsFor (state_of state) (state_of s)) }
+{
+    let State { next, begun, left } = state;
+    let next = trimmed_next(alloc, next)?;
+    Ok(State { next, begun, left })
+}

@@ -1,0 +1,15 @@
+use Rattle.std.proofs.Common.{◌≡◌, ◌∙◌, ap, sym, refl, suc, [], ◌∷◌, true}
+use Rattle.spec_value.specs.Datum.{list, of_list}
+use Rattle.spec_moo.specs.Effects.Loops.{list_turn, are_bounds}
+use Rattle.moo_code.specs.Machine.{place_for}
+use Rattle.moo_task.specs.Turns.{turn_of}
+use Rattle.moo_task.proofs.Next.{next_place}
+use Rattle.moo_task.proofs.Turning.{first_turns}
+use Rattle.moo_task.proofs.moo_machine.verb.State.first_item.Goals as goal
+
+pub returns : goal.returns
+returns c a x h =
+    let e : c.args.self.now.operands ≡ list (of_list c.in-List.items.now) ∷ c.pop.new.self = c.in-Some.ensures ∙ ap (λ v. v ∷ c.pop.new.self) (sym c.in-List.ensures) in
+    first_turns a c.args.call.now c.args.self.now x c.args.end (of_list c.in-List.items.now) c.pop.new.self e
+    ∙ ap (λ t. turn_of a c.args.call.now x 2 (place_for (suc c.args.self.now.place) ((0, c.args.end) ∷ [])) t (record (c.args.self.now) { operands = c.pop.new.self })) (sym (c.in_ok-turn.ensures 0 refl))
+    ∙ c.in_ok-did.ensures a c.args.call.now x 2 (place_for (suc c.args.self.now.place) ((0, c.args.end) ∷ [])) h (sym (next_place c.args.self.now.place)) refl

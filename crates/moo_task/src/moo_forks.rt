@@ -1,0 +1,4 @@
+//! The instruction that forks a task: the task that it starts, which goes into the world, and when it is due.
+pub mod body;
+pub mod fork;
+pub mod queue;

@@ -1,0 +1,2 @@
+//! What a task's end tells its player (Programmer's Manual, "Tasks").
+pub mod lines;

@@ -1,3 +1,0 @@
-pub mod Follow
-pub mod Agreed
-pub mod Linked

@@ -1,5 +1,0 @@
-//! Whether a verb that waits fits: its variables and what it holds (Programmer's Manual, "The MOO Programming Language").
-#![tactic(auto)]
-
-pub mod fit;
-mod variables;

@@ -1,0 +1,4 @@
+pub mod ReadBack
+pub mod ProgramTokens
+pub mod ReadPrograms
+pub mod Canonical

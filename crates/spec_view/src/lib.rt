@@ -1,4 +1,0 @@
-//! What a step asks of a world and changes in it: questions, answers and changes, by definitions alone.
-#![tactic(auto)]
-
-pub mod laws;

@@ -1,7 +1,0 @@
-pub mod Opens
-pub mod Performed
-pub mod Ready
-pub mod Tasks
-pub mod Accepting
-pub mod Codes
-pub mod Stops

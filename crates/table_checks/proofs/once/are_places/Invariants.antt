@@ -1,6 +1,0 @@
-use Rattle.std.proofs.Common.{◌≡◌, ℕ, ◌<◌, get_or, pos}
-use Rattle.table_checks.specs.Marks.{mark_of}
-use Rattle.table_checks.proofs.once.are_places.Given as goal
-
-abbrev pub invariant-loop-index : goal.invariant-loop-index
-invariant-loop-index l = (k : ℕ) → k < l.index → mark_of l.marks (get_or l.list k (pos 0)) ≡ k

@@ -1,7 +1,0 @@
-//! Checks of tables and lists, of which nothing is promised: numbers that rise, numbers that stand once, names of two lists together.
-#![tactic(auto)]
-
-pub mod marks;
-pub mod merge;
-pub mod once;
-pub mod rise;

@@ -1,9 +1,0 @@
-use Rattle.std.proofs.Common.{◌≡◌, ◌∙◌, ap, sym, false}
-use Rattle.task_checks.specs.Tasks.{is_fork}
-use Rattle.task_checks.proofs.TaskTold.{outers_told}
-use Rattle.task_checks.proofs.task.entries_fit.Goals as goal
-
-pub returns-in_ok-fit : goal.returns-in_ok-fit
-returns-in_ok-fit c =
-    let ran : is_fork c.args.task.now.waiting ≡ false = ap is_fork (sym c.waiting.ensures) ∙ sym c.is_fork.ensures ∙ c.if-is_fork.false in
-    λ fit. outers_told _ _ _ _ c.verbs-else-is_fork.ensures.task c.verbs-else-is_fork.ensures.kept ran (c.in_ok-fit.ensures fit)

@@ -1,9 +1,0 @@
-use Rattle.std.proofs.Common.{List, ◌∷◌, [], ◌++◌, ◌∙◌, ap}
-use Rattle.spec_value.specs.Datum.{Text}
-use Rattle.task_telling.proofs.Callers.{one_caller}
-use Rattle.task_telling.proofs.lines.push_callers.Goals as goal
-
-pub loop-verb-preserved : goal.loop-verb-preserved
-loop-verb-preserved c =
-    one_caller _ _ _ c.args.verbs.now c.loop-verb.verb-index c.verb-item.result c.loop-verb-test.true c.verb-item.is
-    (c.in_ok-push.ensures.items ∙ ap (λ (t : Text). c.loop-verb.lines.items ++ t ∷ []) c.in_ok-line.ensures) c.loop-verb.invariant

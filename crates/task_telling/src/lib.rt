@@ -1,4 +1,0 @@
-//! What a task's end tells its player (Programmer's Manual, "Tasks").
-#![tactic(auto)]
-
-pub mod lines;

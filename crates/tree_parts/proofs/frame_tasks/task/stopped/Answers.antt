@@ -1,0 +1,14 @@
+use Rattle.std.proofs.Common.{ap, subst, w32, to_z, of_z}
+use Rattle.std.proofs.lemmas.Int.{to_z-of_z}
+use Rattle.moo_task.specs.Effects.{waiting_of}
+use Rattle.moo_task.specs.Frames.{kept_of, outers_of}
+use Rattle.tree_parts.specs.Standing.{AllStand}
+use Rattle.tree_parts.proofs.Waiting.{made_from}
+use Rattle.tree_parts.proofs.frame_tasks.task.stopped.Goals as goal
+
+pub returns : goal.returns
+returns c =
+    made_from c.args.player (to_z w32 (of_z w32 c.args.player)) (waiting_of c.args.waiting) (kept_of c.args.frame) c.in_ok-outer.outer (outers_of c.args.outer.items)
+    c.in_ok-task.task c.requires (c.in_ok-verb_stands.ensures c.if-not-verb_stands.false)
+    (subst AllStand (ap outers_of c.as_slice.ensures.value) (c.in_ok-others_stand.ensures c.if-not-others_stand.false)) c.in_ok-outer.ensures
+    (to_z-of_z w32 c.args.player c.ranges.player) c.in_ok-task.ensures

@@ -1,0 +1,2 @@
+//! What the text of a world has of tasks that wait.
+pub mod told;

@@ -1,0 +1,13 @@
+pub mod Descent
+pub mod Told
+pub mod Held
+pub mod Marks
+pub mod Merge
+pub mod Ways
+pub mod Persons
+pub mod Arguments
+pub mod TaskChecksTasks
+pub mod Waiting
+pub mod Spelled
+pub mod DraftChecksTasks
+pub mod Fits

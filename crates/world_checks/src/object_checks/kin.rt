@@ -1,0 +1,77 @@
+//! Whether an object agrees with those above and below it along a way.
+ghost use Rattle.std.specs.Prelude.{◌<◌, ◌||◌, ◌⊎◌, IsTrue, is_none};
+ghost use Rattle.std.specs.Ordering.{int_eq};
+ghost use Rattle.std.specs.List.{list_all};
+ghost use Rattle.spec_world.specs.World.{object_at};
+ghost use Rattle.spec_world.specs.WellFormed.{lists, is_nowhere, on_object};
+ghost use Rattle.world_checks.specs.Marks.{mark_of};
+ghost use Rattle.world_checks.specs.Ways.{up_of, down_of, AgreesAlong};
+
+use crate::object_checks::guess::Guess;
+use crate::object_checks::way::{Way, down, up};
+use crate::table_checks::marks::Marks;
+use crate::table_checks::once::{are_places, is_placed};
+use world::draft::Draft;
+use world::object::Object;
+
+const NOWHERE: i32 = -1;
+
+/// Whether an object agrees with those above and below it, and has a higher rank than the one above.
+pub fn agrees_along(draft: &Draft, guess: &Guess, way: Way, number: i32, object: &Object) -> bool
+    ensures { IsTrue result → AgreesAlong way guess.now.ranks draft.now number object.now }
+{
+    let below = down(way, object);
+    falls(draft, &guess.ranks, way, number, object)
+        && are_places(&guess.places, below)
+        && are_below(draft, way, below, number)
+        && is_listed(draft, &guess.places, way, number, object)
+}
+
+fn falls(draft: &Draft, ranks: &Marks, way: Way, number: i32, object: &Object) -> bool
+    ensures { IsTrue result → IsTrue (is_none (object_at draft.now (up_of way object.now))) ⊎ (mark_of ranks.now (up_of way object.now) < mark_of ranks.now number) }
+{
+    let above = up(way, object);
+    match draft.object(above) {
+        Some(_) => ranks.get(above) < ranks.get(number),
+        None => true,
+    }
+}
+
+fn are_below(draft: &Draft, way: Way, list: &[i32], above: i32) -> bool
+    ensures { IsTrue result → IsTrue (list_all (λ c. on_object draft.now c (λ y. int_eq (up_of way y) above)) list.now) }
+{
+    for number in list {
+        if !is_below(draft, way, *number, above) {
+            return false;
+        }
+    }
+    true
+}
+
+fn is_below(draft: &Draft, way: Way, number: i32, above: i32) -> bool
+    ensures { IsTrue result → IsTrue (on_object draft.now number (λ y. int_eq (up_of way y) above)) }
+{
+    match draft.object(number) {
+        Some(object) => up(way, object) == above,
+        None => false,
+    }
+}
+
+fn is_listed(draft: &Draft, places: &Marks, way: Way, number: i32, object: &Object) -> bool
+    ensures { IsTrue result → IsTrue (is_nowhere (up_of way object.now) || on_object draft.now (up_of way object.now) (λ y. lists (down_of way y) number)) }
+{
+    let above = up(way, object);
+    if above == NOWHERE {
+        return true;
+    }
+    is_listed_by(draft, places, way, number, above)
+}
+
+fn is_listed_by(draft: &Draft, places: &Marks, way: Way, number: i32, above: i32) -> bool
+    ensures { IsTrue result → IsTrue (on_object draft.now above (λ y. lists (down_of way y) number)) }
+{
+    match draft.object(above) {
+        Some(object) => is_placed(places, down(way, object), number),
+        None => false,
+    }
+}

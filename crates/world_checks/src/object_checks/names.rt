@@ -1,0 +1,72 @@
+//! Whether the slots of an object are those of its parent and of what it defines.
+ghost use Rattle.std.specs.Prelude.{◌≡◌, [], map, IfOk, IsTrue, is_some};
+ghost use Rattle.std.specs.List.{list_all};
+ghost use Rattle.spec_value.specs.Datum.{fold_case};
+ghost use Rattle.spec_value.specs.Table.{named};
+ghost use Rattle.spec_world.specs.Inherit.{content_of};
+ghost use Rattle.spec_world.specs.World.{object_at};
+ghost use Rattle.spec_world.specs.Locally.{names_of, inherited_names, slots_follow};
+
+use crate::object_checks::way::{Way, up};
+use crate::table_checks::merge::is_merge;
+use moo_value::text::Text;
+use std::alloc::{AllocError, Global};
+use world::draft::Draft;
+use world::object::Object;
+use world::slot::Slot;
+use world::slots::Slots;
+
+/// Whether an object defines each property once, its parent has no slot of that name, and it has a slot for each of these and of its
+/// parent's, and no other.
+pub fn slots_follow(
+    alloc: Global,
+    draft: &Draft,
+    number: i32,
+    object: &Object,
+) -> Result<bool, AllocError>
+    ensures { IfOk result (λ b. IsTrue b → IsTrue (slots_follow draft.now number object.now)) }
+{
+    let names = object.defines().as_slice();
+    let slots = object.slots().as_slice();
+    let others = inherited(draft, object, &slots[..0]);
+    is_merge(alloc, names, others, slots)
+}
+
+// The slots of the parent, or none.
+fn inherited<'a>(draft: &'a Draft, object: &Object, none: &'a [(Text, Slot)]) -> &'a [(Text, Slot)]
+    requires { none.now ≡ [] }
+    ensures { map (λ e. e.0) result.now ≡ inherited_names draft.now object.now }
+{
+    slots_at(draft, up(Way::Parent, object), none)
+}
+
+fn slots_at<'a>(draft: &'a Draft, number: i32, none: &'a [(Text, Slot)]) -> &'a [(Text, Slot)]
+    requires { none.now ≡ [] }
+    ensures { map (λ e. e.0) result.now ≡ names_of (object_at draft.now number) }
+{
+    match draft.object(number) {
+        Some(object) => object.slots().as_slice(),
+        None => none,
+    }
+}
+
+/// Whether each of these properties has a slot that is not clear.
+pub fn are_filled(slots: &Slots, names: &[Text]) -> bool
+    ensures { IsTrue result → IsTrue (list_all (λ t. is_some (content_of (named slots.now (fold_case t)))) names.now) }
+{
+    for name in names {
+        if !is_filled(slots, name) {
+            return false;
+        }
+    }
+    true
+}
+
+fn is_filled(slots: &Slots, name: &Text) -> bool
+    ensures { IsTrue result → IsTrue (is_some (content_of (named slots.now (fold_case name.now)))) }
+{
+    match slots.get(name) {
+        Some(slot) => slot.content.is_some(),
+        None => false,
+    }
+}

@@ -1,0 +1,45 @@
+//! What waits of a task that ran.
+ghost use Rattle.std.specs.Prelude.{IfOk, IsTrue};
+ghost use Rattle.moo_task.specs.Frames.{outer_of, outers_of};
+ghost use Rattle.world_checks.specs.Waiting.{OuterFits, AllFit, OutersFit};
+
+use crate::piece_checks::fit::frame_fits;
+use crate::task_checks::native::native_fits;
+use crate::task_checks::order::begins_with_verb;
+use moo_task::frame::Outer;
+use moo_task::outers::Outers;
+use std::alloc::{AllocError, Global};
+
+// More verbs do not call each other.
+const MOST_VERBS: usize = 50;
+
+/// Whether what waits stands in order, not too many verbs, and holds what each may hold.
+pub fn outers_fit(alloc: Global, outers: &Outers) -> Result<bool, AllocError>
+    ensures { IfOk result (λ fit. IsTrue fit → OutersFit outers.now) }
+{
+    if outers.verbs() > MOST_VERBS || !begins_with_verb(outers.as_slice()) {
+        return Ok(false);
+    }
+    all_fit(alloc, outers.as_slice())
+}
+
+#[tactic(auto, using(crate::proofs::Each::one_more, crate::proofs::Each::all_of_them))]
+fn all_fit(alloc: Global, outers: &[Outer]) -> Result<bool, AllocError>
+    ensures { IfOk result (λ fit. IsTrue fit → AllFit (outers_of outers.now)) }
+{
+    for outer in outers {
+        if !outer_fits(alloc, outer)? {
+            return Ok(false);
+        }
+    }
+    Ok(true)
+}
+
+fn outer_fits(alloc: Global, outer: &Outer) -> Result<bool, AllocError>
+    ensures { IfOk result (λ fits. IsTrue fits → OuterFits (outer_of outer.now)) }
+{
+    match outer {
+        Outer::Verb(frame) => frame_fits(alloc, frame),
+        Outer::Native(native) => Ok(native_fits(native)),
+    }
+}

@@ -1,4 +1,0 @@
-//! Worlds in files, each as its text.
-#![tactic(auto)]
-
-pub mod reading;

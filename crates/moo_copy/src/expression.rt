@@ -207,8 +207,8 @@ fn copy_item(alloc: Global, item: &Item) -> Result<Item, AllocError>
         Item::Optional(name) => Ok(Item::Optional(name.clone()?)),
         Item::Rest(name) => Ok(Item::Rest(name.clone()?)),
         Item::Default(name, value) => {
-            let value = copy_expression(alloc, value)?;
-            Ok(Item::Default(name.clone()?, value))
+            let name = name.clone()?;
+            Ok(Item::Default(name, copy_expression(alloc, value)?))
         }
     }
 }

@@ -2,4 +2,5 @@
 #![tactic(auto)]
 
 pub mod expression;
+mod loops;
 pub mod statement;

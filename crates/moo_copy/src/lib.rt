@@ -3,4 +3,5 @@
 
 pub mod expression;
 mod loops;
+mod parts;
 pub mod statement;

@@ -1,8 +1,6 @@
-//! Copies of loops and forks, around copies of their bodies.
-//!
-//! An expression is let go by a call, since the prover goes through each kind of it where it is let go in place.
+//! Copies of loops and forks, around copies of their bodies, and of what leaves them.
 ghost use Rattle.std.specs.Prelude.{◌≡◌, IfOk};
-ghost use Rattle.spec_program.specs.Tree.{for_each, for_range, repeat, fork};
+ghost use Rattle.spec_program.specs.Tree.{for_each, for_range, repeat, fork, leave_loop, next_turn};
 ghost use Rattle.moo_tree.specs.StatementView.{program_of};
 
 use crate::expression::copy_expression;
@@ -62,6 +60,7 @@ fn copy_ends(
     match copy_expression(alloc, last) {
         Ok(last) => Ok((first, last)),
         Err(error) => {
+            // (by a call, as each kind of expression is gone through where one is let go in place)
             drop(first);
             Err(error)
         }
@@ -101,6 +100,24 @@ pub fn copy_fork(
             delay: copy_expression(alloc, delay)?,
             body,
         },
+    })
+}
+
+/// A copy of a `break`.
+pub fn copy_break(name: &Option<Text>) -> Result<Statement, AllocError>
+    ensures { IfOk result (λ s. s ≡ leave_loop name.now) }
+{
+    Ok(Statement {
+        node: StatementNode::Break(copy_name(name)?),
+    })
+}
+
+/// A copy of a `continue`.
+pub fn copy_continue(name: &Option<Text>) -> Result<Statement, AllocError>
+    ensures { IfOk result (λ s. s ≡ next_turn name.now) }
+{
+    Ok(Statement {
+        node: StatementNode::Continue(copy_name(name)?),
     })
 }
 

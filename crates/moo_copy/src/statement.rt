@@ -4,7 +4,9 @@ ghost use Rattle.spec_program.specs.Tree.{evaluate};
 ghost use Rattle.moo_tree.specs.StatementView.{returned, program_of, branch_of, arm_of};
 
 use crate::expression::{copy_codes, copy_expression};
-use crate::loops::{copy_for_each, copy_for_range, copy_fork, copy_name, copy_while};
+use crate::loops::{
+    copy_break, copy_continue, copy_for_each, copy_for_range, copy_fork, copy_name, copy_while,
+};
 use moo_tree::expression::Expression;
 use moo_tree::statement::{Arm, Branch, Statement, StatementNode, Tree};
 use std::alloc::{AllocError, Global};
@@ -88,12 +90,8 @@ fn copy_statement(alloc: Global, statement: &Statement) -> Result<Statement, All
                 cleanup: copy_statements(alloc, cleanup)?,
             },
         }),
-        StatementNode::Break(name) => Ok(Statement {
-            node: StatementNode::Break(copy_name(name)?),
-        }),
-        StatementNode::Continue(name) => Ok(Statement {
-            node: StatementNode::Continue(copy_name(name)?),
-        }),
+        StatementNode::Break(name) => copy_break(name),
+        StatementNode::Continue(name) => copy_continue(name),
     }
 }
 

@@ -2,6 +2,7 @@
 ghost use Rattle.std.specs.Prelude.{◌≡◌, IfOk};
 ghost use Rattle.moo_tree.specs.ExpressionView.{codes_of, fallback_of};
 
+use crate::parts::{copy_call, copy_literal, copy_variable};
 use moo_tree::expression::{
     Argument, Codes, Expression, ExpressionNode, Fallback, Item, Target, TargetNode,
 };
@@ -13,91 +14,80 @@ pub fn copy_expression(alloc: Global, expression: &Expression) -> Result<Express
     ensures { IfOk result (λ e. e ≡ expression.now) }
 {
     match &expression.node {
-        ExpressionNode::Literal(value) => Ok(Expression {
-            node: ExpressionNode::Literal(value.clone()?),
-        }),
-        ExpressionNode::Variable(name) => Ok(Expression {
-            node: ExpressionNode::Variable(name.clone()?),
-        }),
+        ExpressionNode::Literal(value) => copy_literal(value),
+        ExpressionNode::Variable(name) => copy_variable(name),
         ExpressionNode::OwnLength => Ok(Expression {
             node: ExpressionNode::OwnLength,
         }),
-        ExpressionNode::Unary(operator, operand) => {
-            Ok(Expression {
-                node: ExpressionNode::Unary(*operator, copy_part(alloc, operand)?),
-            })
-        }
+        ExpressionNode::Unary(operator, operand) => Ok(Expression {
+            node: ExpressionNode::Unary(*operator, copy_part(alloc, operand)?),
+        }),
         ExpressionNode::Binary(operator, left, right) => {
-            let left = copy_part(alloc, left)?;
+            let (left, right) = copy_pair(alloc, left, right)?;
             Ok(Expression {
-                node: ExpressionNode::Binary(*operator, left, copy_part(alloc, right)?),
+                node: ExpressionNode::Binary(*operator, left, right),
             })
         }
         ExpressionNode::Both(left, right) => {
-            let left = copy_part(alloc, left)?;
+            let (left, right) = copy_pair(alloc, left, right)?;
             Ok(Expression {
-                node: ExpressionNode::Both(left, copy_part(alloc, right)?),
+                node: ExpressionNode::Both(left, right),
             })
         }
         ExpressionNode::Either(left, right) => {
-            let left = copy_part(alloc, left)?;
+            let (left, right) = copy_pair(alloc, left, right)?;
             Ok(Expression {
-                node: ExpressionNode::Either(left, copy_part(alloc, right)?),
+                node: ExpressionNode::Either(left, right),
             })
         }
         ExpressionNode::Conditional(condition, first, second) => {
             let condition = copy_part(alloc, condition)?;
-            let first = copy_part(alloc, first)?;
+            let (first, second) = copy_pair(alloc, first, second)?;
             Ok(Expression {
-                node: ExpressionNode::Conditional(condition, first, copy_part(alloc, second)?),
+                node: ExpressionNode::Conditional(condition, first, second),
             })
         }
         ExpressionNode::List(items) => Ok(Expression {
             node: ExpressionNode::List(copy_arguments(alloc, items)?),
         }),
-        ExpressionNode::Call(name, arguments) => {
-            let arguments = copy_arguments(alloc, arguments)?;
-            Ok(Expression {
-                node: ExpressionNode::Call(name.clone()?, arguments),
-            })
-        }
+        ExpressionNode::Call(name, arguments) => copy_call(name, copy_arguments(alloc, arguments)?),
         ExpressionNode::Property(object, name) => {
-            let object = copy_part(alloc, object)?;
+            let (object, name) = copy_pair(alloc, object, name)?;
             Ok(Expression {
-                node: ExpressionNode::Property(object, copy_part(alloc, name)?),
+                node: ExpressionNode::Property(object, name),
             })
         }
         ExpressionNode::VerbCall(object, name, arguments) => {
-            let object = copy_part(alloc, object)?;
-            let name = copy_part(alloc, name)?;
+            let arguments = copy_arguments(alloc, arguments)?;
+            let (object, name) = copy_pair(alloc, object, name)?;
             Ok(Expression {
-                node: ExpressionNode::VerbCall(object, name, copy_arguments(alloc, arguments)?),
+                node: ExpressionNode::VerbCall(object, name, arguments),
             })
         }
         ExpressionNode::Index(whole, index) => {
-            let whole = copy_part(alloc, whole)?;
+            let (whole, index) = copy_pair(alloc, whole, index)?;
             Ok(Expression {
-                node: ExpressionNode::Index(whole, copy_part(alloc, index)?),
+                node: ExpressionNode::Index(whole, index),
             })
         }
         ExpressionNode::Range(whole, first, last) => {
             let whole = copy_part(alloc, whole)?;
-            let first = copy_part(alloc, first)?;
+            let (first, last) = copy_pair(alloc, first, last)?;
             Ok(Expression {
-                node: ExpressionNode::Range(whole, first, copy_part(alloc, last)?),
+                node: ExpressionNode::Range(whole, first, last),
             })
         }
         ExpressionNode::Catch(inner, codes, fallback) => {
             let inner = copy_part(alloc, inner)?;
-            let codes = copy_codes(alloc, codes)?;
+            let (codes, fallback) = copy_handler(alloc, codes, fallback)?;
             Ok(Expression {
-                node: ExpressionNode::Catch(inner, codes, copy_fallback(alloc, fallback)?),
+                node: ExpressionNode::Catch(inner, codes, fallback),
             })
         }
         ExpressionNode::Assignment(target, value) => {
-            let target = copy_target(alloc, target)?;
+            let value = copy_part(alloc, value)?;
             Ok(Expression {
-                node: ExpressionNode::Assignment(target, copy_part(alloc, value)?),
+                node: ExpressionNode::Assignment(copy_target(alloc, target)?, value),
             })
         }
         ExpressionNode::Scatter(items, value) => {
@@ -118,6 +108,19 @@ fn copy_part(alloc: Global, expression: &Expression) -> Result<Box<Expression>, 
 }
 
 #[cycle(expression)]
+fn copy_pair(
+    alloc: Global,
+    left: &Expression,
+    right: &Expression,
+) -> Result<(Box<Expression>, Box<Expression>), AllocError>
+    ensures { IfOk result (λ p. (p.0.value ≡ left.now) × (p.1.value ≡ right.now)) }
+{
+    let left = copy_part(alloc, left)?;
+    let right = copy_part(alloc, right)?;
+    Ok((left, right))
+}
+
+#[cycle(expression)]
 fn copy_target(alloc: Global, target: &Target) -> Result<Target, AllocError>
     ensures { IfOk result (λ t. t ≡ target.now) }
 {
@@ -126,9 +129,9 @@ fn copy_target(alloc: Global, target: &Target) -> Result<Target, AllocError>
             node: TargetNode::Variable(name.clone()?),
         }),
         TargetNode::Property(object, name) => {
-            let object = copy_part(alloc, object)?;
+            let (object, name) = copy_pair(alloc, object, name)?;
             Ok(Target {
-                node: TargetNode::Property(object, copy_part(alloc, name)?),
+                node: TargetNode::Property(object, name),
             })
         }
         TargetNode::Index(within, index) => {
@@ -139,9 +142,9 @@ fn copy_target(alloc: Global, target: &Target) -> Result<Target, AllocError>
         }
         TargetNode::Range(within, first, last) => {
             let within = copy_target_part(alloc, within)?;
-            let first = copy_part(alloc, first)?;
+            let (first, last) = copy_pair(alloc, first, last)?;
             Ok(Target {
-                node: TargetNode::Range(within, first, copy_part(alloc, last)?),
+                node: TargetNode::Range(within, first, last),
             })
         }
     }
@@ -153,6 +156,19 @@ fn copy_target_part(alloc: Global, target: &Target) -> Result<Box<Target>, Alloc
 {
     let copy = copy_target(alloc, target)?;
     Ok(Box::new(alloc, copy)?)
+}
+
+#[cycle(expression)]
+fn copy_handler(
+    alloc: Global,
+    codes: &Codes,
+    fallback: &Fallback,
+) -> Result<(Codes, Fallback), AllocError>
+    ensures { IfOk result (λ p. (codes_of p.0 ≡ codes_of codes.now) × (fallback_of p.1 ≡ fallback_of fallback.now)) }
+{
+    let codes = copy_codes(alloc, codes)?;
+    let fallback = copy_fallback(alloc, fallback)?;
+    Ok((codes, fallback))
 }
 
 /// A copy of a handler's codes.
@@ -207,8 +223,8 @@ fn copy_item(alloc: Global, item: &Item) -> Result<Item, AllocError>
         Item::Optional(name) => Ok(Item::Optional(name.clone()?)),
         Item::Rest(name) => Ok(Item::Rest(name.clone()?)),
         Item::Default(name, value) => {
-            let value = copy_expression(alloc, value)?;
-            Ok(Item::Default(name.clone()?, value))
+            let name = name.clone()?;
+            Ok(Item::Default(name, copy_expression(alloc, value)?))
         }
     }
 }

@@ -2,4 +2,6 @@
 #![tactic(auto)]
 
 pub mod expression;
+mod loops;
+mod parts;
 pub mod statement;

@@ -1,11 +1,14 @@
 //! Copies of statements and programs.
 ghost use Rattle.std.specs.Prelude.{◌≡◌, map, IfOk};
-ghost use Rattle.moo_tree.specs.StatementView.{program_of, branch_of, arm_of};
+ghost use Rattle.spec_program.specs.Tree.{evaluate};
+ghost use Rattle.moo_tree.specs.StatementView.{returned, program_of, branch_of, arm_of};
 
 use crate::expression::{copy_codes, copy_expression};
+use crate::loops::{
+    copy_break, copy_continue, copy_for_each, copy_for_range, copy_fork, copy_name, copy_while,
+};
 use moo_tree::expression::Expression;
 use moo_tree::statement::{Arm, Branch, Statement, StatementNode, Tree};
-use moo_value::text::Text;
 use std::alloc::{AllocError, Global};
 
 /// The program of copies of these statements.
@@ -34,12 +37,8 @@ fn copy_statement(alloc: Global, statement: &Statement) -> Result<Statement, All
     ensures { IfOk result (λ s. s ≡ statement.now) }
 {
     match &statement.node {
-        StatementNode::Evaluate(value) => Ok(Statement {
-            node: StatementNode::Evaluate(copy_expression(alloc, value)?),
-        }),
-        StatementNode::Return(value) => Ok(Statement {
-            node: StatementNode::Return(copy_value(alloc, value)?),
-        }),
+        StatementNode::Evaluate(value) => copy_evaluation(alloc, value),
+        StatementNode::Return(value) => copy_return(alloc, value),
         StatementNode::If {
             branches,
             otherwise: None,
@@ -62,48 +61,23 @@ fn copy_statement(alloc: Global, statement: &Statement) -> Result<Statement, All
             variable,
             list,
             body,
-        } => Ok(Statement {
-            node: StatementNode::ForEach {
-                variable: variable.clone()?,
-                list: copy_expression(alloc, list)?,
-                body: copy_statements(alloc, body)?,
-            },
-        }),
+        } => copy_for_each(alloc, variable, list, copy_statements(alloc, body)?),
         StatementNode::ForRange {
             variable,
             first,
             last,
             body,
-        } => Ok(Statement {
-            node: StatementNode::ForRange {
-                variable: variable.clone()?,
-                first: copy_expression(alloc, first)?,
-                last: copy_expression(alloc, last)?,
-                body: copy_statements(alloc, body)?,
-            },
-        }),
+        } => copy_for_range(alloc, variable, first, last, copy_statements(alloc, body)?),
         StatementNode::While {
             name,
             condition,
             body,
-        } => Ok(Statement {
-            node: StatementNode::While {
-                name: copy_name(name)?,
-                condition: copy_expression(alloc, condition)?,
-                body: copy_statements(alloc, body)?,
-            },
-        }),
+        } => copy_while(alloc, name, condition, copy_statements(alloc, body)?),
         StatementNode::Fork {
             variable,
             delay,
             body,
-        } => Ok(Statement {
-            node: StatementNode::Fork {
-                variable: copy_name(variable)?,
-                delay: copy_expression(alloc, delay)?,
-                body: copy_statements(alloc, body)?,
-            },
-        }),
+        } => copy_fork(alloc, variable, delay, copy_statements(alloc, body)?),
         StatementNode::TryExcept { body, arms } => Ok(Statement {
             node: StatementNode::TryExcept {
                 body: copy_statements(alloc, body)?,
@@ -116,13 +90,25 @@ fn copy_statement(alloc: Global, statement: &Statement) -> Result<Statement, All
                 cleanup: copy_statements(alloc, cleanup)?,
             },
         }),
-        StatementNode::Break(name) => Ok(Statement {
-            node: StatementNode::Break(copy_name(name)?),
-        }),
-        StatementNode::Continue(name) => Ok(Statement {
-            node: StatementNode::Continue(copy_name(name)?),
-        }),
+        StatementNode::Break(name) => copy_break(name),
+        StatementNode::Continue(name) => copy_continue(name),
     }
+}
+
+fn copy_evaluation(alloc: Global, value: &Expression) -> Result<Statement, AllocError>
+    ensures { IfOk result (λ s. s ≡ evaluate value.now) }
+{
+    Ok(Statement {
+        node: StatementNode::Evaluate(copy_expression(alloc, value)?),
+    })
+}
+
+fn copy_return(alloc: Global, value: &Option<Expression>) -> Result<Statement, AllocError>
+    ensures { IfOk result (λ s. s ≡ returned value.now) }
+{
+    Ok(Statement {
+        node: StatementNode::Return(copy_value(alloc, value)?),
+    })
 }
 
 fn copy_value(alloc: Global, value: &Option<Expression>) -> Result<Option<Expression>, AllocError>
@@ -134,22 +120,13 @@ fn copy_value(alloc: Global, value: &Option<Expression>) -> Result<Option<Expres
     }
 }
 
-fn copy_name(name: &Option<Text>) -> Result<Option<Text>, AllocError>
-    ensures { IfOk result (λ n. n ≡ name.now) }
-{
-    match name {
-        Some(name) => Ok(Some(name.clone()?)),
-        None => Ok(None),
-    }
-}
-
 #[cycle(statement)]
 fn copy_branch(alloc: Global, branch: &Branch) -> Result<Branch, AllocError>
     ensures { IfOk result (λ b. branch_of b ≡ branch_of branch.now) }
 {
     Ok(Branch {
-        condition: copy_expression(alloc, &branch.condition)?,
         body: copy_statements(alloc, &branch.body)?,
+        condition: copy_expression(alloc, &branch.condition)?,
     })
 }
 
@@ -170,9 +147,9 @@ fn copy_arm(alloc: Global, arm: &Arm) -> Result<Arm, AllocError>
     ensures { IfOk result (λ a. arm_of a ≡ arm_of arm.now) }
 {
     Ok(Arm {
+        body: copy_statements(alloc, &arm.body)?,
         variable: copy_name(&arm.variable)?,
         codes: copy_codes(alloc, &arm.codes)?,
-        body: copy_statements(alloc, &arm.body)?,
     })
 }
 

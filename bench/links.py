@@ -1,22 +1,29 @@
 #!/usr/bin/env python3
-"""links.py PORT PID: measures a moo-server over the fixture on this port, whose process is known. Prints lines as the other programs of the benchmarks
-do: what, who, unit, count, nanoseconds or bytes, checksum. What this client takes itself is in each figure."""
+"""links.py PORT PID GROUP: measures a server of lines on this port, whose process is known: moo-server over the fixture, or what answers as it does. Prints
+one line a measurement: what, unit, and the amount in seconds, bytes, or bytes and steps a second. What this client takes itself is in each. The groups are
+`lines` and `floods`."""
+import os
 import selectors
 import socket
 import sys
 import time
 
-port, pid = int(sys.argv[1]), int(sys.argv[2])
+IS_SHORT = os.environ.get("BENCH_SHORT") == "1"
 LINE = b"looks\r\n"
 ANSWER = b"I couldn't understand that.\r\n"
 # What a link is told when it is opened, and at each line until somebody has logged in.
 GREETING = b"Type connect #n\r\n"
 CONNECTED = b"*** Connected ***\r\n"
+SECONDS = 60
+
+
+def sized(full, short):
+    return short if IS_SHORT else full
 
 
 def connect():
     """A link on which nobody has logged in."""
-    link = socket.create_connection(("127.0.0.1", port), timeout=20)
+    link = socket.create_connection(("127.0.0.1", port), timeout=SECONDS)
     link.setsockopt(socket.IPPROTO_TCP, socket.TCP_NODELAY, 1)
     read(link, len(GREETING))
     return link
@@ -45,16 +52,18 @@ def close(*links):
     time.sleep(0.5)
 
 
-def tell(what, unit, count, amount):
-    print(f"{what}\tproduct\t{unit}\t{count}\t{int(amount)}\t0")
+def tell(what, unit, amount):
+    print(f"{what}\t{unit}\t{amount}", flush=True)
 
 
 def resident():
+    """The memory that the server holds."""
     with open(f"/proc/{pid}/status") as lines:
         return int([line for line in lines if line.startswith("VmRSS:")][0].split()[1]) * 1024
 
 
 def ticks():
+    """The processor time of the server, in the kernel's ticks."""
     with open(f"/proc/{pid}/stat") as line:
         fields = line.read().rsplit(")", 1)[1].split()
     return int(fields[11]) + int(fields[12])
@@ -63,42 +72,45 @@ def ticks():
 def ping_pong():
     """The median time of a line and its answer, and the ninety-ninth hundredth."""
     link, times = log_in(), []
-    for _ in range(20000):
-        start = time.perf_counter_ns()
+    for _ in range(sized(20000, 50)):
+        start = time.perf_counter()
         link.sendall(LINE)
         read(link, len(ANSWER))
-        times.append(time.perf_counter_ns() - start)
+        times.append(time.perf_counter() - start)
     close(link)
     times.sort()
-    tell("a line and its answer on one link, median", "ns", 1, times[len(times) // 2])
-    tell("a line and its answer on one link, 99 of 100", "ns", 1, times[len(times) * 99 // 100])
+    tell("a line and its answer on one link, median", "us", times[len(times) // 2])
+    tell("a line and its answer on one link, 99 of 100", "us", times[len(times) * 99 // 100])
 
 
 def pipelined():
     """Lines on one link, 64 on their way at a time."""
-    link, count = log_in(), 0
+    link, count, most = log_in(), 0, sized(500000, 200)
     link.sendall(64 * LINE)
-    rest, start = 0, time.perf_counter_ns()
-    while count < 500000:
+    rest, start = 0, time.perf_counter()
+    while count < most:
         rest += len(link.recv(65536))
         lines, rest = divmod(rest, len(ANSWER))
         count += lines
         link.sendall(lines * LINE)
-    tell("lines on one link, 64 on their way", "steps/s", count, time.perf_counter_ns() - start)
+    tell("lines on one link, 64 on their way", "steps/s", count / (time.perf_counter() - start))
     close(link)
 
 
 def many():
     """Lines on 64 links on which nobody has logged in: each runs the verb that tells how to, and its answer is read while further lines are sent."""
     links = [connect() for _ in range(64)]
-    each, start = 4000, time.perf_counter_ns()
+    each, start = sized(4000, 4), time.perf_counter()
     chooser, unsent, unread = selectors.DefaultSelector(), {}, {}
     for link in links:
         link.setblocking(False)
         chooser.register(link, selectors.EVENT_READ | selectors.EVENT_WRITE)
         unsent[link], unread[link] = memoryview(each * LINE), each * len(GREETING)
     while chooser.get_map():
-        for key, events in chooser.select(20):
+        ready = chooser.select(SECONDS)
+        if not ready:
+            sys.exit("links.py: the server answers no more")
+        for key, events in ready:
             link = key.fileobj
             if events & selectors.EVENT_WRITE:
                 unsent[link] = unsent[link][link.send(unsent[link][:4096]) :]
@@ -111,33 +123,49 @@ def many():
                 unread[link] -= len(piece)
                 if not unread[link]:
                     chooser.unregister(link)
-    tell("lines on 64 links before a login", "steps/s", 64 * each, time.perf_counter_ns() - start)
+    tell("lines on 64 links before a login", "steps/s", 64 * each / (time.perf_counter() - start))
     close(*links)
 
 
-def flood():
-    """100 MB without a line end."""
-    link, blob = log_in(), (1 << 20) * b"x"
-    start = time.perf_counter_ns()
-    for _ in range(100):
-        link.sendall(blob)
-    most = resident()
-    link.sendall(b"\r\n")
-    read(link, len(ANSWER))
-    tell("100 MB without a line end", "MB/s", 100 << 20, time.perf_counter_ns() - start)
-    tell("memory meanwhile", "bytes", 1, most)
+def idle():
+    """Processor time of idle seconds, with a link that says nothing."""
+    link, seconds = log_in(), sized(10, 1)
+    time.sleep(0.2)
+    before = ticks()
+    time.sleep(seconds)
+    tell(f"processor ticks in {seconds} idle seconds", "ticks", ticks() - before)
     close(link)
 
 
-def idle():
-    """Processor time of 5 idle seconds, in hundredths of a second, printed as milliseconds."""
-    before = ticks()
-    time.sleep(5)
-    tell("processor time of 5 idle seconds", "ms", 1, (ticks() - before) * 10_000_000)
+def flood(what, unit, count, answer=b""):
+    """So many bytes without a line end, and then a line: how fast they are taken, and the most memory that the server holds meanwhile. Answers are read."""
+    link = log_in()
+    blob = (sized(1 << 20, 1 << 12) // len(unit)) * unit
+    most, start = 0, time.perf_counter()
+    for _ in range(count):
+        link.sendall(blob)
+        read(link, len(blob) // len(unit) * len(answer))
+        most = max(most, resident())
+    link.sendall(LINE)
+    read(link, len(ANSWER))
+    tell(what, "MB/s", count * len(blob) / (time.perf_counter() - start))
+    tell(f"{what}, memory meanwhile", "MB", most)
+    close(link)
 
 
-ping_pong()
-pipelined()
-many()
-flood()
-idle()
+def lines():
+    ping_pong()
+    pipelined()
+    many()
+    idle()
+
+
+def floods():
+    flood("100 MB without a line end", b"x", sized(100, 2))
+    flood("commands without an answer (IAC NOP)", b"\xff\xf1", sized(20, 2))
+    flood("commands with an answer (IAC WILL x)", b"\xff\xfb\x01", sized(20, 2), b"\xff\xfe\x01")
+
+
+if __name__ == "__main__":
+    port, pid = int(sys.argv[1]), int(sys.argv[2])
+    {"lines": lines, "floods": floods}[sys.argv[3]]()

@@ -1,337 +1,181 @@
-//! The same loops in plain Rust, as a measure of what `moo_bench` prints. `bench/run` compiles it where there is a `rustc`.
+//! The benchmarks' loops in plain Rust, and a server of lines. `bench/run` compiles it where there is a `rustc`.
 //!
-//! Each line has the name of the product's line, `Rust`, the unit, how many operations, what they took in all, and a checksum.
+//! `twin NAME STEPS TURNS` runs a loop, so many turns of it in each step, and prints what the last step gave; `nothing` does nothing. `twin serve PORT`
+//! answers lines as the server's fixture does.
 use std::collections::BTreeMap;
 use std::hint::black_box;
-use std::sync::Arc;
-use std::sync::atomic::{AtomicU64, Ordering};
-use std::time::Instant;
+use std::io::{BufRead, BufReader, Write};
+use std::net::{TcpListener, TcpStream};
 
 fn main() {
-    match std::env::args().nth(1).as_deref() {
-        Some("values") => values::run(),
-        Some("telnet") => telnet::run(),
-        Some("claims") => claims::run(),
-        Some("table") => table::run(),
-        Some("table-memory") => table::memory(),
-        _ => {
-            eprintln!("twin: the words are values, telnet, claims, table and table-memory");
-            std::process::exit(2);
-        }
+    let words: Vec<String> = std::env::args().skip(1).collect();
+    let number = |at: usize| words.get(at).and_then(|word| word.parse::<usize>().ok());
+    match (words.first().map(String::as_str), number(1), number(2)) {
+        (Some("serve"), Some(port), None) => serve(port),
+        (Some(name), Some(steps), Some(turns)) => run(name, steps, turns),
+        _ => refuse(),
     }
 }
 
-fn tell(name: &str, unit: &str, operations: usize, taken: u64, checksum: u64) {
-    println!("{name}\tRust\t{unit}\t{operations}\t{taken}\t{checksum}");
+fn refuse() -> ! {
+    eprintln!("twin: the words are NAME STEPS TURNS, or serve PORT");
+    std::process::exit(2);
 }
 
-fn since(start: Instant) -> u64 {
-    start.elapsed().as_nanos() as u64
+fn run(name: &str, steps: usize, turns: usize) {
+    let step: fn(usize) -> i64 = match name {
+        "nothing" => |_| 0,
+        "add" => add,
+        "count" => count,
+        "read" => read,
+        "write" => write,
+        "append" => append,
+        "join" => join,
+        "put" => put,
+        "call" => call,
+        "fib" => |n| fib(n as i64),
+        "length" => length,
+        _ => refuse(),
+    };
+    let mut given = 0;
+    for _ in 0..steps {
+        given = step(black_box(turns));
+    }
+    println!("{given}");
 }
 
-/// Times the work, which gives a checksum of its results.
-fn measure(name: &str, unit: &str, operations: usize, work: impl FnOnce() -> u64) {
-    let start = Instant::now();
-    let checksum = work();
-    tell(name, unit, operations, since(start), checksum);
+/// Objects by number, each with its properties by name.
+type World = BTreeMap<i32, BTreeMap<&'static str, i64>>;
+
+fn world() -> World {
+    (0..8).map(|number| (number, BTreeMap::from([("n", 0)]))).collect()
 }
 
-/// Values as the product has them: texts and lists are shared by their owners, and a list keeps its weight.
-mod value {
-    use std::cmp::Ordering;
-    use std::sync::Arc;
-
-    #[allow(dead_code)]
-    #[derive(Clone, Debug)]
-    pub enum Value {
-        Integer(i32),
-        Object(i32),
-        Text(Arc<str>),
-        Error(u8),
-        List(Arc<Vec<Value>>, usize),
-    }
-
-    impl Value {
-        pub fn count(number: usize) -> Value {
-            Value::Integer(i32::try_from(number).unwrap_or(i32::MAX))
-        }
-
-        pub fn list(items: Vec<Value>) -> Value {
-            let weight = items.iter().map(Value::weight).sum();
-            Value::List(Arc::new(items), weight)
-        }
-
-        pub fn weight(&self) -> usize {
-            match self {
-                Value::Integer(_) | Value::Object(_) | Value::Error(_) => 1,
-                Value::Text(text) => text.len() + 1,
-                Value::List(_, weight) => weight + 1,
-            }
-        }
-
-        pub fn push(&mut self, item: Value) {
-            let added = item.weight();
-            if let Value::List(items, weight) = self {
-                Arc::make_mut(items).push(item);
-                *weight += added;
-            }
-        }
-    }
-
-    pub fn equal(a: &Value, b: &Value) -> bool {
-        match (a, b) {
-            (Value::Integer(x), Value::Integer(y)) => x == y,
-            (Value::Object(x), Value::Object(y)) => x == y,
-            (Value::Text(x), Value::Text(y)) => x == y,
-            (Value::Error(x), Value::Error(y)) => x == y,
-            (Value::List(xs, _), Value::List(ys, _)) => {
-                xs.len() == ys.len() && xs.iter().zip(ys.iter()).all(|(x, y)| equal(x, y))
-            }
-            _ => false,
-        }
-    }
-
-    pub fn same(a: &Value, b: &Value) -> bool {
-        match (a, b) {
-            (Value::Text(x), Value::Text(y)) => x.eq_ignore_ascii_case(y),
-            _ => equal(a, b),
-        }
-    }
-
-    pub fn less(a: &Value, b: &Value) -> bool {
-        match (a, b) {
-            (Value::Integer(x), Value::Integer(y)) => x < y,
-            (Value::Text(x), Value::Text(y)) => {
-                let x = x.bytes().map(|c| c.to_ascii_lowercase());
-                let y = y.bytes().map(|c| c.to_ascii_lowercase());
-                x.cmp(y) == Ordering::Less
-            }
-            _ => false,
-        }
-    }
-
-    pub fn plus(a: &Value, b: &Value) -> Option<Value> {
-        match (a, b) {
-            (Value::Integer(x), Value::Integer(y)) => Some(Value::Integer(x.wrapping_add(*y))),
-            (Value::Text(x), Value::Text(y)) => {
-                let mut text = String::with_capacity(x.len() + y.len());
-                text.push_str(x);
-                text.push_str(y);
-                Some(Value::Text(text.into()))
-            }
-            _ => None,
-        }
-    }
+fn property<'a>(world: &'a mut World, object: i32, name: &str) -> &'a mut i64 {
+    world.get_mut(&object).and_then(|slots| slots.get_mut(name)).expect("a property")
 }
 
-mod values {
-    use super::value::{Value, equal, less, plus, same};
-    use super::*;
+fn add(turns: usize) -> i64 {
+    for _ in 0..20 * turns {
+        black_box(black_box(1) + black_box(1));
+    }
+    turns as i64
+}
 
-    const OPERANDS: usize = 1024;
-    const ITEMS: usize = 1000;
+fn count(turns: usize) -> i64 {
+    let mut i = 0;
+    while i < black_box(turns as i64) {
+        i = black_box(i + 1);
+    }
+    i
+}
 
-    pub fn run() {
-        let count = 1_000_000;
-        let start = Instant::now();
-        let mut list = Value::list(Vec::new());
-        for n in 0..count {
-            list.push(black_box(Value::count(n)));
+fn read(turns: usize) -> i64 {
+    let mut world = world();
+    let mut n = 0;
+    for _ in 0..10 * turns {
+        n = *property(black_box(&mut world), black_box(3), black_box("n"));
+    }
+    n
+}
+
+fn write(turns: usize) -> i64 {
+    let mut world = world();
+    for i in 0..10 * turns {
+        *property(black_box(&mut world), black_box(3), black_box("n")) = (i / 10 + 1) as i64;
+    }
+    *property(&mut world, 3, "n")
+}
+
+fn append(turns: usize) -> i64 {
+    let mut list = Vec::new();
+    for i in 0..turns {
+        list.push(black_box(i));
+    }
+    list.len() as i64
+}
+
+fn join(turns: usize) -> i64 {
+    let mut text = String::new();
+    for _ in 0..turns / 1000 {
+        text = String::new();
+        for _ in 0..1000 {
+            text = black_box([text.as_str(), "x"].concat());
         }
-        let taken = since(start);
-        let name = "values: append to an unshared list";
-        tell(name, "ns", count, taken, list.weight() as u64 - 1);
-
-        let few = 20_000;
-        let base = numbers(ITEMS);
-        let name = "values: append to a shared list of 1,000 items, which is copied";
-        measure(name, "ns", few, || {
-            (0..few).map(|n| {
-                let mut list = black_box(&base).clone();
-                list.push(Value::count(n));
-                list.weight() as u64
-            }).sum()
-        });
-
-        let texts = texts();
-        measure("values: join of two texts of 30 characters", "ns", count, || {
-            among(&texts, count, |a, b| plus(a, b).map_or(0, |joined| joined.weight() as u64))
-        });
-        measure("values: equality of texts of 30 characters", "ns", count, || {
-            among(&texts, count, |a, b| u64::from(equal(a, b)))
-        });
-        measure("values: == of texts of 30 characters, case ignored", "ns", count, || {
-            among(&texts, count, |a, b| u64::from(same(a, b)))
-        });
-        measure("values: < of texts of 30 characters, case ignored", "ns", count, || {
-            among(&texts, count, |a, b| u64::from(less(a, b)))
-        });
-
-        let lists = lists();
-        measure("values: equality of lists of 1,000 integers", "ns", few, || {
-            among(&lists, few, |a, b| u64::from(equal(a, b)))
-        });
     }
+    text.len() as i64
+}
 
-    fn among(values: &[Value], count: usize, act: impl Fn(&Value, &Value) -> u64) -> u64 {
-        (0..count).map(|turn| act(&values[turn % OPERANDS], &values[(turn + 1) % OPERANDS])).sum()
+fn put(turns: usize) -> i64 {
+    let mut list = vec![0; 1000];
+    for _ in 0..turns / 1000 {
+        for i in 1..=1000 {
+            black_box(&mut list)[i - 1] = i;
+        }
     }
+    list[999] as i64
+}
 
-    fn texts() -> Vec<Value> {
-        (0..OPERANDS).map(|n| {
-            let first = if n % 4 < 2 { 't' } else { 'T' };
-            let number = n / 4;
-            Value::Text(format!("{first}he text of the number {number:07}").into())
-        }).collect()
+#[inline(never)]
+fn leaf(this: i32) {
+    black_box(this);
+}
+
+fn call(turns: usize) -> i64 {
+    for _ in 0..10 * turns {
+        leaf(black_box(3));
     }
+    turns as i64
+}
 
-    fn numbers(count: usize) -> Value {
-        Value::list((0..count).map(Value::count).collect())
+#[inline(never)]
+fn fib(n: i64) -> i64 {
+    if n < 2 { n } else { fib(black_box(n - 1)) + fib(black_box(n - 2)) }
+}
+
+fn length(turns: usize) -> i64 {
+    let list = vec![0; 1000];
+    for _ in 0..10 * turns {
+        black_box(black_box(&list).len());
     }
+    list.len() as i64
+}
 
-    fn lists() -> Vec<Value> {
-        (0..OPERANDS).map(|n| {
-            let mut list = numbers(ITEMS);
-            list.push(Value::count(usize::from(n % 4 == 0)));
-            list
-        }).collect()
+/// Answers each line of each link, on a thread of its own.
+fn serve(port: usize) {
+    let listener = TcpListener::bind(("127.0.0.1", port as u16)).unwrap_or_else(|error| {
+        eprintln!("twin: {error}");
+        std::process::exit(2);
+    });
+    eprintln!("twin: listening");
+    for link in listener.incoming().flatten() {
+        std::thread::spawn(move || answer(link));
     }
 }
 
-mod telnet {
-    use super::*;
-
-    const PIECE: usize = 4080;
-    const PIECES: usize = 20_000;
-
-    pub fn run() {
-        let mut line = vec![b'x'; 78];
-        line.extend_from_slice(b"\r\n");
-        copy("telnet: plain text in lines of 78 characters", &line);
-        copy("telnet: commands with no answer (IAC NOP)", &[255, 241]);
-        copy("telnet: commands with an answer (IAC WILL x)", &[255, 251, 1]);
-    }
-
-    // A plain copy of the same bytes, piece by piece.
-    fn copy(name: &str, unit: &[u8]) {
-        let piece = unit.repeat(PIECE / unit.len());
-        measure(name, "MB/s", PIECES * piece.len(), || {
-            let mut copy = Vec::with_capacity(PIECE);
-            let mut sum = 0;
-            for turn in 0..PIECES {
-                copy.clear();
-                copy.extend_from_slice(black_box(&piece));
-                sum += u64::from(black_box(&copy)[turn % PIECE]);
-            }
-            sum
-        });
-    }
-}
-
-mod claims {
-    use super::*;
-
-    const POSITIONS: u64 = 10_000_000;
-
-    pub fn run() {
-        for (name, threads) in [
-            ("claims: by 1 thread", 1),
-            ("claims: by 2 threads", 2),
-            ("claims: by 4 threads", 4),
-        ] {
-            measure(name, "ns", POSITIONS as usize, || {
-                let next = AtomicU64::new(0);
-                std::thread::scope(|scope| {
-                    let workers: Vec<_> = (0..threads).map(|_| scope.spawn(|| claim_some(&next))).collect();
-                    workers.into_iter().map(|worker| worker.join().unwrap()).sum()
-                })
-            });
+// The answers are those of the fixture to a link on which nobody has logged in, and to a player's line that is no command.
+fn answer(link: TcpStream) -> std::io::Result<()> {
+    link.set_nodelay(true)?;
+    let mut lines = BufReader::new(link.try_clone()?);
+    let mut out = std::io::BufWriter::new(link);
+    let mut line = Vec::new();
+    let mut is_known = false;
+    out.write_all(b"Type connect #n\r\n")?;
+    loop {
+        if lines.buffer().is_empty() {
+            out.flush()?;
         }
-    }
-
-    fn claim_some(next: &AtomicU64) -> u64 {
-        let mut sum = 0u64;
-        loop {
-            let position = next.fetch_add(1, Ordering::SeqCst);
-            if position >= POSITIONS {
-                return sum;
-            }
-            sum = sum.wrapping_add(position);
+        line.clear();
+        if lines.read_until(b'\n', &mut line)? == 0 {
+            return Ok(());
         }
-    }
-}
-
-mod table {
-    use super::*;
-
-    type Records = BTreeMap<u64, Arc<u64>>;
-
-    pub fn run() {
-        lines("10,000", 10_000);
-        lines("1,000,000", 1_000_000);
-    }
-
-    fn lines(size: &str, records: usize) {
-        let name = |operation: &str| format!("table of {size}: {operation}");
-        let mut table = Records::new();
-        measure(&name("build"), "ns", records, || {
-            (0..records as u64).map(|n| change(&mut table, n, n)).sum()
-        });
-        let count = 1_000_000;
-        measure(&name("change in place"), "ns", count, || {
-            (0..count).map(|n| change(&mut table, key(n, records), n as u64)).sum()
-        });
-        measure(&name("look-up"), "ns", count, || {
-            (0..count).map(|n| **black_box(&table).get(&key(n, records)).unwrap()).sum()
-        });
-        measure(&name("walk, a record"), "ns", 3 * records, || {
-            (0..3).map(|_| walk(black_box(&table))).sum()
-        });
-        let copies = 5_000_000 / records;
-        measure(&name("share"), "ns", copies, || {
-            (0..copies).map(|_| *black_box(table.clone())[&1]).sum()
-        });
-        measure(&name("change that leaves the old table"), "ns", copies, || {
-            (0..copies).map(|n| {
-                let mut other = table.clone();
-                change(&mut other, key(n, records), 1);
-                *black_box(other)[&key(n, records)]
-            }).sum()
-        });
-    }
-
-    fn change(table: &mut Records, key: u64, value: u64) -> u64 {
-        table.insert(key, Arc::new(value));
-        key
-    }
-
-    pub fn memory() {
-        let records = 1_000_000;
-        let before = resident();
-        let table = built(records);
-        let taken = resident().saturating_sub(before);
-        tell("table of 1,000,000: memory a record", "bytes", records, taken, walk(&table));
-    }
-
-    fn built(records: usize) -> Records {
-        let mut table = Records::new();
-        for n in 0..records as u64 {
-            table.insert(n, Arc::new(n));
+        if is_known {
+            out.write_all(b"I couldn't understand that.\r\n")?;
+        } else if line.starts_with(b"connect ") {
+            is_known = true;
+            out.write_all(b"*** Connected ***\r\n")?;
+        } else {
+            out.write_all(b"Type connect #n\r\n")?;
         }
-        table
-    }
-
-    fn walk(table: &Records) -> u64 {
-        table.values().fold(0, |sum, value| sum.wrapping_add(**value))
-    }
-
-    fn key(n: usize, records: usize) -> u64 {
-        ((n as u64).wrapping_mul(0x9e37_79b9_7f4a_7c15) >> 20) % records as u64
-    }
-
-    fn resident() -> u64 {
-        let text = std::fs::read_to_string("/proc/self/statm").unwrap_or_default();
-        let pages = text.split_ascii_whitespace().nth(1).and_then(|word| word.parse().ok());
-        pages.unwrap_or(0u64) * 4096
     }
 }

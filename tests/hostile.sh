@@ -1,6 +1,6 @@
 #!/bin/sh
 # Texts that are long, deep or wrong at their end are answered in seconds by `moo-play`: scripts of 10 MB, and programs as long as a player can type them.
-# A reader of scripts that takes time by the square of its text would take hours. (Programs and literals of 1 MB are read by `./bench/run worst`.)
+# A reader of scripts that takes time by the square of its text would take hours. (How fast such programs are read is measured by `./bench/run parse`.)
 set -u
 root=$(cd "$(dirname -- "$0")/.." && pwd) || exit 2
 work=$(mktemp -d) || exit 2

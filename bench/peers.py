@@ -1,0 +1,63 @@
+"""What the product is measured beside: plain Rust, Lua and Python, where they are installed."""
+import os
+import shutil
+import subprocess
+import sys
+
+from runs import ROOT, Failure, least, run
+
+TWIN = f"{ROOT}/bench/out/twin"
+# Rust's loops are run more often, since most take a few nanoseconds.
+STEPS_OF_RUST = 20
+
+
+def has_twin():
+    """Compiles the Rust where that is to be done and can be."""
+    source = f"{ROOT}/bench/twin.rs"
+    if not shutil.which("rustc"):
+        return False
+    if not os.path.exists(TWIN) or os.path.getmtime(TWIN) < os.path.getmtime(source):
+        os.makedirs(os.path.dirname(TWIN), exist_ok=True)
+        words = ["rustc", "--edition", "2024", "-O", "-o", TWIN, source]
+        return subprocess.run(words, stderr=subprocess.DEVNULL).returncode == 0
+    return True
+
+
+def found():
+    """The peers that are here: how each is called, and how many times as many steps it takes. The others are told on standard error."""
+    here = {}
+    if has_twin():
+        here["Rust"] = ([TWIN], STEPS_OF_RUST)
+    else:
+        print("bench: no rustc here that compiles bench/twin.rs, so there is no plain Rust beside the product", file=sys.stderr)
+    if shutil.which("lua5.4"):
+        here["lua5.4"] = (["lua5.4", f"{ROOT}/bench/loops.lua"], 1)
+    else:
+        print("bench: no lua5.4 on PATH, so there is no Lua beside the product", file=sys.stderr)
+    here["python3"] = ([sys.executable, f"{ROOT}/bench/loops.py"], 1)
+    return here
+
+
+class Peers:
+    """Those that are here, with what each takes to do nothing."""
+
+    def __init__(self):
+        self.here = found()
+        self.idle = {who: self.timed(who, "nothing", 1, 1)[0] for who in self.here}
+
+    def timed(self, who, name, steps, turns):
+        words, times = self.here[who]
+        done = least(lambda: run(*words, name, str(steps * times), str(turns)))
+        return done.processor, done.output.strip()
+
+    def loop(self, name, steps, turns, given, without=()):
+        """Processor seconds of each for the same steps of a loop. The last step gives what the product's did."""
+        taken = {}
+        for who, (_, times) in self.here.items():
+            if who in without:
+                continue
+            processor, value = self.timed(who, name, steps, turns)
+            if value != given:
+                raise Failure(f"the loop {name} gives {value} by {who}, and {given} here")
+            taken[who] = max(processor - self.idle[who], 1e-9) / times
+        return taken

@@ -1,0 +1,51 @@
+"""What lists of steps cost by several workers, by the clock and by the processors' time. `moo-play` runs every list by `run_list`; the plain play of a list
+cannot be seen from outside, so there is no column of it."""
+import os
+
+from runs import Figure, play, script, sized, values_of
+from worlds import Thing, World
+
+ROOMS = 64
+WORKERS = (1, 2, 4)
+COUNT = ["this.n = this.n + 1;", "return this.n;"]
+# 1,000 ticks, and nothing changed
+TOTAL = [*(sized(999, 9) * ["1 + 1;"]), "return 1;"]
+
+
+def rooms():
+    """A world of rooms, each with a counter, these verbs and a player on the link of its number."""
+    world = World()
+    for number in range(1, ROOMS + 1):
+        room, player = 8 + 2 * number, 9 + 2 * number
+        thing = world.put(room, Thing("Room"))
+        thing.defines["n"] = 0
+        thing.verb("count", COUNT)
+        thing.verb("total", TOTAL)
+        world.enter(number, player, room)
+    return world.write("world")
+
+
+def lists():
+    """What each list is called, how many steps it has, and their lines."""
+    many, heavy = sized((100000, 20000), (200, 2))
+    return [
+        ("count on one counter", many, ("line 1 count" for _ in range(many))),
+        (f"count in {ROOMS} rooms", many, (f"line {1 + number % ROOMS} count" for number in range(many))),
+        (f"1,000 ticks in {ROOMS} rooms", heavy, (f"line {1 + number % ROOMS} total" for number in range(heavy))),
+    ]
+
+
+def figures(_peers):
+    yield Figure("processors of this machine", "times", os.cpu_count() or 1)
+    world = rooms()
+    for what, count, lines in lists():
+        path = script("steps", lines)
+        alone = None
+        for workers in WORKERS:
+            played = play(world, path, "--workers", str(workers))
+            alone = alone or (values_of(played) and played)
+            beside = {"1 worker": count / alone.seconds} if workers > 1 else {}
+            name = f"{what}, workers {workers}"
+            yield Figure(f"{name}, by the clock", "steps/s", count / played.seconds, beside)
+            beside = {"1 worker": alone.processor / count} if workers > 1 else {}
+            yield Figure(f"{name}, processor time a step", "us", played.processor / count, beside)

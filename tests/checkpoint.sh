@@ -3,7 +3,6 @@
 # stop in the middle leaves.
 set -u
 root=$(cd "$(dirname -- "$0")/.." && pwd) || exit 2
-play=$root/moo-play
 work=$(mktemp -d) || exit 2
 trap 'rm -rf "$work"' EXIT
 failures=0
@@ -12,6 +11,10 @@ fail() {
     echo "tests/checkpoint.sh: $1" >&2
     failures=$((failures + 1))
 }
+
+# Built where it is old; then it is run without its wrapper, which looks at every source.
+"$root/moo-play" --help >/dev/null || { fail "the program does not run"; exit 1; }
+play=$root/crates/moo_play/out/moo_play
 
 # wants NAME STATUS OUT ERRORS, after a run that left $work/out, $work/errors and the status in $status
 wants() {
@@ -77,6 +80,11 @@ run "$work/empty" "$work/none" --out "$work/again"
 wants "the empty world" 0 '' ''
 cmp -s "$work/empty" "$work/again" || fail "the empty world is another text when it was read"
 
+# A world with a player, somebody who has not logged in, and a task that waits inside a loop.
+run "$root/tests/small.world" "$work/none" --out "$work/again"
+wants "a small world" 0 '' ''
+cmp -s "$root/tests/small.world" "$work/again" || fail "a small world is another text when it was read"
+
 # ---- damaged
 
 # damaged NAME TEXT FAULT
@@ -91,44 +99,92 @@ damaged "no last line" "$(head -n 7 "$work/empty")\\n" 'line 8: Ended'
 damaged "a line behind the last" "$(cat "$work/empty")\\nx\\n" 'line 9: Line'
 damaged "another first line" 'MOO-CHECKPOINT 2\n' 'line 1: Header'
 damaged "no text" '' 'line 1: Ended'
+damaged "two spaces" 'MOO-CHECKPOINT 1\nnext  1\n' 'line 2: Line'
+damaged "a least number" 'MOO-CHECKPOINT 1\nnext 1\ngreatest -2\n' 'line 3: Number'
+begun='MOO-CHECKPOINT 1\nnext 1\ngreatest -1\nending 0\n'
+damaged "many objects" "${begun}links 0\\nobjects 99999999999\\n" 'line 7: Ended'
+damaged "a link without a number" "${begun}links 1\\nlink 0 #1 {\\n" 'line 6: Number'
+damaged "a link that programs nothing" "${begun}links 1\\nlink 1 #1 {\\n" 'line 6: Value'
+damaged "a link of nobody" "${begun}links 1\\nlink 1 #1 0\\nobjects 0\\ntasks 0\\nend\\n" 'line 9: World'
+
+# valued NAME [FAULT]: what stands on standard input, where the small world has a property's value, is told as this fault, or as no value.
+valued() {
+    { head -n "$((line - 1))" "$small"; printf 'slot #0 rc '; cat; tail -n "+$((line + 1))" "$small"; } >"$work/damaged"
+    run "$work/damaged" "$work/none"
+    wants "$1 as a value" 2 '' "moo-play: world: line $line: ${2:-Value}\n"
+}
+small=$root/tests/small.world
+line=$(grep -n '^slot #0 rc ' "$small" | cut -d : -f 1)
+for value in 007 -0 '{1,2}' '{1, 2 }' 2147483648 E_NO '"a' '{1, }'; do
+    printf '%s\n' "$value" | valued "$value"
+done
+# A space outside a text and a list is one field more.
+for value in ' 1' '# 1'; do
+    printf '%s\n' "$value" | valued "$value" Line
+done
+# braces OPEN CLOSED: so many opening braces, and so many closing ones.
+braces() {
+    head -c "$1" /dev/zero | tr '\0' '{'
+    head -c "$2" /dev/zero | tr '\0' '}'
+    echo
+}
+braces 100001 100001 | valued "100,001 braces"
+braces 10000000 0 | valued "10,000,000 open braces"
+braces 5000000 5000000 | valued "5,000,000 braces"
 head -n -1 "$work/fixture" >"$work/damaged"
 lines=$(wc -l <"$work/fixture")
 run "$work/damaged" "$work/none"
 wants "the fixture without its last line" 2 '' "moo-play: world: line $lines: Ended\n"
 
-# Each byte of a world with a task that waits altered in turn, and each proper beginning: refused with a line, or its own text. CHECKPOINT_STEP takes every
-# so manieth byte.
+# Every byte of two small worlds altered in turn, and each of their beginnings, and of a world with a task that waits every seventh: refused with a line,
+# or its own text.
 if command -v python3 >/dev/null 2>&1; then
-    python3 - "$root/crates/moo_play/out/moo_play" "$work" "${CHECKPOINT_STEP:-7}" <<'END' || fail "damaged worlds"
-import os, re, subprocess, sys
-play, work, step = sys.argv[1], sys.argv[2], int(sys.argv[3])
-with open(f"{work}/held", "rb") as file:
-    whole = file.read()
-bad = 0
-def tried(name, text):
-    global bad
-    with open(f"{work}/altered", "wb") as file:
-        file.write(text)
-    if os.path.exists(f"{work}/altered.out"):
-        os.remove(f"{work}/altered.out")
-    done = subprocess.run([play, f"{work}/altered", f"{work}/none", "--out", f"{work}/altered.out"], capture_output=True)
+    python3 - "$play" "$work" "$small" <<'END' || fail "damaged worlds"
+import os, re, subprocess, sys, threading
+play, work, small = sys.argv[1:]
+
+def texts():
+    """Names of worlds that are altered, with their texts, and whether they are proper beginnings."""
+    for file, step, changes in ((small, 1, (1, 16)), (f"{work}/empty", 1, (1,)), (f"{work}/held", 7, (1, 16, 64))):
+        with open(file, "rb") as it:
+            whole = it.read()
+        for at in range(0, len(whole), step):
+            yield f"{file}, the first {at} bytes", whole[:at], True
+            for change in changes:
+                yield f"{file}, byte {at} changed by {change}", whole[:at] + bytes([whole[at] ^ change]) + whole[at + 1:], False
+
+def fault(text, is_beginning, place):
+    """What is wrong with the answer to a text, or none."""
+    with open(place, "wb") as it:
+        it.write(text)
+    done = subprocess.run([play, place, f"{work}/none", "--out", f"{place}.out"], capture_output=True)
     if done.returncode == 2 and re.fullmatch(rb"moo-play: world: line [1-9][0-9]*: [A-Z][a-z]+\n", done.stderr):
-        return False
-    if done.returncode == 0:
-        with open(f"{work}/altered.out", "rb") as file:
+        return None
+    if done.returncode == 0 and not is_beginning:
+        with open(f"{place}.out", "rb") as it:
             # A server that was to end is not any more.
-            if file.read() == text.replace(b"\nending 1\n", b"\nending 0\n", 1):
-                return True
-    bad += 1
-    print(f"tests/checkpoint.sh: {name}: status {done.returncode}, told {done.stderr[:200]!r}", file=sys.stderr)
-    return False
-for at in range(0, len(whole), step):
-    for byte in ((whole[at] + 1) % 256, 0, 32):
-        if byte != whole[at]:
-            tried(f"byte {at} altered to {byte}", whole[:at] + bytes([byte]) + whole[at + 1:])
-    if tried(f"the first {at} bytes", whole[:at]):
-        bad += 1
-        print(f"tests/checkpoint.sh: the first {at} bytes are a world", file=sys.stderr)
+            if it.read() == text.replace(b"\nending 1\n", b"\nending 0\n", 1):
+                return None
+    return f"status {done.returncode}, told {done.stderr[:200]!r}"
+
+def work_off(place):
+    while True:
+        with lock:
+            name, text, is_beginning = next(waiting, (None, None, None))
+        if name is None:
+            return
+        wrong = fault(text, is_beginning, place)
+        if wrong:
+            bad.append(f"tests/checkpoint.sh: {name}: {wrong}")
+
+waiting, lock, bad = iter(list(texts())), threading.Lock(), []
+threads = [threading.Thread(target=work_off, args=(f"{work}/altered{number}",)) for number in range(os.cpu_count() or 1)]
+for thread in threads:
+    thread.start()
+for thread in threads:
+    thread.join()
+for text in bad[:20]:
+    print(text, file=sys.stderr)
 sys.exit(1 if bad else 0)
 END
 fi

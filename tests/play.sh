@@ -2,7 +2,6 @@
 # `moo-play` from end to end, on the program as it was built: examples, files, faults, large and hostile scripts.
 set -u
 root=$(cd "$(dirname -- "$0")/.." && pwd) || exit 2
-play=$root/moo-play
 work=$(mktemp -d) || exit 2
 trap 'rm -rf "$work"' EXIT
 failures=0
@@ -24,7 +23,12 @@ run() {
     status=$?
 }
 
-key="key $(printf '%064d' 0)"
+digits=$(printf '%064d' 0)
+key="key $digits"
+
+# Built where it is old; then it is run without its wrapper, which looks at every source.
+"$root/moo-play" --help >/dev/null || { fail "the program does not run"; exit 1; }
+play=$root/crates/moo_play/out/moo_play
 
 run fixture "$root/examples/two-counts.script" --workers 2
 wants "two counts" 0 'step 1 value 1 ticks 5\nstep 2 value 2 ticks 5\n' ''
@@ -98,6 +102,16 @@ faulty 'close 1 2\nmoment 00\n' 'line 2: Word'
 faulty 'ready  1\nmoment 00\n' 'line 2: Word'
 faulty 'opens 1\nmoment 00\n' 'line 2: Word'
 faulty "$key\\nmoment 00\\n" 'line 2: Word'
+faulty 'lin 01 \001\nmoment 01\n' 'line 2: Word'
+faulty 'line\nmoment 00\n' 'line 2: Word'
+faulty 'line 01\nmoment 00\n' 'line 2: Word'
+faulty 'moment 05 6\nmoment 00\n' 'line 2: Word'
+faulty 'open \nmoment 00\n' 'line 2: Word'
+faulty 'close  1\nmoment 00\n' 'line 2: Word'
+faulty 'close 01 2\nmoment 00\n' 'line 2: Word'
+faulty 'ready\t1\nmoment 00\n' 'line 2: Word'
+faulty 'line 01 \001' 'line 2: Word'
+faulty 'line 1 count\nline 2 count' 'line 3: Word'
 faulty 'line 1 count' 'line 2: Word'
 faulty 'line 01 count' 'line 2: Word'
 faulty 'line 01 count\nlin 1 count\n' 'line 2: Number'
@@ -109,7 +123,11 @@ faulty 'close x\nlin 1 count\n' 'line 2: Number'
 faulty 'ready -1\nlin 1 count\n' 'line 2: Number'
 faulty 'ready 2147483648\nlin 1 count\n' 'line 2: Number'
 faulty 'line x \001\nlin 1 count\n' 'line 2: Number'
+faulty 'moment +7\nlin\n' 'line 2: Number'
+faulty 'ready 99999999999999999999\nlin\n' 'line 2: Number'
 faulty 'line 1 \001\nlin 1 count\n' 'line 2: Text'
+faulty 'line 1 \0377\nlin\n' 'line 2: Text'
+faulty 'line 1 count\r\nlin\n' 'line 2: Text'
 faulty 'line 1 caf\0303\0251\nlin 1 count\n' 'line 2: Text'
 faulty 'line 1 count\nmoment 1\nline 2 \0177\nmoment 00\n' 'line 4: Text'
 faulty "line 1 $(printf '%04097d' 0)\\nlin\\n" 'line 2: Text'
@@ -126,6 +144,13 @@ keyless "key $(printf '%062d' 0)FF\\nlin\\n" 'line 1: Key'
 keyless "key $(printf '%063d' 0)\\nlin\\n" 'line 1: Key'
 keyless "key  $(printf '%064d' 0)\\nlin\\n" 'line 1: Key'
 keyless "$key" 'line 1: Word'
+keyless '\n' 'line 1: Key'
+keyless 'key\nlin\n' 'line 1: Key'
+keyless 'key \nlin\n' 'line 1: Key'
+keyless "KEY $digits\\nlin\\n" 'line 1: Key'
+keyless "key ${digits}0\\nlin\\n" 'line 1: Key'
+keyless "key $(printf '%063d' 0)g\\nlin\\n" 'line 1: Key'
+keyless "key $digits \\nlin\\n" 'line 1: Key'
 
 # Lists that are refused before anything runs.
 refused() {
@@ -137,7 +162,11 @@ refused 'line 0 count\n'
 refused 'line 1000000 count\n'
 refused 'open 0\n'
 refused 'close 1000000\n'
+refused 'line 1 count\nclose 1000000\n'
+refused 'line 1 count\nline 4294967296 count\n'
 refused 'line 1 count\nline 99999999999999999999 count\n'
+refused 'moment 2147483648\nready 1\n'
+refused 'line 1 count\nmoment 99999999999999999999\nline 2 count\n'
 refused 'moment 2147483648\nline 1 count\n'
 refused 'line 1 count\nmoment 99999999999\nline 1 count\nmoment 0\n'
 
@@ -154,10 +183,32 @@ wants "a late step out of range" 2 '' 'moo-play: numbers\n'
 run fixture "$work/late"
 wants "a late fault" 2 '' 'moo-play: script: line 10002: Word\n'
 
-for workers in 0 x 064 01 '1 ' ''; do
-    run fixture "$work/key" --workers "$workers"
-    wants "workers '$workers'" 2 '' 'moo-play: workers\n'
+# The number of workers is refused before the script is looked at.
+for workers in 0 65 x 064 01 '1 ' ' 1' '' -1 +1 1x 18446744073709551617; do
+    for script in key faulty; do
+        run fixture "$work/$script" "--workers=$workers"
+        wants "workers '$workers'" 2 '' 'moo-play: workers\n'
+    done
 done
+
+# The words: a number of workers behind a sign, options before the names, names that look like options; and words that are refused.
+run "$work/none" "$work/none" --workers=x
+wants "workers behind a sign" 2 '' 'moo-play: workers\n'
+run --out "$work/words" fixture --workers 64 stdin <"$work/key"
+wants "options before names" 0 '' ''
+[ "$(sed -n 2p "$work/words")" = "next 1" ] || fail "options before names: no world in the file"
+run -- --workers 2
+wants "names behind two signs" 2 '' 'moo-play: cannot read --workers\n'
+wrong() {
+    run "$@"
+    [ "$status" -eq 2 ] && [ ! -s "$work/out" ] && [ -s "$work/errors" ] || fail "words '$*': status $status, printed $(head -c 200 "$work/out")"
+}
+wrong
+wrong fixture
+wrong fixture stdin more
+wrong fixture stdin --workers
+wrong fixture stdin --out
+wrong fixture stdin --port 1
 
 # The greatest fields, front spaces, the case of letters, empty lines.
 {
@@ -176,6 +227,32 @@ if [ -e /dev/full ]; then
     "$play" --help >/dev/full 2>"$work/errors"
     status=$?
     wants "help to a full device" 2 '' ''
+fi
+
+# Output that ends in the middle, at each byte: status 2 and no error is told; and errors of which so many bytes can be written.
+if command -v python3 >/dev/null 2>&1; then
+    python3 - "$play" "$root/examples/two-counts.script" "$work" <<'END' || fail "output that ends in the middle"
+import resource, signal, subprocess, sys
+play, script, work = sys.argv[1:]
+whole = b"step 1 value 1 ticks 5\nstep 2 value 2 ticks 5\n"
+with open(f"{work}/refused", "wb") as file:
+    file.write(b"key " + 64 * b"0" + b"\nline 0 count\n")
+def limit(room):
+    signal.signal(signal.SIGXFSZ, signal.SIG_IGN)
+    resource.setrlimit(resource.RLIMIT_FSIZE, (room, room))
+def run(script, room):
+    """The status, and the bytes of output and of errors, where a file takes so many bytes."""
+    with open(f"{work}/part", "w+b") as out, open(f"{work}/told", "w+b") as told:
+        done = subprocess.run([play, "fixture", script, "--workers", "2"], stdout=out, stderr=told, preexec_fn=lambda: limit(room))
+        out.seek(0)
+        told.seek(0)
+        return done.returncode, out.read(), told.read()
+bad = [f"{room} bytes of output" for room in range(len(whole) + 1) if run(script, room) != (0 if room == len(whole) else 2, whole[:room], b"")]
+bad += [f"{room} bytes of errors" for room in (0, 1, 20) if run(f"{work}/refused", room)[:2] != (2, b"")]
+for name in bad:
+    print(f"tests/play.sh: {name}", file=sys.stderr)
+sys.exit(1 if bad else 0)
+END
 fi
 
 # 100,000 lines.

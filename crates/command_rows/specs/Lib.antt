@@ -1,3 +1,0 @@
-pub mod Den
-pub mod Meant
-pub mod Opened

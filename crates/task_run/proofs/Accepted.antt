@@ -20,7 +20,7 @@ use Rattle.spec_ready.specs.Ready.{IsReady, relinked}
 use Rattle.spec_ready.proofs.Readiness.{players_log_in}
 use Rattle.task_run.specs.Ready.{AreReady}
 use Rattle.task_run.proofs.Relinks.{relinked_is, is_greeted}
-use Rattle.world.specs.Law.{Goes, Tells}
+use Rattle.view.specs.Law.{Goes, Tells}
 use Rattle.task_run.proofs.Values.{no_value_else}
 use Rattle.moo_value.specs.Shown.{shown_datum}
 use Rattle.moo_value.specs.declared.value.Shown.{Shown as ShownDatum}

@@ -22,7 +22,7 @@ use Rattle.syntax_fault.specs.Meaning.{kind_meant, OfKindOrMemory, IsFaultOrMemo
 use Rattle.syntax_fault.specs.declared.fault.SyntaxFault.{SyntaxFault}
 use Rattle.moo_value.proofs.Characters.{is_text-append}
 use Rattle.spec_program.specs.Tokens.{FaultKind}
-use Rattle.world.specs.Law.{Goes, Tells}
+use Rattle.view.specs.Law.{Goes, Tells}
 use Rattle.task_run.specs.Codes.{HasVerb, HasVerbAt, behind_line, IsTold}
 
 -- ---- the verb

@@ -21,7 +21,7 @@ use Rattle.moo_code.specs.Machine.{Kept}
 use Rattle.moo_task.specs.Deeds.{scene_of}
 use Rattle.moo_task.specs.declared.deeds.Deeds.{Deeds}
 use Rattle.moo_task.specs.Keeping.{forked_task}
-use Rattle.world.specs.Law.{Goes}
+use Rattle.view.specs.Law.{Goes}
 use Rattle.task_run.proofs.Beginnings.{first_kept}
 
 number_of_link : (c : ℤ) → IsTrue (is_connection c) → IsTrue (is_number c)

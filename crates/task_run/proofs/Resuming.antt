@@ -9,7 +9,7 @@ use Rattle.spec_moo.specs.Steps.Events.{resumed, with_own_task}
 use Rattle.moo_task.specs.Deeds.{scene_of}
 use Rattle.moo_task.specs.declared.deeds.Deeds.{Deeds}
 use Rattle.moo_task.specs.declared.running.Running.{Running}
-use Rattle.world.specs.Law.{Goes}
+use Rattle.view.specs.Law.{Goes}
 use Rattle.task_run.specs.StepsPerformed.{StepsTo}
 use Rattle.task_run.specs.Tasks.{MayRun}
 use Rattle.task_run.proofs.StepsPlaying.{plays_changed}

@@ -6,7 +6,7 @@ use Rattle.spec_world.specs.Outcome.{Outcome}
 use Rattle.spec_ready.specs.Ready.{IsReady}
 use Rattle.moo_task.specs.Deeds.{scene_of}
 use Rattle.moo_task.specs.declared.deeds.Deeds.{Deeds}
-use Rattle.world.specs.Law.{Goes, Tells}
+use Rattle.view.specs.Law.{Goes, Tells}
 use Rattle.rules.specs.Lines.{AreAgreeing}
 use Rattle.rules.proofs.InheritStanding.{agreeing_stands}
 use Rattle.task_run.specs.StepsPerformed.{StepsTo}

@@ -15,7 +15,7 @@ use Rattle.spec_ready.proofs.Readiness.{opens_ready}
 use Rattle.moo_task.specs.Deeds.{scene_of}
 use Rattle.moo_task.specs.declared.deeds.Deeds.{Deeds}
 use Rattle.task_run.specs.Opens.{IsOpening}
-use Rattle.world.specs.Sound.{IsSound}
+use Rattle.view.specs.Sound.{IsSound}
 
 raised_next : (w : World) (m n : ℕ) → m ≤ 33554431 → n ≡ m + 1 → apply (new_next n) w ≡ numbered m w
 raised_next w m n small is =

@@ -8,16 +8,16 @@ ghost use Rattle.std.specs.Prelude.{◌≡◌, is_some, IfOk, OnOk, OnErr};
 ghost use Rattle.spec_world.specs.World.{World as Plain};
 ghost use Rattle.spec_world.specs.Inherit.{slot_at};
 ghost use Rattle.spec_world.specs.Questions.{Agrees, apply, apply_all, new_value};
-ghost use Rattle.world.specs.Sound.{IsSound};
-ghost use Rattle.world.specs.Law.{Goes, Lasts, StaysSound};
+ghost use Rattle.view.specs.Sound.{IsSound};
+ghost use Rattle.view.specs.Law.{Goes, Lasts, StaysSound};
 
 use moo_value::text::Text;
 use moo_value::value::Value;
 use std::alloc::{AllocError, Global};
-use world::law::View;
+use view::law::View;
 use world::live::Live;
-use world::readers::{read_slot, write_value};
-use world::reads::{Changes, Reads};
+use view::readers::{read_slot, write_value};
+use view::reads::{Changes, Reads};
 use world::tracked::Tracked;
 use world::worlds::{Snapshot, World};
 

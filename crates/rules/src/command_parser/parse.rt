@@ -7,7 +7,7 @@ ghost use Rattle.spec_world.specs.VerbsSought.{find_verb as find_verb_of};
 ghost use Rattle.spec_world.specs.CommandLines.{command_said, command_or_program, command_of as command_meant};
 ghost use Rattle.spec_world.specs.CommandLines.{named_by, asks_to_program as asks_to_program_of, huh_or_not};
 ghost use Rattle.rules.specs.Lines.{AreAgreeing};
-ghost use Rattle.world.specs.Law.{Lasts, Tells};
+ghost use Rattle.view.specs.Law.{Lasts, Tells};
 ghost use Rattle.rules.specs.CommandLinesMeant.{parts_of};
 ghost use Rattle.rules.specs.Meanings.{named_of, command_of};
 
@@ -20,7 +20,7 @@ use crate::object_match::naming::name_object;
 use crate::object_match::place::location;
 use crate::permissions::may::is_programmer;
 use std::alloc::{AllocError, Global};
-use world::law::View;
+use view::law::View;
 
 /// What a player's line asks for. Spaces at its front are dropped, and `"`, `:` and `;` there stand for `say `, `emote ` and `eval `.
 pub fn parse<V: View>(

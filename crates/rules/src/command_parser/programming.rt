@@ -8,7 +8,7 @@ ghost use Rattle.spec_moo.specs.Natives.Verbs.{place_of_word};
 ghost use Rattle.spec_moo.specs.Steps.Programming.{requested, opens, programmable as programmable_of, programmable_at};
 ghost use Rattle.rules.specs.Acts.{act_of};
 ghost use Rattle.rules.specs.Lines.{AreAgreeing};
-ghost use Rattle.world.specs.Law.{Lasts, Tells};
+ghost use Rattle.view.specs.Law.{Lasts, Tells};
 ghost use Rattle.rules.specs.Meanings.{request_of};
 ghost use Rattle.rules.specs.Openings.{opened, begun, place_among};
 
@@ -19,9 +19,9 @@ use crate::permissions::may::may;
 use crate::verb_match::names::matches;
 use moo_value::text::Text;
 use std::alloc::{AllocError, Global};
-use world::law::View;
-use world::readers::read_verbs;
-use world::verb::{Verb, Verbs};
+use view::law::View;
+use view::readers::read_verbs;
+use view::verb::{Verb, Verbs};
 
 /// What comes of a `.program` line.
 #[derive(Drop)]

@@ -2,14 +2,14 @@
 ghost use Rattle.std.specs.Prelude.{◌≡◌, IfOk, option_map};
 ghost use Rattle.spec_world.specs.CommandLines.{meant_on as meant_on_of, verb_meant as verb_meant_of};
 ghost use Rattle.rules.specs.Lines.{AreAgreeing};
-ghost use Rattle.world.specs.Law.{Lasts, Tells};
+ghost use Rattle.view.specs.Law.{Lasts, Tells};
 ghost use Rattle.rules.specs.Meanings.{named_of, meant_of, meant_in_room, meant_by_objects};
 
 use crate::command_parser::command::{Meant, Said};
 use crate::inherit::verb::find_command_verb;
 use crate::object_match::place::location;
 use std::alloc::AllocError;
-use world::law::View;
+use view::law::View;
 
 /// The verb that a command means: the first one on the player, the room, the direct and the indirect object, in this order.
 pub(crate) fn verb_meant<V: View>(

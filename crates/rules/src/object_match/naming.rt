@@ -2,7 +2,7 @@
 ghost use Rattle.std.specs.Prelude.{◌≡◌, IfOk, Some};
 ghost use Rattle.spec_world.specs.Naming.{name_object as name_object_of, by_number, by_words as by_words_of, by_name as by_name_of};
 ghost use Rattle.rules.specs.Lines.{AreAgreeing};
-ghost use Rattle.world.specs.Law.{Lasts, Tells};
+ghost use Rattle.view.specs.Law.{Lasts, Tells};
 
 use crate::object_match::number::object_number;
 use crate::object_match::place::location;
@@ -11,8 +11,8 @@ use crate::object_match::tally::NO_MATCHES;
 use crate::verb_match::names::is_same;
 use moo_value::text::Text;
 use std::alloc::{AllocError, Global};
-use world::law::View;
-use world::readers::read_header;
+use view::law::View;
+use view::readers::read_header;
 
 /// The object that a player means by a text: its number, `me`, `here`, or a name or alias of what the player holds and of what
 /// is in the room, or the beginning of one. Aliases are read without permission, and case is ignored. -1 for no text, -2 where

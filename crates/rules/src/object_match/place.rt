@@ -2,11 +2,11 @@
 ghost use Rattle.std.specs.Prelude.{◌≡◌, IfOk};
 ghost use Rattle.spec_world.specs.World.{object_at};
 ghost use Rattle.spec_world.specs.Naming.{location_of};
-ghost use Rattle.world.specs.Law.{Lasts, Tells};
+ghost use Rattle.view.specs.Law.{Lasts, Tells};
 
 use std::alloc::AllocError;
-use world::law::View;
-use world::readers::read_header;
+use view::law::View;
+use view::readers::read_header;
 
 /// Where an object is, -1 where it is not there.
 pub fn location<V: View>(view: &mut V, object: i32) -> Result<i32, AllocError>

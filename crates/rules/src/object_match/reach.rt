@@ -3,7 +3,7 @@ ghost use Rattle.std.specs.Prelude.{◌≡◌, IfOk, codes};
 ghost use Rattle.spec_world.specs.World.{object_at};
 ghost use Rattle.spec_world.specs.Naming.{contents_of};
 ghost use Rattle.rules.specs.Lines.{AreAgreeing};
-ghost use Rattle.world.specs.Law.{Lasts, Tells};
+ghost use Rattle.view.specs.Law.{Lasts, Tells};
 ghost use Rattle.rules.specs.Fits.{some_fit, named_in, object_fit, with_objects};
 
 use crate::inherit::property::find_property;
@@ -11,9 +11,9 @@ use crate::object_match::fit::{Fit, NO_FIT};
 use crate::object_match::tally::Matches;
 use moo_value::text::Text;
 use std::alloc::AllocError;
-use world::header::Header;
-use world::law::View;
-use world::readers::{read_contents, read_header};
+use view::header::Header;
+use view::law::View;
+use view::readers::{read_contents, read_header};
 
 /// With those of the contents of an object that a text fits.
 pub(crate) fn with_contents<V: View>(

@@ -12,7 +12,7 @@ ghost use Rattle.rules.specs.Meanings.{command_of, named_of};
 ghost use Rattle.rules.specs.declared.command_parser.command.Command.TheVariants.{Verb as CallsVerb};
 ghost use Rattle.moo_task.specs.Deeds.{scene_of};
 ghost use Rattle.moo_task.specs.Outcomes.{ticks_of};
-ghost use Rattle.world.specs.Law.{Goes, Lasts};
+ghost use Rattle.view.specs.Law.{Goes, Lasts};
 ghost use Rattle.task_run.specs.StepsPerformed.{StepsTo};
 ghost use Rattle.task_run.specs.Ready.{AreReady};
 ghost use Rattle.task_run.specs.Tasks.{MayRun};
@@ -35,8 +35,8 @@ use rules::object_match::place::location;
 use running::moo_run::natives::Natives;
 use std::alloc::{AllocError, Global};
 use task_step::outcome::Outcome;
-use world::law::View;
-use world::link::Link;
+use view::law::View;
+use view::link::Link;
 
 /// A player's line is a command.
 pub fn player_line<V: View, N: Natives>(

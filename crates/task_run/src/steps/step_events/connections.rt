@@ -10,7 +10,7 @@ ghost use Rattle.spec_moo.specs.Steps.Events.{opened_link, closed_link, gone as 
 ghost use Rattle.spec_moo.specs.Steps.Running.{system, system_task as system_task_of};
 ghost use Rattle.moo_task.specs.Deeds.{scene_of};
 ghost use Rattle.moo_task.specs.Outcomes.{ticks_of};
-ghost use Rattle.world.specs.Law.{Goes, Lasts};
+ghost use Rattle.view.specs.Law.{Goes, Lasts};
 ghost use Rattle.task_run.specs.StepsPerformed.{StepsTo};
 ghost use Rattle.task_run.specs.Ready.{AreReady};
 ghost use Rattle.task_run.specs.Tasks.{MayRun};
@@ -31,9 +31,9 @@ use running::moo_run::natives::Natives;
 use running::step_deeds::links::close_link;
 use std::alloc::{AllocError, Global};
 use task_step::outcome::{Ending, Outcome};
-use world::law::View;
-use world::link::Link;
-use world::readers::{read_link, write_link};
+use view::law::View;
+use view::link::Link;
+use view::readers::{read_link, write_link};
 
 /// A connection opens. Nothing happens where its number is that of an open one.
 pub fn open<V: View, N: Natives>(

@@ -9,7 +9,7 @@ ghost use Rattle.spec_world.specs.Step.{Step as StepOf};
 ghost use Rattle.spec_moo.specs.Steps.Events.{line_on, line_taken, line_read, line_for as line_for_of, words_value as words_value_of, foreground_ticks};
 ghost use Rattle.spec_value.specs.Datum.{list};
 ghost use Rattle.moo_task.specs.Deeds.{scene_of};
-ghost use Rattle.world.specs.Law.{Goes, Lasts};
+ghost use Rattle.view.specs.Law.{Goes, Lasts};
 ghost use Rattle.task_run.specs.StepsPerformed.{StepsTo};
 ghost use Rattle.task_run.specs.Ready.{AreReady};
 ghost use Rattle.task_run.specs.Opens.{IsOpening};
@@ -29,9 +29,9 @@ use running::moo_run::natives::Natives;
 use running::step_deeds::links::reader;
 use std::alloc::{AllocError, Global};
 use task_step::outcome::{Ending, Outcome};
-use world::law::View;
-use world::link::Link;
-use world::readers::read_link;
+use view::law::View;
+use view::link::Link;
+use view::readers::read_link;
 
 /// A connection sends a line. Nothing happens where it is not open.
 pub fn line<V: View, N: Natives>(

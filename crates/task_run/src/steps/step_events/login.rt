@@ -6,7 +6,7 @@ ghost use Rattle.spec_world.specs.Links.{connection_object as connection_object_
 ghost use Rattle.spec_moo.specs.Steps.Running.{run as run_of, system_task as system_task_of};
 ghost use Rattle.spec_moo.specs.Steps.Events.{login as login_of, after_login, foreground_ticks};
 ghost use Rattle.moo_task.specs.Deeds.{scene_of};
-ghost use Rattle.world.specs.Law.{Goes, Lasts};
+ghost use Rattle.view.specs.Law.{Goes, Lasts};
 ghost use Rattle.task_run.specs.StepsPerformed.{StepsTo};
 ghost use Rattle.task_run.specs.Ready.{AreReady};
 
@@ -22,7 +22,7 @@ use rules::inherit::verb::FoundVerb;
 use running::moo_run::natives::Natives;
 use std::alloc::{AllocError, Global};
 use task_step::outcome::Outcome;
-use world::law::View;
+use view::law::View;
 
 /// A login: `#0:do_login_command` is called for the connection.
 pub fn login<V: View, N: Natives>(

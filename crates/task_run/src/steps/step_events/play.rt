@@ -4,7 +4,7 @@ ghost use Rattle.spec_world.specs.Step.{Step as StepOf, in_range, event_in_range
 ghost use Rattle.spec_moo.specs.Steps.{play1};
 ghost use Rattle.spec_moo.specs.Steps.Events.{event_of as event_of_step};
 ghost use Rattle.task_step.specs.StepView.{event_of};
-ghost use Rattle.world.specs.Law.{AreSound, Goes, Lasts};
+ghost use Rattle.view.specs.Law.{AreSound, Goes, Lasts};
 ghost use Rattle.task_run.specs.StepsPerformed.{StepsTo};
 ghost use Rattle.task_run.specs.Ready.{AreReady};
 ghost use Rattle.task_run.specs.Opens.{IsOpening};
@@ -19,8 +19,8 @@ use running::moo_run::natives::Natives;
 use std::alloc::{AllocError, Global};
 use task_step::outcome::{Ending, Outcome};
 use task_step::step::{Event, Step};
-use world::law::View;
-use world::readers::{raise_next, read_ending};
+use view::law::View;
+use view::readers::{raise_next, read_ending};
 
 /// Plays a step over the view. After an error the view is only to be dropped or undone.
 pub fn play_step<V: View, N: Natives>(

@@ -6,7 +6,7 @@ ghost use Rattle.spec_world.specs.Step.{Step as StepOf};
 ghost use Rattle.spec_moo.specs.Steps.Running.{gone_on};
 ghost use Rattle.spec_moo.specs.Steps.Events.{resumed, with_own_task, read_by as read_by_of, ready_at, ready_run as ready_run_of, is_due as is_due_of, foreground_ticks};
 ghost use Rattle.moo_task.specs.Deeds.{scene_of};
-ghost use Rattle.world.specs.Law.{Goes, Lasts};
+ghost use Rattle.view.specs.Law.{Goes, Lasts};
 ghost use Rattle.task_run.specs.StepsPerformed.{StepsTo};
 ghost use Rattle.task_run.specs.Ready.{AreReady};
 ghost use Rattle.task_run.specs.Opens.{IsOpening};
@@ -21,8 +21,8 @@ use moo_value::value::Value;
 use running::moo_run::natives::Natives;
 use std::alloc::{AllocError, Global};
 use task_step::outcome::{Ending, Outcome};
-use world::law::View;
-use world::readers::{read_task, write_task};
+use view::law::View;
+use view::readers::{read_task, write_task};
 
 /// A task that is due goes on. Nothing happens where it is not there, or not due.
 pub fn ready<V: View, N: Natives>(

@@ -9,7 +9,7 @@ ghost use Rattle.spec_moo.specs.Steps.Events.{foreground_ticks};
 ghost use Rattle.spec_moo.specs.Steps.Programming.{ends, ends_at, ends_with, written};
 ghost use Rattle.syntax_fault.specs.Meaning.{IsFaultOrMemory};
 ghost use Rattle.moo_task.specs.Deeds.{scene_of};
-ghost use Rattle.world.specs.Law.{Goes, Lasts};
+ghost use Rattle.view.specs.Law.{Goes, Lasts};
 ghost use Rattle.builtins_view.specs.Programs.{with_program};
 ghost use Rattle.task_run.specs.StepsPerformed.{StepsTo};
 ghost use Rattle.task_run.specs.Ready.{AreReady};
@@ -27,11 +27,11 @@ use rules::command_parser::programming::programmable;
 use std::alloc::{AllocError, Global};
 use syntax_fault::fault::SyntaxFault;
 use task_step::outcome::Outcome;
-use world::law::View;
-use world::link::{Link, Programming};
-use world::lists::Lines;
-use world::readers::{read_verbs, write_link};
-use world::verb::Verb;
+use view::law::View;
+use view::link::{Link, Programming};
+use view::lists::Lines;
+use view::readers::{read_verbs, write_link};
+use view::verb::Verb;
 
 /// The lines are over: the verb has their program, if they are one, were not too long, and the player may still program it.
 pub(crate) fn end<V: View>(

@@ -8,7 +8,7 @@ ghost use Rattle.spec_moo.specs.Natives.Properties.{as_texts};
 ghost use Rattle.spec_moo.specs.Steps.Events.{foreground_ticks};
 ghost use Rattle.spec_moo.specs.Steps.Programming.{collected, goes_on, fits_still, with_line as with_line_of};
 ghost use Rattle.moo_task.specs.Deeds.{scene_of};
-ghost use Rattle.world.specs.Law.{Goes, Lasts};
+ghost use Rattle.view.specs.Law.{Goes, Lasts};
 ghost use Rattle.task_run.specs.StepsPerformed.{StepsTo};
 ghost use Rattle.task_run.specs.Ready.{AreReady};
 
@@ -19,10 +19,10 @@ use moo_value::answer::WEIGHT_LIMIT;
 use moo_value::text::Text;
 use std::alloc::{AllocError, Global};
 use task_step::outcome::Outcome;
-use world::law::View;
-use world::link::{Link, Programming};
-use world::lists::Lines;
-use world::readers::write_link;
+use view::law::View;
+use view::link::{Link, Programming};
+use view::lists::Lines;
+use view::readers::write_link;
 
 /// A line for a verb's code, or the one that ends it.
 pub fn collect<V: View>(

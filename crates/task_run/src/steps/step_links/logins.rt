@@ -13,7 +13,7 @@ ghost use Rattle.spec_moo.specs.Steps.Events.{login_value, logged_in, greeted, u
 ghost use Rattle.spec_ready.specs.Ready.{relinked};
 ghost use Rattle.moo_task.specs.Deeds.{scene_of};
 ghost use Rattle.moo_task.specs.declared.deeds.Deeds.{Deeds as TheDeeds};
-ghost use Rattle.world.specs.Law.{Goes, Lasts, Tells};
+ghost use Rattle.view.specs.Law.{Goes, Lasts, Tells};
 ghost use Rattle.task_run.specs.StepsPerformed.{HasValue};
 ghost use Rattle.task_run.specs.Ready.{AreReady};
 ghost use Rattle.task_run.specs.Accepting.{Accepts, has_player};
@@ -31,10 +31,10 @@ use running::step_deeds::links::close_connection_of;
 use running::step_deeds::queue::enqueue;
 use std::alloc::{AllocError, Global};
 use task_step::outcome::Ending;
-use world::header::Header;
-use world::law::View;
-use world::link::Link;
-use world::readers::{read_header, read_link, write_link};
+use view::header::Header;
+use view::law::View;
+use view::link::Link;
+use view::readers::{read_header, read_link, write_link};
 
 /// The object of a connection on which nobody has logged in.
 pub fn connection_object(connection: i32) -> i32

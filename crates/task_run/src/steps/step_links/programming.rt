@@ -8,7 +8,7 @@ ghost use Rattle.spec_moo.specs.Steps.Programming.{begins, requested};
 ghost use Rattle.rules.specs.Meanings.{request_of};
 ghost use Rattle.rules.specs.Openings.{opened};
 ghost use Rattle.moo_task.specs.Deeds.{scene_of};
-ghost use Rattle.world.specs.Law.{Goes, Lasts};
+ghost use Rattle.view.specs.Law.{Goes, Lasts};
 ghost use Rattle.task_run.specs.StepsPerformed.{StepsTo};
 ghost use Rattle.task_run.specs.Ready.{AreReady};
 
@@ -21,10 +21,10 @@ use rules::command_parser::programming::{Opening, open};
 use rules::command_parser::request::Request;
 use std::alloc::{AllocError, Global};
 use task_step::outcome::Outcome;
-use world::law::View;
-use world::link::{Link, Programming};
-use world::lists::Lines;
-use world::readers::write_link;
+use view::law::View;
+use view::link::{Link, Programming};
+use view::lists::Lines;
+use view::readers::write_link;
 
 /// A player's `.program` line.
 pub fn request<V: View>(

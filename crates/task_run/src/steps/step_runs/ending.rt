@@ -11,7 +11,7 @@ ghost use Rattle.moo_task.specs.Frames.{kept_of};
 ghost use Rattle.moo_task.specs.Outcomes.{end_of};
 ghost use Rattle.moo_task.specs.Keeping.{HasStopped};
 ghost use Rattle.task_step.specs.OutcomeView.{result_of};
-ghost use Rattle.world.specs.Law.{Goes, Lasts};
+ghost use Rattle.view.specs.Law.{Goes, Lasts};
 ghost use Rattle.task_run.specs.Stops.{CanBeKept, Settles, SettlesAs};
 
 use moo_task::deeds::Deeds;
@@ -27,7 +27,7 @@ use running::step_deeds::queue::enqueue;
 use running::step_deeds::telling::tell;
 use std::alloc::{AllocError, Global};
 use task_step::outcome::Ending;
-use world::law::View;
+use view::law::View;
 
 /// What the end of a task does: one that waits is put into the queue at its id, if it has one; else its player is told why it stopped.
 pub fn after_stop<V: View>(

@@ -5,7 +5,7 @@ ghost use Rattle.spec_moo.specs.Pending.{Pending};
 ghost use Rattle.spec_moo.specs.Steps.Running.{run as run_of, came_to};
 ghost use Rattle.moo_task.specs.Deeds.{scene_of};
 ghost use Rattle.moo_task.specs.Outcomes.{ticks_of};
-ghost use Rattle.world.specs.Law.{Goes, Lasts};
+ghost use Rattle.view.specs.Law.{Goes, Lasts};
 ghost use Rattle.task_run.specs.StepsPerformed.{StepsTo};
 ghost use Rattle.task_run.specs.Ready.{AreReady};
 ghost use Rattle.task_run.specs.Tasks.{MayRun};
@@ -18,7 +18,7 @@ use moo_task::running::Running;
 use running::moo_run::natives::Natives;
 use std::alloc::{AllocError, Global};
 use task_step::outcome::Outcome;
-use world::law::View;
+use view::law::View;
 
 /// The outcome of a step whose task has run.
 pub fn ran_outcome(alloc: Global, ran: Ran) -> Result<Outcome, AllocError>

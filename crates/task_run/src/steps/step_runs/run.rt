@@ -4,7 +4,7 @@ ghost use Rattle.spec_moo.specs.Pending.{Pending};
 ghost use Rattle.spec_moo.specs.Steps.Running.{run as run_of};
 ghost use Rattle.moo_task.specs.Deeds.{scene_of};
 ghost use Rattle.moo_task.specs.Outcomes.{ticks_of};
-ghost use Rattle.world.specs.Law.{Goes, Lasts};
+ghost use Rattle.view.specs.Law.{Goes, Lasts};
 ghost use Rattle.task_run.specs.StepsPerformed.{HasValue};
 ghost use Rattle.task_run.specs.Ready.{AreReady};
 ghost use Rattle.task_run.specs.Stops.{HasRun, left_at};
@@ -18,7 +18,7 @@ use running::moo_run::run::run;
 use running::moo_run::stopped::{Stop, Stopped};
 use std::alloc::{AllocError, Global};
 use task_step::outcome::Ending;
-use world::law::View;
+use view::law::View;
 
 /// What the run of a task came to.
 #[derive(Drop)]

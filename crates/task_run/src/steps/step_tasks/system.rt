@@ -5,7 +5,7 @@ ghost use Rattle.spec_world.specs.VerbsSought.{find_verb as find_verb_of};
 ghost use Rattle.spec_moo.specs.Steps.Running.{system, system_call, system_task as system_task_of, unnamed as unnamed_of};
 ghost use Rattle.rules.specs.Lines.{AreAgreeing};
 ghost use Rattle.moo_task.specs.Outcomes.{ticks_of};
-ghost use Rattle.world.specs.Law.{Lasts, Tells};
+ghost use Rattle.view.specs.Law.{Lasts, Tells};
 ghost use Rattle.task_run.specs.Tasks.{MayRun};
 
 use crate::steps::step_tasks::begin::{begin, program_of};
@@ -15,7 +15,7 @@ use moo_value::text::Text;
 use moo_value::value::Value;
 use rules::inherit::verb::{FoundVerb, find_verb};
 use std::alloc::{AllocError, Global};
-use world::law::View;
+use view::law::View;
 
 /// The object whose verbs the server calls.
 pub const SYSTEM: i32 = 0;

@@ -5,7 +5,7 @@ use Rattle.spec_world.specs.Naming.{location_of}
 use Rattle.spec_world.specs.VerbsSought.{find_verb}
 use Rattle.spec_world.specs.CommandLines as line
 use Rattle.spec_world.specs.CommandLines.{verb_meant, huh_or_not, calls_verb}
-use Rattle.world.specs.Law.{Tells}
+use Rattle.view.specs.Law.{Tells}
 use Rattle.rules.proofs.Tellings.{if_ok_as, told_as, told_on}
 use Rattle.rules.specs.CommandLinesMeant.{parts_of}
 use Rattle.rules.specs.Meanings.{named_of, meant_of, command_of}

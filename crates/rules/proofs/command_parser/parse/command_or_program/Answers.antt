@@ -2,7 +2,7 @@ use Rattle.std.proofs.Common.{◌≡◌, Some, false, sym, ap, ◌∙◌, w32}
 use Rattle.std.proofs.lemmas.Int.{to_z-of_z}
 use Rattle.spec_world.specs.CommandLines as line
 use Rattle.spec_world.specs.CommandLines.{Parts, command_or_program, asks_to_program, named_by}
-use Rattle.world.specs.Law.{Tells}
+use Rattle.view.specs.Law.{Tells}
 use Rattle.rules.proofs.Tellings.{if_ok_as, told_on}
 use Rattle.rules.specs.CommandLinesMeant.{parts_of}
 use Rattle.rules.specs.Meanings.{named_of, command_of}

@@ -1,7 +1,7 @@
 use Rattle.std.proofs.Common.{◌≡◌, Some, None, rules, w32, to_z, of_z}
 use Rattle.std.specs.Prelude.{option_map}
 use Rattle.spec_world.specs.CommandLines.{meant_on}
-use Rattle.world.specs.Law.{Tells}
+use Rattle.view.specs.Law.{Tells}
 use Rattle.rules.proofs.Tellings.{if_ok_as, told_as, told_on}
 use Rattle.rules.specs.Meanings.{named_of, meant_of, meant_by_objects}
 use Rattle.rules.proofs.VerbRules.{by_direct, by_indirect}

@@ -4,7 +4,7 @@ use Rattle.std.proofs.lemmas.Int.{to_z-of_z}
 use Rattle.spec_world.specs.World.{object_at}
 use Rattle.spec_world.specs.Naming.{location_of}
 use Rattle.spec_world.specs.CommandLines.{meant_on}
-use Rattle.world.specs.Law.{Tells}
+use Rattle.view.specs.Law.{Tells}
 use Rattle.rules.proofs.Tellings.{if_ok_as, told_on}
 use Rattle.rules.specs.Meanings.{named_of, meant_of, meant_by_objects, meant_in_room}
 use Rattle.rules.specs.declared.command_parser.command.Meant.{Meant}

@@ -3,7 +3,7 @@ use Rattle.std.specs.Prelude.{option_map}
 use Rattle.std.proofs.lemmas.Int.{to_z-of_z}
 use Rattle.spec_world.specs.VerbsSought.{Named, find_command_verb}
 use Rattle.spec_world.specs.CommandLines.{meant_on}
-use Rattle.world.specs.Law.{Tells}
+use Rattle.view.specs.Law.{Tells}
 use Rattle.rules.proofs.Tellings.{told_as}
 use Rattle.rules.specs.Meanings.{named_of, meant_of}
 use Rattle.rules.proofs.VerbRules.{found_on}

@@ -2,7 +2,7 @@ use Rattle.std.proofs.Common.{◌≡◌, Some, None, rules, w32}
 use Rattle.std.specs.Prelude.{option_map, Option}
 use Rattle.std.proofs.lemmas.Int.{to_z-of_z}
 use Rattle.spec_world.specs.CommandLines.{meant_on, verb_meant}
-use Rattle.world.specs.Law.{Tells}
+use Rattle.view.specs.Law.{Tells}
 use Rattle.rules.proofs.Tellings.{if_ok_as, told_as, told_on}
 use Rattle.rules.specs.Meanings.{named_of, meant_of, meant_in_room}
 use Rattle.rules.specs.declared.command_parser.command.Meant.{Meant}

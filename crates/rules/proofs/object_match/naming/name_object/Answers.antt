@@ -1,7 +1,7 @@
 use Rattle.std.proofs.Common.{◌≡◌, ◌<◌, length, Some, None, refl, rules, w32, to_z, of_z}
 use Rattle.std.proofs.lemmas.Int.{to_z-of_z}
 use Rattle.spec_world.specs.Naming.{name_object, by_number, by_words, object_number}
-use Rattle.world.specs.Law.{Tells}
+use Rattle.view.specs.Law.{Tells}
 use Rattle.rules.proofs.Tellings.{if_ok_as, told_as}
 use Rattle.rules.specs.Numbers.{IsNumberOf}
 use Rattle.rules.proofs.NamingRules.{name_of_none, name_by_number, name_by_words}

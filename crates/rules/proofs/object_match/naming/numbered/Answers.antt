@@ -2,7 +2,7 @@ use Rattle.std.proofs.Common.{◌≡◌, true, false, Some, is_some, rules, w32}
 use Rattle.std.proofs.lemmas.Int.{to_z-of_z}
 use Rattle.spec_world.specs.Questions.{header_at}
 use Rattle.spec_world.specs.Naming.{by_number, by_words}
-use Rattle.world.specs.Law.{Tells}
+use Rattle.view.specs.Law.{Tells}
 use Rattle.rules.proofs.Tellings.{if_ok_as, told_as, told_on, known_on}
 use Rattle.rules.proofs.NamingRules.{numbered_there, numbered_gone}
 use Rattle.rules.proofs.object_match.naming.numbered.Goals as goal

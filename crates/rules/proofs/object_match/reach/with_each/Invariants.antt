@@ -1,5 +1,5 @@
 use Rattle.std.proofs.Common.{◌≡◌, drop}
-use Rattle.world.specs.Law.{Tells}
+use Rattle.view.specs.Law.{Tells}
 use Rattle.rules.specs.Lines.{AreAgreeing}
 use Rattle.rules.specs.Fits.{with_objects}
 use Rattle.rules.proofs.object_match.reach.with_each.Given as goal

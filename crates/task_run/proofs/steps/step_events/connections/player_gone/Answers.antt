@@ -6,7 +6,7 @@ use Rattle.spec_moo.specs.Steps.Running.{run, came_to, system, system_task}
 use Rattle.spec_moo.specs.Steps.Events.{told_gone, foreground_ticks}
 use Rattle.rules.proofs.InheritStanding.{agreeing_stands}
 use Rattle.moo_task.specs.Deeds.{scene_of}
-use Rattle.world.specs.Law.{Goes}
+use Rattle.view.specs.Law.{Goes}
 use Rattle.task_run.specs.StepsPerformed.{StepsTo}
 use Rattle.task_run.proofs.StepsPlaying.{plays_told, plays_then, ready_told}
 use Rattle.task_run.proofs.steps.step_events.connections.player_gone.Goals as goal

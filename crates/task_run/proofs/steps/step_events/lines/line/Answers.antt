@@ -5,7 +5,7 @@ use Rattle.spec_world.specs.Outcome.{Outcome}
 use Rattle.spec_moo.specs.Scene.{Scene}
 use Rattle.spec_moo.specs.Steps.Events.{line_on, line_taken, foreground_ticks}
 use Rattle.moo_task.specs.Deeds.{scene_of}
-use Rattle.world.specs.Law.{Goes}
+use Rattle.view.specs.Law.{Goes}
 use Rattle.task_run.specs.StepsPerformed.{StepsTo}
 use Rattle.task_run.proofs.StepsPlaying.{plays_told, plays_then, ready_told, told_still}
 use Rattle.task_run.proofs.steps.step_events.lines.line.Goals as goal

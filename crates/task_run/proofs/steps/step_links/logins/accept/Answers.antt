@@ -3,7 +3,7 @@ use Rattle.std.proofs.lemmas.Int.{to_z-of_z}
 use Rattle.spec_moo.specs.Pending.{done}
 use Rattle.spec_moo.specs.Steps.Events.{login_value}
 use Rattle.moo_task.specs.Deeds.{scene_of}
-use Rattle.world.specs.Law.{Goes}
+use Rattle.view.specs.Law.{Goes}
 use Rattle.task_step.specs.OutcomeView.{result_of}
 use Rattle.task_run.specs.StepsPerformed.{HasValue}
 use Rattle.task_run.proofs.Accepted.{no_value_of, no_value_stays, accepted_value}

@@ -5,7 +5,7 @@ use Rattle.spec_value.specs.Datum.{Datum, object}
 use Rattle.spec_moo.specs.Pending.{done}
 use Rattle.spec_moo.specs.Steps.Events.{login_value}
 use Rattle.moo_task.specs.Deeds.{scene_of}
-use Rattle.world.specs.Law.{Goes}
+use Rattle.view.specs.Law.{Goes}
 use Rattle.task_run.proofs.Accepted.{no_object_of, value_stays}
 use Rattle.task_run.proofs.steps.step_links.logins.accept_value.Goals as goal
 

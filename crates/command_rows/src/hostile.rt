@@ -1,6 +1,6 @@
 //! The longest lines that a player can type, 4,096 characters, of one kind of character each.
 use crate::shown::parts;
-use commands::command_lines::parts::Parts;
+use player_commands::command_lines::parts::Parts;
 use std::alloc::{AllocError, Global};
 use std::test::Fail;
 

@@ -1,6 +1,6 @@
 //! The parts of a line in one text.
 use moo_value::text::Text;
-use commands::command_lines::parts::{Parts, line_parts};
+use player_commands::command_lines::parts::{Parts, line_parts};
 use std::alloc::{AllocError, Global};
 
 /// The parts of a line, if all of its characters are allowed and it has words.

@@ -24,7 +24,7 @@ use builtins_view::builtins_world::values::texts_value;
 use moo_task::deeds::Deeds;
 use moo_value::text::Text;
 use moo_value::value::Value;
-use commands::command_lines::parts::{Parts, line_parts};
+use player_commands::command_lines::parts::{Parts, line_parts};
 use running::moo_run::natives::Natives;
 use running::step_deeds::links::reader;
 use std::alloc::{AllocError, Global};

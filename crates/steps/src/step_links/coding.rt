@@ -23,7 +23,7 @@ use moo_syntax::parse::parse;
 use moo_task::deeds::Deeds;
 use moo_tree::statement::Tree;
 use moo_value::text::Text;
-use commands::command_parser::programming::programmable;
+use player_commands::command_parser::programming::programmable;
 use std::alloc::{AllocError, Global};
 use syntax_fault::fault::SyntaxFault;
 use task_step::outcome::Outcome;

@@ -2,7 +2,7 @@ use Rattle.std.proofs.Common.{◌≡◌, ◌∙◌, ap, List, to_z, of_z, w32, r
 use Rattle.std.proofs.lemmas.Int.{to_z-of_z}
 use Rattle.spec_value.specs.Datum.{Text, list, of_list}
 use Rattle.spec_moo.specs.Natives.Properties.{as_texts}
-use Rattle.commands.specs.CommandLinesMeant.{parts_of}
+use Rattle.player_commands.specs.CommandLinesMeant.{parts_of}
 use Rattle.steps.proofs.step_events.commands.command_task.Goals as goal
 
 pub returns-clause-runs : goal.returns-clause-runs

@@ -3,7 +3,7 @@ use Rattle.std.proofs.lemmas.Int.{to_z-of_z}
 use Rattle.spec_value.specs.Table.{at}
 use Rattle.spec_world.specs.CommandLines.{command_said}
 use Rattle.spec_moo.specs.Steps.Events.{player_line, command_run, foreground_ticks}
-use Rattle.commands.specs.Meanings.{command_of}
+use Rattle.player_commands.specs.Meanings.{command_of}
 use Rattle.rules.proofs.InheritStanding.{agreeing_stands}
 use Rattle.moo_task.specs.Deeds.{scene_of}
 use Rattle.steps.proofs.StepsPlaying.{plays_then, ready_told, still}

@@ -2,8 +2,8 @@ use Rattle.std.proofs.Common.{◌≡◌, to_z, of_z, w32, rules}
 use Rattle.std.proofs.lemmas.Int.{to_z-of_z}
 use Rattle.spec_world.specs.World.{World}
 use Rattle.spec_moo.specs.Steps.Events.{command_run, foreground_ticks}
-use Rattle.commands.specs.Meanings.{command_of}
-use Rattle.commands.specs.declared.command_parser.command.Command.{Command}
+use Rattle.player_commands.specs.Meanings.{command_of}
+use Rattle.player_commands.specs.declared.command_parser.command.Command.{Command}
 use Rattle.moo_task.specs.Deeds.{scene_of}
 use Rattle.steps.proofs.StepsPlaying.{plays_as, plays_here_as}
 use Rattle.steps.proofs.step_events.commands.run_command.Goals as goal

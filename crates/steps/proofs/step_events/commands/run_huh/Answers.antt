@@ -7,8 +7,8 @@ use Rattle.spec_world.specs.CommandLines.{calls_huh}
 use Rattle.spec_moo.specs.Natives.Properties.{as_texts}
 use Rattle.spec_moo.specs.Steps.Running.{begun, run, came_to}
 use Rattle.spec_moo.specs.Steps.Events.{command_run, command_call, command_start, foreground_ticks}
-use Rattle.commands.specs.CommandLinesMeant.{parts_of}
-use Rattle.commands.specs.Meanings.{named_of}
+use Rattle.player_commands.specs.CommandLinesMeant.{parts_of}
+use Rattle.player_commands.specs.Meanings.{named_of}
 use Rattle.moo_task.specs.Deeds.{scene_of}
 use Rattle.steps.proofs.StepsPlaying.{plays_then, ready_told}
 use Rattle.steps.proofs.step_events.commands.run_huh.Goals as goal

@@ -4,8 +4,8 @@ use Rattle.spec_value.specs.Datum.{of_list}
 use Rattle.spec_moo.specs.Natives.Properties.{as_texts}
 use Rattle.spec_moo.specs.Steps.Running.{begun}
 use Rattle.spec_moo.specs.Steps.Events.{command_call, command_start}
-use Rattle.commands.specs.CommandLinesMeant.{parts_of}
-use Rattle.commands.specs.Meanings.{named_of}
+use Rattle.player_commands.specs.CommandLinesMeant.{parts_of}
+use Rattle.player_commands.specs.Meanings.{named_of}
 use Rattle.steps.proofs.step_events.commands.run_verb.Goals as goal
 
 pub play_task-requires-clause-runs : goal.play_task-requires-clause-runs

@@ -1,6 +1,6 @@
 use Rattle.std.proofs.Common.{◌≡◌, ◌∙◌, [], ap, sym, rules}
 use Rattle.std.specs.Prelude.{option_map}
-use Rattle.commands.specs.CommandLinesMeant.{parts_of}
+use Rattle.player_commands.specs.CommandLinesMeant.{parts_of}
 use Rattle.steps.proofs.Typed.{no_words, words_there}
 use Rattle.steps.proofs.step_events.lines.words_typed.Goals as goal
 

@@ -2,8 +2,8 @@ use Rattle.std.proofs.Common.{◌≡◌, to_z, of_z, w32, rules}
 use Rattle.std.proofs.lemmas.Int.{to_z-of_z}
 use Rattle.spec_world.specs.World.{World}
 use Rattle.spec_moo.specs.Steps.Events.{foreground_ticks}
-use Rattle.commands.specs.Openings.{opened}
-use Rattle.commands.specs.declared.command_parser.programming.Opening.{Opening}
+use Rattle.player_commands.specs.Openings.{opened}
+use Rattle.player_commands.specs.declared.command_parser.programming.Opening.{Opening}
 use Rattle.moo_task.specs.Deeds.{scene_of}
 use Rattle.steps.proofs.StepsPlaying.{plays_as, plays_here_as}
 use Rattle.steps.proofs.step_links.programming.answer.Goals as goal

@@ -4,8 +4,8 @@ use Rattle.spec_value.specs.Table.{at}
 use Rattle.spec_moo.specs.Scene.{Scene}
 use Rattle.spec_moo.specs.Steps.Events.{foreground_ticks}
 use Rattle.spec_moo.specs.Steps.Programming.{requested}
-use Rattle.commands.specs.Meanings.{request_of}
-use Rattle.commands.specs.Openings.{opened}
+use Rattle.player_commands.specs.Meanings.{request_of}
+use Rattle.player_commands.specs.Openings.{opened}
 use Rattle.moo_task.specs.Deeds.{scene_of}
 use Rattle.steps.proofs.StepsPlaying.{ready_agrees, plays_then, ready_told, still}
 use Rattle.steps.proofs.step_links.programming.request.Goals as goal

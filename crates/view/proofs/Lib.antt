@@ -6,3 +6,4 @@ pub mod Filled
 pub mod Spots
 pub mod Renumbered
 pub mod SoundKeeps
+pub mod Wholes

@@ -1,7 +1,6 @@
 pub mod Local
 pub mod History
 pub mod Goings
-pub mod Wholes
 pub mod Crossing
 pub mod Maps
 pub mod Applied

@@ -14,7 +14,7 @@ use Rattle.moo_task.specs.declared.deeds.Deeds.{Deeds}
 use Rattle.moo_task.specs.declared.effect.NativeEffect.{NativeEffect}
 use Rattle.moo_task.specs.declared.effect.NativeEffect.TheVariants.{Answers}
 use Rattle.moo_task.specs.declared.running.Running.{Running}
-use Rattle.world.specs.Law.{Goes, Tells}
+use Rattle.view.specs.Law.{Goes, Tells}
 use Rattle.builtins_view.specs.Said.{Does, Says, with_programmer}
 use Rattle.builtins.specs.BuiltinsLinksActing.{with_player}
 use Rattle.builtins.specs.Led.{Leads, LeadsOver}

@@ -9,7 +9,7 @@ use Rattle.spec_moo.specs.NativeEffect as N
 use Rattle.spec_moo.specs.Natives.Objects.{calls_found}
 use Rattle.moo_task.specs.Effects.{effect_of}
 use Rattle.moo_task.specs.declared.effect.NativeEffect.{NativeEffect}
-use Rattle.world.specs.Law.{Tells}
+use Rattle.view.specs.Law.{Tells}
 use Rattle.builtins.specs.Led.{with_call, MayBegin}
 
 module _ {V : Type 0} (holds : V → World → Type 0) (now : V → World → World) (k : Call) (n : Native) (o : ℤ) (word : Text) (args : Data) where

@@ -19,7 +19,7 @@ use Rattle.moo_task.specs.Effects.{effect_of}
 use Rattle.moo_task.specs.declared.effect.NativeEffect as N
 use Rattle.moo_task.specs.declared.deeds.Deeds.{Deeds}
 use Rattle.moo_task.specs.declared.effect.NativeEffect.TheVariants.{Answers, Becomes}
-use Rattle.world.specs.Law.{Goes, Tells}
+use Rattle.view.specs.Law.{Goes, Tells}
 use Rattle.builtins_view.specs.Said.{with_programmer}
 use Rattle.builtins.specs.BuiltinsLinksActing.{Acts, with_player}
 use Rattle.builtins.specs.Refused.{IsRefusal}

@@ -7,7 +7,7 @@ use Rattle.spec_world.specs.Questions.{header_at}
 use Rattle.spec_moo.specs.Scene.{Scene}
 use Rattle.spec_moo.specs.NativeEffect.{NativeEffect, refuses}
 use Rattle.spec_moo.specs.Natives.Rows.{Check, unless, wants}
-use Rattle.world.specs.Law.{Tells}
+use Rattle.view.specs.Law.{Tells}
 use Rattle.builtins.specs.Verdict.{verdict, by_verdict}
 
 -- what is refused is refused by the first that fails

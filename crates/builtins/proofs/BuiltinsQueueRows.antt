@@ -16,7 +16,7 @@ use Rattle.moo_value.specs.declared.error.MooError.TheVariants.{InvalidArgument}
 use Rattle.moo_task.specs.Deeds.{scene_of}
 use Rattle.moo_task.specs.declared.deeds.Deeds.{Deeds}
 use Rattle.moo_task.specs.declared.effect.NativeEffect.TheVariants.{Answers, Dies}
-use Rattle.world.specs.Law.{Goes, Tells}
+use Rattle.view.specs.Law.{Goes, Tells}
 use Rattle.builtins_view.specs.Said.{with_programmer, Does}
 use Rattle.builtins.specs.BuiltinsQueueActing.{Acts}
 

@@ -21,7 +21,7 @@ use Rattle.spec_world.specs.Questions.{apply, new_greatest, new_object, is_numbe
 use Rattle.rules.specs.Lines.{AreAgreeing}
 use Rattle.rules.specs.Standing.{IsStanding}
 use Rattle.rules.proofs.ObjectsStand.{created_stands}
-use Rattle.world.specs.Law.{Goes, Tells}
+use Rattle.view.specs.Law.{Goes, Tells}
 use Rattle.builtins_view.specs.Along.{names_on, with_found, slots_of}
 use Rattle.builtins_view.specs.Heirs.{heritage}
 use Rattle.builtins_view.proofs.Inherited.{names_are}

@@ -14,7 +14,7 @@ use Rattle.moo_value.specs.declared.error.MooError.TheVariants.{InvalidArgument,
 use Rattle.moo_task.specs.Effects.{effect_of}
 use Rattle.moo_task.specs.declared.effect.NativeEffect.{NativeEffect}
 use Rattle.moo_task.specs.declared.effect.NativeEffect.TheVariants.{Answers}
-use Rattle.world.specs.Law.{Goes, Tells}
+use Rattle.view.specs.Law.{Goes, Tells}
 use Rattle.builtins_view.proofs.Steps.{both_told}
 use Rattle.builtins.specs.Led.{with_call, Leads, MayBegin}
 use Rattle.builtins.specs.Children.{initialized, IsNext}

@@ -10,7 +10,7 @@ use Rattle.moo_task.specs.declared.deeds.Deeds.{Deeds}
 use Rattle.rules.specs.Lines.{AreAgreeing}
 use Rattle.rules.specs.Standing.{IsStanding}
 use Rattle.rules.proofs.ObjectsStand.{recycled_stands}
-use Rattle.world.specs.Law.{Goes, Tells}
+use Rattle.view.specs.Law.{Goes, Tells}
 use Rattle.builtins.proofs.Flags.{closed_well, closed_nobodys}
 
 abbrev gone : Scene → ℤ → Scene

@@ -24,7 +24,7 @@ use Rattle.moo_task.specs.declared.effect.NativeEffect.TheVariants.{Answers}
 use Rattle.rules.specs.Lines.{AreAgreeing}
 use Rattle.rules.specs.Standing.{IsStanding}
 use Rattle.rules.proofs.InheritStanding.{objects_stand_for, closed_stands, closed_is_nobodys}
-use Rattle.world.specs.Law.{Goes, Tells}
+use Rattle.view.specs.Law.{Goes, Tells}
 use Rattle.builtins_view.specs.Said.{with_programmer}
 use Rattle.builtins_view.proofs.Keeping.{world_left}
 use Rattle.builtins.specs.BuiltinsLinksActing.{Acts}

@@ -17,7 +17,7 @@ use Rattle.rules.specs.Standing.{IsStanding}
 use Rattle.rules.proofs.InheritStanding.{objects_stand}
 use Rattle.rules.proofs.ObjectsStand.{recycled_stands}
 use Rattle.rules.specs.Below.{IsFamily}
-use Rattle.world.specs.Law.{Goes, Tells}
+use Rattle.view.specs.Law.{Goes, Tells}
 use Rattle.builtins.specs.Going.{HasChildren, forgotten}
 
 -- ---- one child goes

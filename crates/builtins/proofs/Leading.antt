@@ -11,7 +11,7 @@ use Rattle.spec_moo.specs.NativeEffect as N
 use Rattle.spec_moo.specs.Natives.Rows.{wants}
 use Rattle.moo_task.specs.Effects.{effect_of}
 use Rattle.moo_task.specs.declared.effect.NativeEffect.{NativeEffect}
-use Rattle.world.specs.Law.{Goes, Tells}
+use Rattle.view.specs.Law.{Goes, Tells}
 use Rattle.builtins.specs.Verdict.{verdict}
 use Rattle.builtins.proofs.BuiltinsObjectsRowsKeep.{place_of}
 use Rattle.builtins.specs.Led.{with_call, Leads}

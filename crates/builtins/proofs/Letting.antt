@@ -14,7 +14,7 @@ use Rattle.moo_task.specs.Effects.{effect_of}
 use Rattle.moo_task.specs.declared.deeds.Deeds.{Deeds}
 use Rattle.moo_task.specs.declared.effect.NativeEffect.{NativeEffect}
 use Rattle.moo_task.specs.declared.effect.NativeEffect.TheVariants.{Answers}
-use Rattle.world.specs.Law.{Goes, Tells}
+use Rattle.view.specs.Law.{Goes, Tells}
 use Rattle.builtins.specs.Verdict.{verdict, by_verdict}
 use Rattle.builtins.proofs.BuiltinsObjectsChains.{unless_is}
 use Rattle.builtins.specs.Led.{with_call, Leads, LeadsOver, MayBegin}

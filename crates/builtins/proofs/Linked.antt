@@ -24,7 +24,7 @@ use Rattle.spec_world.specs.Listings.{connected}
 use Rattle.spec_moo.specs.Scene.{in_world}
 use Rattle.spec_moo.specs.Natives.Rows.{list_value, answers_with}
 use Rattle.spec_moo.specs.Natives.Tasks.{connected_among, connected_players_row}
-use Rattle.world.specs.Law.{Tells}
+use Rattle.view.specs.Law.{Tells}
 use Rattle.rules.specs.Lines.{AreAgreeing}
 use Rattle.rules.specs.Standing.{IsStanding}
 use Rattle.builtins_view.specs.Said.{Says}

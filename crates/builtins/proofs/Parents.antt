@@ -15,7 +15,7 @@ use Rattle.spec_moo.specs.Natives.Rows.{unless, wants, answers_with, zero_value}
 use Rattle.spec_moo.specs.Natives.Objects.{another_parent, chparent_row}
 use Rattle.rules.specs.Lines.{AreAgreeing}
 use Rattle.rules.specs.Below.{IsFamily}
-use Rattle.world.specs.Law.{Goes, Tells}
+use Rattle.view.specs.Law.{Goes, Tells}
 use Rattle.builtins_view.specs.Said.{Does, with_programmer}
 use Rattle.builtins_view.specs.Clashes.{any_clashes}
 use Rattle.builtins.proofs.Clashing.{clashes_so}

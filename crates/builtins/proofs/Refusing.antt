@@ -7,7 +7,7 @@ use Rattle.spec_world.specs.Families.{nowhere}
 use Rattle.spec_world.specs.Permissions.{may, change_object}
 use Rattle.spec_world.specs.Whereabouts.{is_inside}
 use Rattle.spec_moo.specs.Natives.Rows.{Check, wants}
-use Rattle.world.specs.Law.{Tells}
+use Rattle.view.specs.Law.{Tells}
 use Rattle.builtins.specs.Verdict.{verdict}
 use Rattle.builtins.proofs.BuiltinsObjectsChains.{turned_told, check_fails, check_passes, last_passes}
 use Rattle.builtins.specs.Moves.{is_outside, first_checks, later_checks}

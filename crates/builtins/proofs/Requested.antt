@@ -2,7 +2,7 @@
 use Rattle.std.proofs.Common.{◌≡◌, ℤ, sym, subst}
 use Rattle.spec_value.specs.Answer.{Answer}
 use Rattle.spec_world.specs.World.{World}
-use Rattle.world.specs.Law.{Goes, Tells}
+use Rattle.view.specs.Law.{Goes, Tells}
 use Rattle.builtins_view.specs.Said.{Does, Says}
 use Rattle.builtins_view.specs.Requests.{asking_of, changing_of, said_of}
 use Rattle.builtins_view.specs.declared.builtin_requests.asking.Asking.{Asking}

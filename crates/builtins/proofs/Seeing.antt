@@ -18,7 +18,7 @@ use Rattle.spec_moo.specs.Scene.{Scene, in_world}
 use Rattle.spec_moo.specs.NativeEffect.{Caller}
 use Rattle.spec_moo.specs.Natives.Rows.{list_value, answers_with}
 use Rattle.spec_moo.specs.Natives.Tasks.{innermost, task_programmer, task_value, listed_tasks, queued_tasks_row}
-use Rattle.world.specs.Law.{Tells}
+use Rattle.view.specs.Law.{Tells}
 use Rattle.rules.specs.Lines.{AreAgreeing}
 use Rattle.builtins_view.specs.Said.{with_programmer, Says}
 use Rattle.builtins.specs.Listed.{seen_task, seen_at, seen_of}

@@ -18,7 +18,7 @@ use Rattle.moo_value.specs.declared.error.MooError.TheVariants.{MoveRefused}
 use Rattle.moo_task.specs.Effects.{effect_of}
 use Rattle.moo_task.specs.declared.effect.NativeEffect.{NativeEffect}
 use Rattle.moo_task.specs.declared.effect.NativeEffect.TheVariants.{Answers}
-use Rattle.world.specs.Law.{Goes, Tells}
+use Rattle.view.specs.Law.{Goes, Tells}
 use Rattle.builtins_view.proofs.Steps.{both_told}
 use Rattle.builtins.specs.Verdict.{verdict, by_verdict}
 use Rattle.builtins.proofs.BuiltinsObjectsChains.{unless_is}

@@ -20,7 +20,7 @@ use Rattle.syntax_fault.specs.Meaning.{kind_meant, OfKind, IsFault}
 use Rattle.moo_syntax.specs.Answer.{IsAnswer}
 use Rattle.moo_task.specs.Effects.{effect_of}
 use Rattle.moo_task.specs.declared.effect.NativeEffect as effect
-use Rattle.world.specs.Law.{Goes}
+use Rattle.view.specs.Law.{Goes}
 use Rattle.builtins_view.specs.Programs.{with_program}
 use Rattle.builtins.specs.Faults.{kind_told, fault_told, refusal_told}
 use Rattle.builtins.specs.Later.{with_call, Programs}

@@ -15,7 +15,7 @@ use Rattle.spec_world.specs.Questions.{header_at}
 use Rattle.rules.specs.Lines.{AreAgreeing}
 use Rattle.rules.specs.Standing.{IsStanding}
 use Rattle.rules.proofs.ObjectsStand.{moved_stands}
-use Rattle.world.specs.Law.{Goes, Tells}
+use Rattle.view.specs.Law.{Goes, Tells}
 use Rattle.builtins.proofs.BuiltinsObjectsRowsKeep.{present}
 use Rattle.builtins.specs.Moves.{MayMove}
 

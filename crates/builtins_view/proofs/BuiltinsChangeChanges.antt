@@ -8,7 +8,7 @@ use Rattle.spec_world.specs.Families.{change_at, change_object}
 use Rattle.spec_world.specs.Members.{with_verb, without_verb, verb_added, verb_deleted, verb_changed}
 use Rattle.spec_world.specs.Questions.{verbs_at}
 use Rattle.spec_world.proofs.Trees.{some_same}
-use Rattle.world.specs.Law.{Goes}
+use Rattle.view.specs.Law.{Goes}
 
 -- ---- lists of verbs
 

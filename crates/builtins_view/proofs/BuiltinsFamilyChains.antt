@@ -17,7 +17,7 @@ use Rattle.spec_moo.specs.Natives.Rows.{if_there, answers_with, zero_value}
 use Rattle.spec_moo.specs.Natives.Properties.{are_bits, is_empty, defines_it, delete_property_row}
 use Rattle.spec_world.proofs.Trees.{some_same}
 use Rattle.rules.specs.Lines.{AreAgreeing}
-use Rattle.world.specs.Law.{Goes, Tells}
+use Rattle.view.specs.Law.{Goes, Tells}
 use Rattle.builtins_view.specs.Said.{Does, with_programmer}
 use Rattle.rules.specs.Below.{IsFamily}
 use Rattle.builtins_view.specs.Slots.{any_defines}

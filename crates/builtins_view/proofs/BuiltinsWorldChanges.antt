@@ -5,7 +5,7 @@ use Rattle.spec_world.specs.World.{World, Object, Slot, object_at}
 use Rattle.spec_world.specs.Inherit.{put_slot, with_slot}
 use Rattle.spec_world.specs.Families.{change_at}
 use Rattle.spec_world.specs.Questions.{Part, apply, new_part, new_slot, put_part}
-use Rattle.world.specs.Law.{Goes}
+use Rattle.view.specs.Law.{Goes}
 
 pub slot_put : (w : World) (o : ℤ) (p : Text) (s : Slot) → apply (new_part o (new_slot p (Some s))) w ≡ with_slot w o p s
 unfolding with_slot

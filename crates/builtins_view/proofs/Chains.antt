@@ -13,7 +13,7 @@ use Rattle.spec_moo.specs.Natives.Rows.{if_there}
 use Rattle.spec_moo.specs.Natives.Properties.{set_property_info_row}
 use Rattle.spec_moo.specs.Natives.Verbs.{Specifier, verb_place, set_verb_info_row}
 use Rattle.spec_world.proofs.Trees.{some_same}
-use Rattle.world.specs.Law.{Goes, Tells}
+use Rattle.view.specs.Law.{Goes, Tells}
 use Rattle.builtins_view.specs.Said.{Does, with_programmer}
 use Rattle.builtins_view.specs.BuiltinsChangeLater.{slot_given, verb_given, added, added_owned}
 use Rattle.builtins_view.specs.BuiltinsChangeListed.{owner_and_bits, info_given}

@@ -5,7 +5,7 @@ use Rattle.spec_world.specs.World.{World, Slot, object_at}
 use Rattle.spec_world.specs.Families.{parent_of, put_below, with_heirs, reparented}
 use Rattle.rules.specs.Lines.{AreAgreeing}
 use Rattle.rules.specs.Below.{IsFamily}
-use Rattle.world.specs.Law.{Goes, Tells}
+use Rattle.view.specs.Law.{Goes, Tells}
 use Rattle.builtins_view.specs.Heirs.{names_beside, slots_beside, lose_each, inherit_each}
 use Rattle.builtins_view.proofs.Descent.{heirs_so}
 

@@ -14,7 +14,7 @@ use Rattle.spec_moo.specs.Natives.Rows.{if_there}
 use Rattle.spec_moo.specs.Natives.Properties.{defines_it, clear_property_row}
 use Rattle.moo_value.specs.Answers.{answer_of}
 use Rattle.moo_value.specs.declared.error.MooError.{MooError}
-use Rattle.world.specs.Law.{Goes}
+use Rattle.view.specs.Law.{Goes}
 use Rattle.rules.specs.Lines.{AreAgreeing}
 use Rattle.rules.specs.Standing.{IsStanding}
 use Rattle.rules.proofs.InheritStanding.{content_stands}

@@ -12,7 +12,7 @@ use Rattle.spec_world.specs.Questions.{defines_at, apply, new_part, new_defines}
 use Rattle.spec_world.proofs.Trees.{same_or_not, some_same}
 use Rattle.spec_world.proofs.Households.{at_each, each_numbered, change_numbered}
 use Rattle.spec_world.proofs.ObjectChanges.{at_change}
-use Rattle.world.specs.Law.{Goes}
+use Rattle.view.specs.Law.{Goes}
 use Rattle.rules.specs.Below.{IsFamily}
 use Rattle.rules.proofs.Walking.{below_itself}
 use Rattle.rules.specs.InTurn.{in_turn}

@@ -8,7 +8,7 @@ use Rattle.spec_world.specs.Families.{change_at, change_object, heir_slot}
 use Rattle.spec_world.specs.Members.{with_own_slot}
 use Rattle.spec_world.proofs.Trees.{some_same}
 use Rattle.spec_world.specs.Questions.{header_at}
-use Rattle.world.specs.Law.{Goes, Tells}
+use Rattle.view.specs.Law.{Goes, Tells}
 use Rattle.builtins_view.specs.Heirs.{inherited}
 
 heir_put : (w : World) (d : ℤ) (p : Text) (s : Slot) (h : Header) → header_at w d ≡ Some h

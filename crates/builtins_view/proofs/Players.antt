@@ -24,7 +24,7 @@ use Rattle.spec_moo.specs.Scene.{in_world}
 use Rattle.spec_moo.specs.Natives.Rows.{list_value, answers_with}
 use Rattle.spec_moo.specs.Natives.Objects.{as_objects, players_among, players_row}
 use Rattle.rules.specs.Lines.{AreAgreeing}
-use Rattle.world.specs.Law.{Tells}
+use Rattle.view.specs.Law.{Tells}
 use Rattle.builtins_view.specs.Said.{Says}
 use Rattle.builtins_view.specs.Counting.{numbers_to, player_in, players_from}
 

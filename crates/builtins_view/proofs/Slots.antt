@@ -18,7 +18,7 @@ use Rattle.spec_world.specs.Questions.{header_at, defines_at}
 use Rattle.spec_world.proofs.SlotChanges.{names_total}
 use Rattle.spec_world.proofs.Trees.{some_same}
 use Rattle.spec_moo.specs.Natives.Properties.{defines_it, defined_below}
-use Rattle.world.specs.Law.{Goes, Tells}
+use Rattle.view.specs.Law.{Goes, Tells}
 use Rattle.rules.specs.Below.{IsFamily}
 use Rattle.rules.proofs.Anyone.{any_of, any_is}
 use Rattle.rules.specs.Losing.{losing}

@@ -5,7 +5,7 @@ use Rattle.spec_value.specs.Datum.{Text}
 use Rattle.spec_world.specs.World.{World, Slot}
 use Rattle.spec_world.specs.Inherit.{slot_at}
 use Rattle.spec_world.specs.Questions.{defines_at}
-use Rattle.world.specs.Law.{Tells}
+use Rattle.view.specs.Law.{Tells}
 use Rattle.builtins_view.specs.Along.{given, names_on, with_found, slots_of}
 use Rattle.builtins_view.specs.Clashes.{any_slot, any_clashes}
 

@@ -2,7 +2,7 @@
 use Rattle.std.specs.Prelude.{ℕ, zero, suc, Bool, true, false, List, [], ◌∷◌, if◌then◌else◌, Option, Some, None, option_map}
 use Rattle.spec_value.specs.Datum.{Text, fold_case, same_text}
 use Rattle.spec_moo.specs.Natives.Verbs as meant
-use Rattle.world.specs.Parts.{object_part_of, preposition_part_of}
+use Rattle.view.specs.Parts.{object_part_of, preposition_part_of}
 use Rattle.builtins_view.specs.declared.builtins_change.specifier.Specifier.{Specifier}
 
 abbrev pub specifier_of : Specifier → meant.Specifier

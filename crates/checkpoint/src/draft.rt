@@ -6,7 +6,7 @@ use crate::object_records::link::next_link;
 use crate::object_records::object::next_objects;
 use crate::task_records::task::next_task;
 use std::alloc::Global;
-use world::change::Change;
+use view::change::Change;
 use world::draft::Draft;
 
 // The first line: what the text is, and the number of its format.

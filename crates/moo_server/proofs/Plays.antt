@@ -10,8 +10,8 @@ use Rattle.spec_world.specs.Outcome.{Outcome}
 use Rattle.spec_moo.specs.Steps.{play1, play}
 use Rattle.spec_moo.proofs.StepWorlds.{next_follows, play_goes_on}
 use Rattle.spec_world.proofs.WorldsKept.{agrees_of}
-use Rattle.world.specs.Sound.{IsSound}
-use Rattle.world.proofs.SoundKeeps.{sound_step}
+use Rattle.view.specs.Sound.{IsSound}
+use Rattle.view.proofs.SoundKeeps.{sound_step}
 use Rattle.moo_server.specs.Printed.{outcome_lines, printed}
 use Rattle.task_step.specs.declared.partial.Partial.{Partial}
 use Rattle.task_step.specs.declared.partial.Refusal.{Refusal}

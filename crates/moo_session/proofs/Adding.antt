@@ -8,7 +8,7 @@ use Rattle.spec_value.proofs.Entries.{second_holds}
 use Rattle.spec_world.specs.WellFormed.{is_connection, is_moment}
 use Rattle.telnet_line.specs.Telnet as telnet
 use Rattle.spec_world.specs.Step.{Step, Event, open_link, close_link, line_of, in_range, event_in_range, AllInRange}
-use Rattle.world.proofs.Renumbered.{number_small}
+use Rattle.view.proofs.Renumbered.{number_small}
 use Rattle.moo_session.specs.declared.draft.Draft.{Draft}
 use Rattle.moo_session.specs.Sessions.{opens, closes, lines_of, talk, happenings, steps_from}
 use Rattle.moo_session.specs.Drafts.{Adds, Grows}

@@ -4,7 +4,7 @@ use Rattle.std.specs.Prelude.{option_map}
 use Rattle.spec_world.specs.World.{World, Object, object_at, with_object}
 use Rattle.spec_world.specs.Families.{change_at, change_object, lose_child, add_child, put_below}
 use Rattle.spec_world.proofs.Trees.{some_same}
-use Rattle.world.specs.Law.{Goes, Tells}
+use Rattle.view.specs.Law.{Goes, Tells}
 
 module _ {X : Type 0} (get : Object → X) (put : X → Object → Object) where
   part_so : (w : World) (o : ℤ) (old new : X) (f : X → X) → new ≡ f old → option_map get (object_at w o) ≡ Some old

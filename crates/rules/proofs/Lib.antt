@@ -2,9 +2,6 @@ pub mod Places
 pub mod Changes
 pub mod Spelling
 pub mod VerbMatchStanding
-mod Fronts
-mod Reading
-mod Spaces
 pub mod Walks
 pub mod Tellings
 pub mod Keeping
@@ -13,14 +10,6 @@ pub mod ObjectsStand
 pub mod Walking
 pub mod Anyone
 pub mod OneByOne
-pub mod Numbers
-pub mod Fits
-pub mod Tallies
-pub mod NamingRules
-pub mod Requests
-pub mod VerbRules
-pub mod LineRules
-pub mod ProgramRules
 pub mod ReadRules
 pub mod WriteRules
 pub mod CallRules

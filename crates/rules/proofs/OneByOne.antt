@@ -16,7 +16,7 @@ use Rattle.spec_world.specs.Questions.{Part, apply, new_part, new_slot}
 use Rattle.spec_world.proofs.Trees.{same_or_not}
 use Rattle.spec_world.proofs.Households.{change_numbered}
 use Rattle.spec_world.proofs.ObjectChanges.{at_change}
-use Rattle.world.specs.Law.{Goes}
+use Rattle.view.specs.Law.{Goes}
 use Rattle.rules.specs.InTurn.{in_turn}
 use Rattle.rules.specs.Losing.{losing}
 

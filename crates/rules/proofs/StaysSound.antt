@@ -2,8 +2,8 @@
 use Rattle.std.proofs.Common.{◌≡◌, ℕ, Result, Ok, Err, OnOk, sym, ◌∙◌, subst}
 use Rattle.std.specs.Prelude.{IfOk}
 use Rattle.spec_world.specs.World.{World}
-use Rattle.world.specs.Sound.{IsSound}
-use Rattle.world.specs.Law.{Lasts, StaysSound, Tells}
+use Rattle.view.specs.Sound.{IsSound}
+use Rattle.view.specs.Law.{Lasts, StaysSound, Tells}
 
 pub sound_told : {V A E : Type 0} (holds : V → World → Type 0) (now : V → World → World) (home : V → World) (anchor : V → ℕ × ℕ) (old new : V) (P : A → World → Type 0) (r : Result A E)
     → Lasts holds home anchor old new r → IfOk r (λ a. Tells holds now old new (P a)) → OnOk r (StaysSound home now old new)

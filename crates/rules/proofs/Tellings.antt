@@ -3,7 +3,7 @@ use Rattle.std.proofs.Common.{◌≡◌, ℤ, ◌<◌, Option, refl, sym, ◌∙
 use Rattle.std.specs.Prelude.{Result, IfOk}
 use Rattle.spec_world.specs.World.{World}
 use Rattle.spec_world.specs.Agreeing.{ObjectsAgree}
-use Rattle.world.specs.Law.{Tells}
+use Rattle.view.specs.Law.{Tells}
 use Rattle.rules.specs.Standing.{IsStanding}
 use Rattle.rules.specs.Lines.{AreAgreeing, size}
 

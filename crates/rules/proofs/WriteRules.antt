@@ -11,7 +11,7 @@ use Rattle.spec_world.specs.Families.{change_at}
 use Rattle.spec_moo.specs.Properties.{BuiltInProperty, own_contents, own_location, built_in, Written, wrote, refused, writing, with_built_in, write_slot, write_built_in, write_valid, write_object, write}
 use Rattle.moo_value.specs.Errors.{code_of}
 use Rattle.moo_value.specs.declared.error.MooError.{MooError}
-use Rattle.world.specs.Law.{Goes, Tells}
+use Rattle.view.specs.Law.{Goes, Tells}
 use Rattle.rules.specs.BuiltIn.{attribute_of}
 use Rattle.rules.specs.Reading.{missing_error}
 use Rattle.rules.specs.Writing.{IsWritten, write_named, built_in_written, place_error, owner_may}

@@ -10,7 +10,7 @@ use Rattle.spec_world.specs.Families.{change_at}
 use Rattle.spec_world.specs.ObjectLaws.{SameRelations}
 use Rattle.spec_moo.specs.Properties.{BuiltInProperty, own_name, own_owner, own_location, own_contents, programmer_flag, wizard_flag, r_bit, w_bit, f_bit, built_in, with_built_in, Written, wrote, refused, write_built_in, write_slot, write_valid, write_object, write, writing}
 use Rattle.moo_value.specs.declared.error.MooError.{MooError}
-use Rattle.world.specs.Law.{Goes}
+use Rattle.view.specs.Law.{Goes}
 use Rattle.rules.specs.Lines.{AreAgreeing}
 use Rattle.rules.specs.Standing.{IsStanding}
 use Rattle.rules.proofs.InheritStanding.{attributes_stand, content_stands}

@@ -15,7 +15,7 @@ use Rattle.spec_world.specs.Questions.{apply, new_task, new_link}
 use Rattle.spec_moo.specs.Linking.{connection_closed, link_closed}
 use Rattle.moo_task.specs.Deeds.{scene_of}
 use Rattle.moo_task.specs.declared.deeds.Deeds.{Deeds}
-use Rattle.world.specs.Law.{Goes, Tells}
+use Rattle.view.specs.Law.{Goes, Tells}
 use Rattle.rules.specs.Lines.{AreAgreeing}
 use Rattle.rules.specs.Standing.{IsStanding}
 use Rattle.rules.proofs.InheritStanding.{closed_stands}

@@ -11,7 +11,7 @@ use Rattle.moo_task.specs.Deeds.{scene_of, due_of, queued_of}
 use Rattle.moo_task.specs.declared.deeds.Deeds.{Deeds}
 use Rattle.moo_task.specs.declared.deeds.Due.{Due}
 use Rattle.moo_task.specs.declared.deeds.Queued.{Queued}
-use Rattle.world.specs.Law.{Goes}
+use Rattle.view.specs.Law.{Goes}
 
 pub put_into_queue : {V : Type 0} (holds : V → World → Type 0) (now : V → World → World) (a b : V) (d : Deeds) (qs : List Queued) (due : Due) (i : ℤ) (t : Task)
     → qs ≡ d.queued.items ++ record { id = i; due = due } ∷ [] → due_of due ≡ scene.due_of t.waiting

@@ -9,7 +9,7 @@ use Rattle.spec_moo.specs.Steps.Running.{lines_to, told_on, told}
 use Rattle.moo_task.specs.Deeds.{scene_of, told_of}
 use Rattle.moo_task.specs.declared.deeds.Deeds.{Deeds}
 use Rattle.moo_task.specs.declared.deeds.Told.{Told}
-use Rattle.world.specs.Law.{Tells}
+use Rattle.view.specs.Law.{Tells}
 
 lines_more : (c : ℤ) (ts : List Text) (x : Text) → lines_to c (ts ++ x ∷ []) ≡ lines_to c ts ++ (c, x) ∷ []
 lines_more c [] x = refl

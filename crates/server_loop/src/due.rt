@@ -2,7 +2,7 @@
 use crate::draft::Draft;
 use std::alloc::{AllocError, Global};
 use task_step::step::Event;
-use world::question::{Answer, Question};
+use view::question::{Answer, Question};
 use world::worlds::World;
 
 /// The most tasks of a list, so that lines and sockets have their turn.

@@ -7,7 +7,7 @@ use std::rt::Clock;
 use std::sync::Wait;
 use std::thread::Threads;
 use task_step::step::GREATEST_CONNECTION;
-use world::question::{Answer, Question};
+use view::question::{Answer, Question};
 use world::worlds::World;
 
 /// Closes every link of a world: none of them has a socket. Ends where a task asks for it meanwhile.

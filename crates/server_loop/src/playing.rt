@@ -9,7 +9,7 @@ use task_run::list::play_list;
 use task_step::outcome::Outcome;
 use task_step::partial::{Partial, Refusal};
 use task_step::step::{GREATEST_MOMENT, GREATEST_NUMBER, Step};
-use world::question::{Answer, Question};
+use view::question::{Answer, Question};
 use world::worlds::World;
 
 /// How a server runs its lists.

@@ -8,7 +8,7 @@ use Rattle.spec_world.specs.Step.{Step, RunsOn, AllInRange, in_range}
 use Rattle.spec_world.specs.Outcome.{Outcome}
 use Rattle.spec_moo.specs.Steps.{play1, play}
 use Rattle.world.specs.Counted.{Counted}
-use Rattle.world.specs.Sound.{IsSound}
+use Rattle.view.specs.Sound.{IsSound}
 use Rattle.speculate.specs.declared.held.Held.{Held}
 use Rattle.speculate.specs.declared.held.Held.TheVariants.{Empty, Loss, Holds}
 use Rattle.speculate.specs.declared.held.Mark.{Mark}
@@ -18,7 +18,7 @@ use Rattle.speculate.specs.BoardState.{BoardState, FitsStep, runs, IsHonest, ope
 use Rattle.speculate.specs.Progress.{Committed, Commits, with_commit, Advances, ready, rest, IsUndone, StaysPut, AdvancesInPart, AllHeld}
 use Rattle.speculate.proofs.Places.{fits_at, fits_set, fits_any, fits_empty, fits_length, ready_more, ready_all}
 use Rattle.speculate.proofs.Plays.{play_more, range_at}
-use Rattle.world.proofs.SoundKeeps.{sound_step}
+use Rattle.view.proofs.SoundKeeps.{sound_step}
 
 kept_plays : (w : World) (s : Step) (g : Guessed) (w' : Counted) (n : ℕ) (o : Outcome) → IsSound w → g.step ≡ s → IsRight g → Agrees w g.reads
     → w' ≡ record { plain = after_guess g w; opened = n } → o ≡ g.outcome → play1 w s ≡ (w'.plain, o)

@@ -6,7 +6,7 @@ use Rattle.spec_world.specs.World.{World}
 use Rattle.spec_world.specs.Step.{Step, in_range, runs_on, RunsOn, AllInRange}
 use Rattle.spec_world.specs.Outcome.{Outcome}
 use Rattle.spec_moo.specs.Steps.{play1, play}
-use Rattle.world.proofs.Renumbered.{number_small}
+use Rattle.view.proofs.Renumbered.{number_small}
 use Rattle.spec_value.proofs.Entries.{first_holds, second_holds}
 use Rattle.world.specs.Counted.{Counted}
 

@@ -5,7 +5,7 @@ use Rattle.spec_world.specs.Questions.{Read, Change}
 use Rattle.spec_world.specs.Step.{Step}
 use Rattle.spec_world.specs.Outcome.{Outcome}
 use Rattle.spec_moo.specs.Steps.{play1}
-use Rattle.world.specs.Law.{Goes}
+use Rattle.view.specs.Law.{Goes}
 use Rattle.world.specs.Trace.{Trace, IsStart, world_now}
 use Rattle.task_run.specs.Performed.{StepsTo}
 use Rattle.speculate.specs.Right.{IsRight}

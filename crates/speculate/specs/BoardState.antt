@@ -4,7 +4,7 @@ use Rattle.spec_world.specs.Step.{Step, RunsOn, AllInRange}
 use Rattle.spec_world.specs.Outcome.{Outcome}
 use Rattle.spec_moo.specs.Steps.{play}
 use Rattle.world.specs.Counted.{Counted}
-use Rattle.world.specs.Sound.{IsSound}
+use Rattle.view.specs.Sound.{IsSound}
 use Rattle.speculate.specs.Right.{IsRight}
 use Rattle.speculate.specs.declared.held.Held.{Held}
 use Rattle.speculate.specs.declared.held.Held.TheVariants.{Empty, Loss, Holds}

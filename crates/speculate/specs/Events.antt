@@ -2,7 +2,7 @@
 use Rattle.std.specs.Prelude.{◌≡◌, ℕ, suc, ◌≤◌, ◌<◌, ◌⊎◌, List, [], ◌∷◌, ◌++◌, length, Some, slice_get, slice_set}
 use Rattle.spec_world.specs.Step.{Step, RunsOn, AllInRange}
 use Rattle.world.specs.Counted.{Counted}
-use Rattle.world.specs.Sound.{IsSound}
+use Rattle.view.specs.Sound.{IsSound}
 use Rattle.speculate.specs.declared.held.Held.TheVariants.{Loss, Holds}
 use Rattle.speculate.specs.Right.{Guessed, IsRight}
 use Rattle.speculate.specs.BoardState.{BoardState, IsHonest, IsFree, opened_on, with_held}

@@ -7,8 +7,8 @@ use Rattle.spec_world.specs.Step.{Step}
 use Rattle.spec_world.specs.Outcome.{Outcome}
 use Rattle.spec_moo.specs.Steps.{play1}
 use Rattle.spec_world.specs.StepCode.{step_code, outcome_code}
-use Rattle.world.specs.QuestionCode.{read_code, change_code}
-use Rattle.world.specs.Sound.{IsSound}
+use Rattle.view.specs.QuestionCode.{read_code, change_code}
+use Rattle.view.specs.Sound.{IsSound}
 
 -- a step, what it read, what it is to change, and its outcome
 pub record Guessed : Type 0 where

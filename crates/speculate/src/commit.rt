@@ -2,7 +2,7 @@
 ghost use Rattle.std.specs.Prelude.{◌≡◌, ◌≢◌, IsTrue, IfOk, IfErr};
 ghost use Rattle.spec_world.specs.Questions.{Agrees};
 ghost use Rattle.spec_world.specs.Step.{in_range};
-ghost use Rattle.world.specs.Sound.{IsSound};
+ghost use Rattle.view.specs.Sound.{IsSound};
 ghost use Rattle.speculate.specs.BoardState.{FitsStep};
 ghost use Rattle.speculate.specs.Right.{after_guess};
 ghost use Rattle.speculate.specs.Progress.{Ran, Committed, IsUndone};

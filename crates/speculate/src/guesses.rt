@@ -1,13 +1,13 @@
 //! Guesses.
 ghost use Rattle.std.specs.Prelude.{◌≡◌, ◌↔◌, IsTrue, IfOk, IfErr};
 ghost use Rattle.spec_world.specs.Questions.{Agrees};
-ghost use Rattle.world.specs.Sound.{IsSound};
+ghost use Rattle.view.specs.Sound.{IsSound};
 ghost use Rattle.speculate.specs.Right.{IsRight, after_guess};
 
 use std::marker::Model;
 use task_step::outcome::Outcome;
 use task_step::step::Step;
-use world::reads::{Changes, Reads};
+use view::reads::{Changes, Reads};
 use world::worlds::World;
 
 /// What a step reads, changes and answers, found on a snapshot. It is so on each world that gives the answers that were read.

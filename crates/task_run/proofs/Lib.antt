@@ -1,14 +1,1 @@
-pub mod Beginnings
-pub mod StepsPlaying
-pub mod Values
-pub mod Accepted
-pub mod Codings
-pub mod Relinks
-pub mod Endings
-pub mod Runs
-pub mod Dues
-pub mod Logins
-pub mod Resuming
-pub mod StepsSteps
-pub mod Typed
 pub mod Playing

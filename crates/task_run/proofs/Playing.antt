@@ -6,8 +6,8 @@ use Rattle.spec_world.specs.Step.{Step}
 use Rattle.spec_world.specs.Outcome.{Outcome}
 use Rattle.spec_moo.specs.Steps.{play1, play}
 use Rattle.spec_moo.proofs.StepWorlds.{play_goes_on}
-use Rattle.world.specs.Law.{Goes}
-use Rattle.task_run.specs.StepsPerformed as performed
+use Rattle.view.specs.Law.{Goes}
+use Rattle.steps.specs.StepsPerformed as performed
 use Rattle.task_run.specs.Performed.{StepsTo}
 
 -- what a step left and gave is what it plays

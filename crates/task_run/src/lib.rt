@@ -3,4 +3,3 @@
 
 pub mod list;
 pub mod step;
-pub mod steps;

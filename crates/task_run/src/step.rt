@@ -2,15 +2,15 @@
 ghost use Rattle.std.specs.Prelude.{◌≡◌, IfOk, OnOk, IsTrue};
 ghost use Rattle.spec_world.specs.Step.{in_range};
 ghost use Rattle.spec_moo.specs.Steps.{play1};
-ghost use Rattle.world.specs.Law.{Goes, AreSound};
+ghost use Rattle.view.specs.Law.{Goes, AreSound};
 ghost use Rattle.task_run.specs.Performed.{StepsTo};
 
-use crate::steps::step_events::play::play_step;
+use steps::step_events::play::play_step;
 use builtins::builtin_natives::builtins::Builtins;
 use std::alloc::{AllocError, Global};
 use task_step::outcome::Outcome;
 use task_step::step::Step;
-use world::law::View;
+use view::law::View;
 
 /// Runs a step over the view. After an error the view is to be undone or dropped.
 pub fn run_step<V: View>(alloc: Global, view: &mut V, step: &Step) -> Result<Outcome, AllocError>

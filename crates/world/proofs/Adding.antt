@@ -15,7 +15,7 @@ use Rattle.spec_value.proofs.Entries.{first_holds, second_holds, both_hold}
 use Rattle.spec_value.proofs.Keys.{still_sorted}
 use Rattle.spec_world.proofs.SlotChanges.{find-put_same, find-put_other}
 use Rattle.spec_holding.specs.Whole.{TextsSpell, programs_spelled}
-use Rattle.world.specs.Sound.{IsSound}
+use Rattle.view.specs.Sound.{IsSound}
 use Rattle.world.specs.Objects.{next_object, with_next_object, alone, AddingKeeps}
 
 -- ---- tests

@@ -2,8 +2,8 @@
 use Rattle.std.proofs.Common.{◌≡◌, ℕ, zero, suc, ◌+◌, ◌<◌, ◌≤◌, List, [], ◌∷◌, map, length, drop, get_or, refl, sym, ◌∙◌, ap, add-one, arith}
 use Rattle.spec_world.specs.World.{World}
 use Rattle.spec_world.specs.Questions.{apply, apply_all}
-use Rattle.world.specs.Meanings.{change_of}
-use Rattle.world.specs.declared.change.Change.{Change}
+use Rattle.view.specs.Meanings.{change_of}
+use Rattle.view.specs.declared.change.Change.{Change}
 
 rest_suc : (cs : List Change) (i : ℕ) (c : Change) (w : World) → i < length cs → c ≡ get_or cs i c
     → apply_all (map change_of (drop (suc i) cs)) (apply (change_of c) w) ≡ apply_all (map change_of (drop i cs)) w

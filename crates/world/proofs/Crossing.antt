@@ -8,9 +8,9 @@ use denote.Struct.Field.{i32-field}
 use Rattle.std.proofs.Crossing.{crosses}
 use Rattle.moo_task.proofs.Crossing.{task_send, task_sync}
 use Rattle.moo_task.specs.contracts.task.Task as task
-use Rattle.world.proofs.PartsCrossing.{object_send, object_sync, link_send, link_sync}
-use Rattle.world.specs.contracts.link.Link as link
-use Rattle.world.specs.contracts.object.Object as object
+use Rattle.view.proofs.PartsCrossing.{object_send, object_sync, link_send, link_sync}
+use Rattle.view.specs.contracts.link.Link as link
+use Rattle.view.specs.contracts.object.Object as object
 use Rattle.world_table.proofs.Crossing.{table_send, table_sync}
 use Rattle.world.specs.declared.count.Count.TheDeep.{the_members, member-Count, split-Count, join-Count, joins-Count}
 use Rattle.world.specs.declared.count.Count.TheInside.{Inside}

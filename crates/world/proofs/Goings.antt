@@ -1,8 +1,8 @@
 -- What a question to a tracked view does to it.
 use Rattle.std.proofs.Common.{◌≡◌, [], ◌∷◌, ◌++◌, refl, sym, subst}
 use Rattle.spec_world.specs.Questions.{Question, Answer, ask, apply_all}
-use Rattle.world.specs.Sound.{IsSound}
-use Rattle.world.specs.Law.{Tells}
+use Rattle.view.specs.Sound.{IsSound}
+use Rattle.view.specs.Law.{Tells}
 use Rattle.world.specs.Trace.{Trace, IsStart, world_now}
 use Rattle.world.proofs.History.{agrees_before, answered_now}
 

@@ -2,7 +2,7 @@
 use Rattle.std.proofs.Common.{◌≡◌, List, [], ◌∷◌, ◌++◌, refl, sym, ◌∙◌}
 use Rattle.spec_world.specs.World.{World}
 use Rattle.spec_world.specs.Questions.{Question, Answer, ask, Read, Agrees, Change, apply, apply_all}
-use Rattle.world.specs.Sound.{IsSound}
+use Rattle.view.specs.Sound.{IsSound}
 use Rattle.world.proofs.Local.{InOrder, alike_after}
 
 pub apply_all_last : (cs : List Change) (c : Change) (w : World) → apply_all (cs ++ c ∷ []) w ≡ apply c (apply_all cs w)

@@ -5,7 +5,7 @@ use Rattle.spec_value.specs.Datum.{Text}
 use Rattle.spec_world.specs.World.{World, Object, object_at}
 use Rattle.spec_world.specs.Inherit.{line, line_onto, line_bound, ancestors}
 use Rattle.spec_world.specs.WellFormed.{IsWellFormed, once, comes_out, ends_above, defined_on, folded_names, names_once, has_name, slot_names, links_read}
-use Rattle.world.specs.Sound.{IsSound}
+use Rattle.view.specs.Sound.{IsSound}
 
 abbrev pub empty_world : World
 empty_world = record { objects = []; tasks = []; links = []; greatest = negsuc 0; next = 1; ending = false }

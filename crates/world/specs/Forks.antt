@@ -3,7 +3,7 @@ use Rattle.std.specs.Prelude.{◌≡◌, ℕ}
 use Rattle.std.specs.Option.{unwrap_or}
 use Rattle.spec_world.specs.World as meant
 use Rattle.world.specs.Counted.{Counted}
-use Rattle.world.specs.Sound.{IsSound}
+use Rattle.view.specs.Sound.{IsSound}
 use Rattle.world.specs.declared.fork.Forked.{Forked}
 
 -- the world as it was, with this fork counted

@@ -1,13 +1,7 @@
-pub mod Law
 pub mod Trace
-pub mod Meanings
-pub mod Parts
-pub mod QuestionCode
-pub mod ReadMeaning
 pub mod Counted
 pub mod Counts
 pub mod Numbered
-pub mod Sound
 pub mod Ready
 pub mod Forks
 pub mod Objects

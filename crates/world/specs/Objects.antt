@@ -2,7 +2,7 @@
 use Rattle.std.specs.Prelude.{◌≡◌, ℤ, pos, ◌+ℤ◌, int_le, [], IsTrue}
 use Rattle.spec_world.specs.World.{World, Object, with_object}
 use Rattle.spec_world.specs.Families.{nowhere}
-use Rattle.world.specs.Sound.{IsSound}
+use Rattle.view.specs.Sound.{IsSound}
 
 -- the number after the greatest
 abbrev pub next_object : World → ℤ

@@ -4,8 +4,8 @@ use Rattle.std.specs.Coded.{Coded, code_by, coded×, coded_list}
 use Rattle.spec_world.specs.World.{World}
 use Rattle.spec_world.specs.WorldCode.{world_code}
 use Rattle.spec_world.specs.Questions.{Read, Change, Agrees, apply_all}
-use Rattle.world.specs.QuestionCode.{read_code, change_code}
-use Rattle.world.specs.Sound.{IsSound}
+use Rattle.view.specs.QuestionCode.{read_code, change_code}
+use Rattle.view.specs.Sound.{IsSound}
 
 pub record Trace : Type 0 where
   pub home : World

@@ -5,7 +5,7 @@ ghost use Rattle.std.specs.Ordering.{int_eq};
 ghost use Rattle.world.specs.Numbered.{signed_key};
 ghost use Rattle.world.specs.Picked.{chosen};
 
-use crate::link::Link;
+use view::link::Link;
 use crate::records::Compared;
 use crate::tasks::id_of;
 use moo_task::task::Task;

@@ -1,13 +1,13 @@
 //! A world with changes that are kept or forgotten at their end.
 ghost use Rattle.std.specs.Prelude.{◌≡◌, ◌+◌, IfOk, OnOk};
 ghost use Rattle.spec_world.specs.Questions.{ask, apply};
-ghost use Rattle.world.specs.Meanings.{question_of, answer_of, change_of};
-ghost use Rattle.world.specs.Sound.{IsSound};
+ghost use Rattle.view.specs.Meanings.{question_of, answer_of, change_of};
+ghost use Rattle.view.specs.Sound.{IsSound};
 ghost use Rattle.world.specs.Forks.{start_of, changed_in, borrow_of, IsKeepable};
 
-use crate::change::Change;
+use view::change::Change;
 use crate::draft::Draft;
-use crate::question::{Answer, Question};
+use view::question::{Answer, Question};
 use crate::worlds::World;
 use std::alloc::AllocError;
 

@@ -3,7 +3,7 @@ ghost use Rattle.std.specs.Prelude.{ℕ, ℤ};
 ghost use Rattle.spec_value.specs.Datum.{Datum, Text};
 ghost use Rattle.spec_world.specs.World.{World};
 ghost use Rattle.spec_world.specs.Questions.{apply, new_value, new_next};
-ghost use Rattle.world.specs.Sound.{IsSound};
+ghost use Rattle.view.specs.Sound.{IsSound};
 ghost use Rattle.world.specs.Objects.{AddingKeeps};
 
 /// Another value in a slot leaves a sound world sound, and so does a next number that is no less.

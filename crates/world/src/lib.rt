@@ -7,28 +7,14 @@
 //! records what was read, so that another thread can check a guess later.
 #![tactic(auto)]
 
-pub mod change;
 mod choice;
 pub mod count;
 pub mod draft;
 pub mod fork;
-pub mod header;
 pub mod keeping;
-pub mod law;
-pub mod link;
-pub mod lists;
 pub mod live;
-pub mod object;
-pub mod part;
 pub mod prepared;
-pub mod question;
-pub mod readers;
-pub mod reads;
 mod records;
-mod same;
-pub mod slot;
-pub mod slots;
 mod tasks;
 pub mod tracked;
-pub mod verb;
 pub mod worlds;

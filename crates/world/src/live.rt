@@ -1,15 +1,15 @@
 //! A view of the world itself.
 ghost use Rattle.std.specs.Prelude.{◌≡◌, IfOk, OnOk};
 ghost use Rattle.spec_world.specs.Questions.{ask, apply};
-ghost use Rattle.world.specs.Meanings.{question_of, answer_of, change_of};
-ghost use Rattle.world.specs.Law.{Goes, Keeps};
+ghost use Rattle.view.specs.Meanings.{question_of, answer_of, change_of};
+ghost use Rattle.view.specs.Law.{Goes, Keeps};
 ghost use Rattle.world.specs.Forks.{start_of, changed_in, borrow_of};
 
-use crate::change::Change;
+use view::change::Change;
 use crate::draft::Draft;
 use crate::fork::{Fork, Forked};
-use crate::law::View;
-use crate::question::{Answer, Question};
+use view::law::View;
+use view::question::{Answer, Question};
 use std::alloc::AllocError;
 
 /// A view of the world itself.

@@ -12,7 +12,7 @@ pub struct Prepared {
 
 impl Model for Prepared {
     ghost use Rattle.world.specs.Ready.{Ready, ready_code};
-    ghost use Rattle.world.specs.Sound.{IsSound};
+    ghost use Rattle.view.specs.Sound.{IsSound};
 
     ghost Value = { Ready };
 

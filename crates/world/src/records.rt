@@ -5,8 +5,8 @@ ghost use Rattle.spec_value.specs.Table.{at, with};
 ghost use Rattle.spec_world.specs.Questions.{put_record as changed_record};
 ghost use Rattle.world.specs.Numbered.{numbered};
 
-use crate::link::Link;
-use crate::object::Object;
+use view::link::Link;
+use view::object::Object;
 use moo_task::task::Task;
 use std::alloc::AllocError;
 use world_table::Table;

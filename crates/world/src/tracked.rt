@@ -2,16 +2,16 @@
 ghost use Rattle.std.specs.Prelude.{◌≡◌, ◌++◌, ◌∷◌, [], ℕ, IfOk, OnOk, OnErr};
 ghost use Rattle.spec_world.specs.World.{World as Plain};
 ghost use Rattle.spec_world.specs.Questions.{ask, apply, apply_all, Agrees};
-ghost use Rattle.world.specs.Meanings.{question_of, answer_of, change_of};
-ghost use Rattle.world.specs.Sound.{IsSound};
-ghost use Rattle.world.specs.Law.{Goes, Keeps};
+ghost use Rattle.view.specs.Meanings.{question_of, answer_of, change_of};
+ghost use Rattle.view.specs.Sound.{IsSound};
+ghost use Rattle.view.specs.Law.{Goes, Keeps};
 ghost use Rattle.world.specs.Trace.{Trace, IsStart, world_now};
 
-use crate::change::Change;
+use view::change::Change;
 use crate::draft::Draft;
-use crate::law::View;
-use crate::question::{Answer, Question};
-use crate::reads::{Changes, Reads};
+use view::law::View;
+use view::question::{Answer, Question};
+use view::reads::{Changes, Reads};
 use crate::worlds::Snapshot;
 use std::alloc::{AllocError, Global};
 use std::marker::Model;
@@ -29,7 +29,7 @@ impl<'s> Model for Tracked<'s> {
     ghost use Rattle.std.specs.Prelude.{◌≡◌};
     ghost use Rattle.std.specs.Option.{unwrap_or};
     ghost use Rattle.world.specs.Trace.{Trace, trace_code};
-    ghost use Rattle.world.specs.Sound.{IsSound};
+    ghost use Rattle.view.specs.Sound.{IsSound};
     ghost use Rattle.spec_world.specs.Questions.{Agrees, apply_all};
 
     ghost Value = { Trace };

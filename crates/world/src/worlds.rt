@@ -1,14 +1,14 @@
 //! Worlds and snapshots.
 ghost use Rattle.std.specs.Prelude.{◌≡◌, ◌↔◌, ◌+◌, ◌≤◌, ℕ, negsuc, false, [], max, IfOk, OnOk, OnErr, IsTrue};
 ghost use Rattle.spec_world.specs.Questions.{ask, Agrees, apply_all};
-ghost use Rattle.world.specs.Meanings.{question_of, answer_of};
-ghost use Rattle.world.specs.Sound.{IsSound};
+ghost use Rattle.view.specs.Meanings.{question_of, answer_of};
+ghost use Rattle.view.specs.Sound.{IsSound};
 
 use crate::count::Count;
 use crate::draft::Draft;
 use crate::prepared::Prepared;
-use crate::question::{Answer, Question};
-use crate::reads::{Changes, Reads};
+use view::question::{Answer, Question};
+use view::reads::{Changes, Reads};
 use std::alloc::{AllocError, Global};
 use std::marker::Model;
 use std::snapshot::Snapshot as Remembered;
@@ -22,7 +22,7 @@ pub struct World {
 
 impl Model for World {
     ghost use Rattle.world.specs.Counted.{Counted, counted_code};
-    ghost use Rattle.world.specs.Sound.{IsSound};
+    ghost use Rattle.view.specs.Sound.{IsSound};
 
     ghost Value = { Counted };
 
@@ -42,7 +42,7 @@ pub struct Snapshot {
 impl Model for Snapshot {
     ghost use Rattle.spec_world.specs.World.{World as Meant};
     ghost use Rattle.spec_world.specs.WorldCode.{world_code};
-    ghost use Rattle.world.specs.Sound.{IsSound};
+    ghost use Rattle.view.specs.Sound.{IsSound};
 
     ghost Value = { Meant };
 

@@ -4,7 +4,7 @@ use Rattle.spec_world.specs.World.{World}
 use Rattle.spec_world.specs.Agreeing.{ObjectsAgree, LinksAgree}
 use Rattle.spec_world.specs.WellFormed.{IsWellFormed}
 use Rattle.spec_holding.specs.Whole.{TextsSpell}
-use Rattle.world.specs.Sound.{IsSound}
+use Rattle.view.specs.Sound.{IsSound}
 use Rattle.world_checks.specs.DraftChecksTasks.{TasksAreSound}
 
 well_formed : (w : World) → IsTrue (nat_le 1 w.next && nat_le w.next 33554432) → ObjectsAgree w → LinksAgree w → TasksAreSound w → IsWellFormed w

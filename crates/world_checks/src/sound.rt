@@ -1,6 +1,6 @@
 //! Worlds as they have to be.
 ghost use Rattle.std.specs.Prelude.{IfOk, IsTrue};
-ghost use Rattle.world.specs.Sound.{IsSound};
+ghost use Rattle.view.specs.Sound.{IsSound};
 
 use crate::draft_checks::spelled::is_spelled;
 use crate::draft_checks::tasks::tasks_are_sound;

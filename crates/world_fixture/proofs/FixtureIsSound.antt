@@ -4,7 +4,7 @@ use Rattle.spec_fixture.specs.Fixture.{fixture}
 use Rattle.spec_value.proofs.Entries.{each_entry}
 use Rattle.spec_fixture.proofs.FixtureFits.{fixture_fits}
 use Rattle.spec_holding.specs.Whole.{TextsSpell}
-use Rattle.world.specs.Sound.{IsSound}
+use Rattle.view.specs.Sound.{IsSound}
 
 pub fixture_is_spelled : TextsSpell fixture
 fixture_is_spelled = (each_entry _ fixture.objects refl, each_entry _ fixture.tasks refl)

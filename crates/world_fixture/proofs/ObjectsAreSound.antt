@@ -3,7 +3,7 @@ use Rattle.std.proofs.Common.{◌≡◌, ℕ, zero, suc, ◌+◌, ◌≤◌, pos
 use Rattle.std.specs.Prelude.{int_le}
 use Rattle.spec_world.specs.World.{with_object}
 use Rattle.spec_fixture.specs.Fixture.{fixture}
-use Rattle.world.specs.Sound.{IsSound}
+use Rattle.view.specs.Sound.{IsSound}
 use Rattle.world.specs.Objects.{next_object}
 use Rattle.world_fixture.specs.Objects.{lone_thing, with_objects}
 use Rattle.world.proofs.Adding.{adding_keeps}

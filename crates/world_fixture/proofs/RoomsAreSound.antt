@@ -11,7 +11,7 @@ use Rattle.spec_fixture.specs.Fixture.{fixture}
 use Rattle.spec_value.proofs.Entries.{each_entry, both_hold}
 use Rattle.spec_holding.specs.UnderWay.{are_programmed}
 use Rattle.spec_holding.specs.Whole.{TextsSpell}
-use Rattle.world.specs.Sound.{IsSound}
+use Rattle.view.specs.Sound.{IsSound}
 use Rattle.world_fixture.specs.Rooms.{adding, counting_verbs, endless_verb, lone_room, guest, with_room, with_rooms, with_endless_verb}
 use Rattle.world_fixture.proofs.FixtureIsSound.{fixture_is_spelled}
 

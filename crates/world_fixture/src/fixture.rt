@@ -8,12 +8,12 @@ use moo_value::text::Text;
 use moo_value::value::Value;
 use std::alloc::{AllocError, Global};
 use world::draft::Draft;
-use world::header::Header;
-use world::link::Link;
-use world::object::{Lists, Object};
-use world::slot::Slot;
-use world::slots::Slots;
-use world::verb::Verbs;
+use view::header::Header;
+use view::link::Link;
+use view::object::{Lists, Object};
+use view::slot::Slot;
+use view::slots::Slots;
+use view::verb::Verbs;
 use world::worlds::World;
 
 pub(crate) const NOWHERE: i32 = -1;

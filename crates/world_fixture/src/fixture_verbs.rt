@@ -5,7 +5,7 @@ ghost use Rattle.spec_fixture.specs.Fixture as meant;
 use crate::room_commands;
 use crate::verbs::{command, single};
 use std::alloc::{AllocError, Global};
-use world::verb::{ObjectPart, PrepositionPart, Verb, Verbs};
+use view::verb::{ObjectPart, PrepositionPart, Verb, Verbs};
 
 // The verbs of the system object.
 pub(crate) fn system_verbs(alloc: Global) -> Result<Verbs, AllocError>

@@ -6,7 +6,7 @@ ghost use Rattle.world_fixture.specs.Objects as meant;
 use crate::fixture::{NOWHERE, header, plain, records};
 use std::alloc::{AllocError, Global};
 use world::draft::Draft;
-use world::object::Object;
+use view::object::Object;
 use world::worlds::World;
 
 /// The number of the first object behind those of the fixture.

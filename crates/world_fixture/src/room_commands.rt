@@ -4,7 +4,7 @@ ghost use Rattle.spec_fixture.specs.Fixture as meant;
 
 use crate::verbs::command;
 use std::alloc::{AllocError, Global};
-use world::verb::Verb;
+use view::verb::Verb;
 
 #[tactic(auto, unfolding(spec_fixture::specs::Opened::opened))]
 pub(crate) fn count(alloc: Global) -> Result<Verb, AllocError>

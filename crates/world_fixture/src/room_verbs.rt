@@ -13,7 +13,7 @@ use moo_tree::statement::{Statement, StatementNode, Tree};
 use moo_value::operator::BinaryOperator;
 use moo_value::value::Value;
 use std::alloc::{AllocError, Global};
-use world::verb::{Verb, Verbs};
+use view::verb::{Verb, Verbs};
 
 /// How often the verb `total` adds. A tick more is its `return`.
 const ADDITIONS: u32 = 999;

@@ -11,7 +11,7 @@ use moo_syntax::parse::parse;
 use moo_tree::statement::Tree;
 use moo_value::text::Text;
 use std::alloc::{AllocError, Global};
-use world::verb::{ObjectPart, PrepositionPart, Verb, Verbs};
+use view::verb::{ObjectPart, PrepositionPart, Verb, Verbs};
 
 // A verb with the program of this text, which is to be one.
 pub(crate) fn command(alloc: Global, names: &str, text: &str) -> Result<Verb, AllocError>

@@ -2,7 +2,7 @@
 ghost use Rattle.std.specs.Prelude.{IfOk};
 ghost use Rattle.moo_value.specs.Answers.{answer_of};
 ghost use Rattle.rules.specs.Lines.{AreAgreeing};
-ghost use Rattle.world.specs.Law.{Lasts, Tells};
+ghost use Rattle.view.specs.Law.{Lasts, Tells};
 ghost use Rattle.builtins_view.specs.Said.{Says};
 ghost use Rattle.builtins_view.specs.Requests.{asking_of, said_of};
 
@@ -16,7 +16,7 @@ use builtins_view::builtins_world::properties::{is_clear_property, properties, p
 use builtins_view::builtins_world::verbs::{verb_args, verb_info, verbs};
 use moo_value::answer::Answer;
 use std::alloc::{AllocError, Global};
-use world::law::View;
+use view::law::View;
 
 /// What a call answers that a verb with this programmer makes.
 pub fn ask<V: View>(

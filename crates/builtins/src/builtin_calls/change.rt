@@ -2,7 +2,7 @@
 ghost use Rattle.std.specs.Prelude.{IfOk, OnOk};
 ghost use Rattle.moo_value.specs.Answers.{answer_of};
 ghost use Rattle.rules.specs.Lines.{AreAgreeing};
-ghost use Rattle.world.specs.Law.{Goes, Lasts};
+ghost use Rattle.view.specs.Law.{Goes, Lasts};
 ghost use Rattle.builtins_view.specs.Said.{Does};
 ghost use Rattle.builtins_view.specs.Requests.{changing_of, said_of};
 
@@ -17,7 +17,7 @@ use builtins_view::builtins_task::server::shutdown;
 use builtins_view::builtins_world::properties::clear_property;
 use moo_value::answer::Answer;
 use std::alloc::{AllocError, Global};
-use world::law::View;
+use view::law::View;
 
 /// What a call does that a verb with this programmer makes.
 pub fn change<V: View>(

@@ -1,7 +1,7 @@
 //! What is done to links, other tasks and the server.
 ghost use Rattle.std.specs.Prelude.{◌≡◌, IfOk, OnOk};
 ghost use Rattle.rules.specs.Lines.{AreAgreeing};
-ghost use Rattle.world.specs.Law.{Goes, Lasts};
+ghost use Rattle.view.specs.Law.{Goes, Lasts};
 ghost use Rattle.builtins_view.specs.Requests.{acting_of, said_of};
 ghost use Rattle.builtins.specs.BuiltinDeedsActing.{ActsFor};
 
@@ -17,7 +17,7 @@ use moo_task::deeds::Deeds;
 use moo_task::effect::NativeEffect;
 use moo_task::running::Running;
 use std::alloc::AllocError;
-use world::law::View;
+use view::law::View;
 
 /// What such a call does for the verb that runs.
 pub fn act<V: View>(

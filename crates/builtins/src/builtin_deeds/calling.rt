@@ -1,7 +1,7 @@
 //! Functions that call verbs, or run programs.
 ghost use Rattle.std.specs.Prelude.{IfOk, OnOk};
 ghost use Rattle.rules.specs.Lines.{AreAgreeing};
-ghost use Rattle.world.specs.Law.{Goes, Lasts};
+ghost use Rattle.view.specs.Law.{Goes, Lasts};
 ghost use Rattle.builtins_view.specs.Requests.{calling_of, said_of};
 ghost use Rattle.builtins.specs.BuiltinDeedsActing.{ActsFor};
 
@@ -14,7 +14,7 @@ use moo_task::deeds::Deeds;
 use moo_task::effect::NativeEffect;
 use moo_task::running::Running;
 use std::alloc::{AllocError, Global};
-use world::law::View;
+use view::law::View;
 
 /// What such a call does for the verb that runs.
 pub fn call_verb<V: View>(

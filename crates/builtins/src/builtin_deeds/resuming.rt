@@ -1,7 +1,7 @@
 //! Functions that go on with the value of a verb.
 ghost use Rattle.std.specs.Prelude.{IfOk, OnOk};
 ghost use Rattle.rules.specs.Lines.{AreAgreeing};
-ghost use Rattle.world.specs.Law.{Goes, Lasts};
+ghost use Rattle.view.specs.Law.{Goes, Lasts};
 ghost use Rattle.builtins.specs.BuiltinDeedsActing.{ActsFor};
 ghost use Rattle.builtins.specs.Stages.{stage_does};
 
@@ -14,7 +14,7 @@ use moo_task::effect::NativeEffect;
 use moo_task::running::Running;
 use moo_value::value::Value;
 use std::alloc::{AllocError, Global};
-use world::law::View;
+use view::law::View;
 
 /// What a stage does, with the value of the verb that was waited for, for the verb that now runs.
 pub fn go_on<V: View>(

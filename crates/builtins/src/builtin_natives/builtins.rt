@@ -10,7 +10,7 @@ use moo_value::text::Text;
 use moo_value::value::Value;
 use running::moo_run::natives::Natives;
 use std::alloc::{AllocError, Global};
-use world::law::View;
+use view::law::View;
 
 /// The built-in functions (Programmer's Manual, "Built-in Functions").
 #[derive(Drop)]

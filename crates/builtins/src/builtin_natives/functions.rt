@@ -6,7 +6,7 @@ ghost use Rattle.spec_moo.specs.NativeEffect.{Caller};
 ghost use Rattle.spec_moo.specs.Natives.{native as native_does};
 ghost use Rattle.spec_moo.specs.Natives.Rows.{by_row};
 ghost use Rattle.rules.specs.Lines.{AreAgreeing};
-ghost use Rattle.world.specs.Law.{Goes, Lasts};
+ghost use Rattle.view.specs.Law.{Goes, Lasts};
 ghost use Rattle.builtin_table.specs.Functions.{call_of, row_of_function};
 ghost use Rattle.builtins.specs.BuiltinDeedsActing.{ActsFor};
 
@@ -22,7 +22,7 @@ use moo_value::error::MooError;
 use moo_value::text::Text;
 use moo_value::value::Value;
 use std::alloc::{AllocError, Global};
-use world::law::View;
+use view::law::View;
 
 /// The function of a name, if it has one.
 pub fn named(name: &Text) -> Option<Builtin>

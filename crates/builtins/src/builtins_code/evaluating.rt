@@ -9,7 +9,7 @@ ghost use Rattle.spec_moo.specs.Natives.Verbs.{eval_row, evaluated as evaluated_
 ghost use Rattle.moo_value.specs.Answers.{answer_of};
 ghost use Rattle.moo_syntax.specs.Answer.{IsAnswer};
 ghost use Rattle.moo_task.specs.Effects.{effect_of};
-ghost use Rattle.world.specs.Law.{Lasts, Tells};
+ghost use Rattle.view.specs.Law.{Lasts, Tells};
 ghost use Rattle.builtins.specs.Faults.{refusal_told};
 ghost use Rattle.builtins.specs.Later.{with_call};
 
@@ -28,7 +28,7 @@ use rules::permissions::act::Act;
 use rules::permissions::may::may;
 use std::alloc::{AllocError, Global};
 use syntax_fault::fault::SyntaxFault;
-use world::law::View;
+use view::law::View;
 
 /// `eval`, called by a verb: a program's text runs with the verb's programmer, and `{1, value}` comes of it; of any other text `{0, {fault}}`.
 /// `E_PERM` where the programmer is none.

@@ -7,7 +7,7 @@ ghost use Rattle.spec_world.specs.Questions.{verbs_at};
 ghost use Rattle.spec_moo.specs.Natives.Verbs.{set_verb_code_row, texts_of};
 ghost use Rattle.moo_syntax.specs.Answer.{IsAnswer};
 ghost use Rattle.moo_value.specs.Answers.{answer_of};
-ghost use Rattle.world.specs.Law.{Goes, Lasts};
+ghost use Rattle.view.specs.Law.{Goes, Lasts};
 ghost use Rattle.rules.specs.Lines.{AreAgreeing};
 ghost use Rattle.builtins_view.specs.Said.{Does};
 ghost use Rattle.builtins.specs.Later.{Programs};
@@ -25,9 +25,9 @@ use rules::permissions::act::Act;
 use rules::permissions::may::may;
 use std::alloc::{AllocError, Global};
 use syntax_fault::fault::SyntaxFault;
-use world::law::View;
-use world::readers::read_verbs;
-use world::verb::Verb;
+use view::law::View;
+use view::readers::read_verbs;
+use view::verb::Verb;
 
 /// `set_verb_code`: a verb, told by a word or by its place from 1, has the program of these lines, and the answer is `{}`; where they
 /// are no program, nothing changes, and the answer is a list of their fault. `E_INVARG` where the object is not there, `E_VERBNF` where

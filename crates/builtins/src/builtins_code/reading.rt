@@ -6,7 +6,7 @@ ghost use Rattle.spec_moo.specs.Natives.Rows.{list_value};
 ghost use Rattle.spec_moo.specs.Natives.Properties.{as_texts};
 ghost use Rattle.spec_moo.specs.Natives.Verbs.{verb_code_row};
 ghost use Rattle.moo_value.specs.Answers.{answer_of};
-ghost use Rattle.world.specs.Law.{Lasts, Tells};
+ghost use Rattle.view.specs.Law.{Lasts, Tells};
 ghost use Rattle.builtins_view.specs.Said.{Says};
 
 use builtins_view::builtins_world::own_verb::own_verb;
@@ -18,9 +18,9 @@ use moo_value::value::Value;
 use rules::permissions::act::Act;
 use rules::permissions::may::may;
 use std::alloc::{AllocError, Global};
-use world::law::View;
-use world::readers::read_verbs;
-use world::verb::Verb;
+use view::law::View;
+use view::readers::read_verbs;
+use view::verb::Verb;
 
 /// `verb_code`: the canonical lines of a verb that is told by a word or by its place from 1. `E_INVARG` where the object is not
 /// there, `E_VERBNF` where it has no such verb, `E_PERM` where the programmer may not read it.

@@ -5,7 +5,7 @@ ghost use Rattle.spec_moo.specs.NativeEffect.{Caller};
 ghost use Rattle.spec_moo.specs.Natives.Tasks.{set_task_perms_row};
 ghost use Rattle.spec_moo.specs.Scene.{Scene, in_world};
 ghost use Rattle.moo_task.specs.Effects.{effect_of};
-ghost use Rattle.world.specs.Law.{Lasts, Tells};
+ghost use Rattle.view.specs.Law.{Lasts, Tells};
 ghost use Rattle.builtins_view.specs.Said.{with_programmer};
 ghost use Rattle.builtins.specs.Refused.{IsRefusal};
 
@@ -14,8 +14,8 @@ use moo_value::error::MooError;
 use rules::permissions::act::Act;
 use rules::permissions::may::may;
 use std::alloc::AllocError;
-use world::law::View;
-use world::readers::read_header;
+use view::law::View;
+use view::readers::read_header;
 
 /// `set_task_perms`: the verb that calls it goes on with another programmer. `E_INVARG` where the object is not there, `E_PERM` where
 /// the programmer may not act as it.

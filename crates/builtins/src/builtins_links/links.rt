@@ -7,7 +7,7 @@ ghost use Rattle.spec_moo.specs.NativeEffect.{waits};
 ghost use Rattle.moo_task.specs.Deeds.{scene_of};
 ghost use Rattle.moo_task.specs.Effects.{effect_of};
 ghost use Rattle.moo_task.specs.declared.effect.NativeEffect.TheVariants.{Answers};
-ghost use Rattle.world.specs.Law.{Goes, Lasts, Tells};
+ghost use Rattle.view.specs.Law.{Goes, Lasts, Tells};
 ghost use Rattle.rules.specs.Lines.{AreAgreeing};
 ghost use Rattle.builtins.specs.BuiltinsLinksActing.{Acts, with_player};
 
@@ -22,7 +22,7 @@ use rules::permissions::act::Act;
 use rules::permissions::may::may;
 use running::step_deeds::links::{close_connection_of, connection, reader};
 use std::alloc::AllocError;
-use world::law::View;
+use view::law::View;
 
 /// `boot_player`: the link of an object is closed, if it has one. `E_INVARG` where the object is not there, `E_PERM` where the
 /// programmer may not act as it.

@@ -6,7 +6,7 @@ ghost use Rattle.spec_moo.specs.Natives.Tasks.{notify_row};
 ghost use Rattle.moo_task.specs.Deeds.{scene_of};
 ghost use Rattle.moo_task.specs.Effects.{effect_of};
 ghost use Rattle.moo_task.specs.declared.effect.NativeEffect.TheVariants.{Answers};
-ghost use Rattle.world.specs.Law.{Lasts, Tells};
+ghost use Rattle.view.specs.Law.{Lasts, Tells};
 ghost use Rattle.builtins.specs.BuiltinsLinksActing.{Acts};
 ghost use Rattle.builtins.specs.Lines.{line_sent};
 
@@ -19,7 +19,7 @@ use rules::permissions::act::Act;
 use rules::permissions::may::may;
 use running::step_deeds::links::connection;
 use std::alloc::AllocError;
-use world::law::View;
+use view::law::View;
 
 /// How many lines of running code a step keeps.
 pub const MOST_LINES: u32 = 4096;

@@ -5,7 +5,7 @@ ghost use Rattle.std.specs.BTreeSet.{IsFromIterResult};
 ghost use Rattle.spec_value.specs.Datum.{object as object_of};
 ghost use Rattle.spec_moo.specs.Natives.Tasks.{connected_players_row};
 ghost use Rattle.moo_value.specs.Answers.{answer_of};
-ghost use Rattle.world.specs.Law.{Lasts, Tells};
+ghost use Rattle.view.specs.Law.{Lasts, Tells};
 ghost use Rattle.rules.specs.Lines.{AreAgreeing};
 ghost use Rattle.builtins_view.specs.Said.{Says};
 
@@ -13,8 +13,8 @@ use moo_value::answer::Answer;
 use moo_value::value::Value;
 use std::alloc::{AllocError, Global};
 use std::collections::BTreeSet;
-use world::law::View;
-use world::readers::read_connected;
+use view::law::View;
+use view::readers::read_connected;
 
 /// `connected_players`: the players that have a link, in the order of their numbers.
 pub fn connected_players<V: View>(alloc: Global, view: &mut V) -> Result<Answer, AllocError>

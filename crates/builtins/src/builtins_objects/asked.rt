@@ -6,15 +6,15 @@ ghost use Rattle.spec_world.specs.Families.{is_below as is_below_of};
 ghost use Rattle.spec_world.specs.Permissions.{may as may_of};
 ghost use Rattle.rules.specs.Lines.{AreAgreeing};
 ghost use Rattle.rules.specs.Acts.{act_of};
-ghost use Rattle.world.specs.Law.{Lasts, Tells};
+ghost use Rattle.view.specs.Law.{Lasts, Tells};
 
 use rules::inherit::line::ancestors;
 use rules::permissions::act::Act;
 use rules::permissions::may::may;
 use rules::relatives::lists::is_among;
 use std::alloc::{AllocError, Global};
-use world::law::View;
-use world::readers::read_header;
+use view::law::View;
+use view::readers::read_header;
 
 /// Whether an object is there.
 pub fn is_there<V: View>(view: &mut V, object: i32) -> Result<bool, AllocError>

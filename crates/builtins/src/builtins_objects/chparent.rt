@@ -8,7 +8,7 @@ ghost use Rattle.moo_value.specs.Answers.{answer_of};
 ghost use Rattle.moo_value.specs.Errors.{code_of};
 ghost use Rattle.rules.specs.Lines.{AreAgreeing};
 ghost use Rattle.rules.specs.Below.{IsFamily};
-ghost use Rattle.world.specs.Law.{Goes, Lasts, Tells};
+ghost use Rattle.view.specs.Law.{Goes, Lasts, Tells};
 ghost use Rattle.builtins_view.specs.Said.{Does};
 ghost use Rattle.builtins.specs.Verdict.{verdict};
 ghost use Rattle.builtins.specs.Parents.{adopted, parent_checks};
@@ -22,8 +22,8 @@ use moo_value::value::Value;
 use rules::family::below::below;
 use rules::permissions::act::Act;
 use std::alloc::{AllocError, Global};
-use world::law::View;
-use world::readers::read_header;
+use view::law::View;
+use view::readers::read_header;
 
 /// `chparent`. `E_INVARG` where the object is not there, or the parent is not, `E_PERM` where the programmer may not change the one
 /// or have children of the other, `E_RECMOVE` where the parent is the object or below it, and `E_INVARG` where the object or one

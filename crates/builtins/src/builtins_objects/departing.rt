@@ -3,14 +3,14 @@ ghost use Rattle.std.specs.Prelude.{◌≡◌, ℕ, OnOk};
 ghost use Rattle.spec_moo.specs.Natives.Objects.{recycle_now as recycle_now_of};
 ghost use Rattle.moo_task.specs.Deeds.{scene_of};
 ghost use Rattle.rules.specs.Lines.{AreAgreeing};
-ghost use Rattle.world.specs.Law.{Goes, Lasts};
+ghost use Rattle.view.specs.Law.{Goes, Lasts};
 
 use crate::builtins_objects::asked::is_there;
 use crate::builtins_objects::recycling::recycle_object;
 use moo_task::deeds::Deeds;
 use running::step_deeds::links::close_connection_of;
 use std::alloc::{AllocError, Global};
-use world::law::View;
+use view::law::View;
 
 /// An object goes, if it is there, once its verb `recycle` has come to an end or where it has none: its link is closed, its children
 /// go to its parent, and its contents to no place.

@@ -7,7 +7,7 @@ ghost use Rattle.moo_value.specs.Errors.{code_of};
 ghost use Rattle.moo_task.specs.Deeds.{scene_of};
 ghost use Rattle.moo_task.specs.declared.effect.NativeEffect.TheVariants.{Answers};
 ghost use Rattle.rules.specs.Lines.{AreAgreeing};
-ghost use Rattle.world.specs.Law.{Goes, Lasts, Tells};
+ghost use Rattle.view.specs.Law.{Goes, Lasts, Tells};
 ghost use Rattle.builtins.specs.BuiltinsLinksActing.{Acts};
 ghost use Rattle.builtins.specs.Flags.{flag_checks, flagged};
 ghost use Rattle.builtins.specs.Verdict.{verdict};
@@ -21,10 +21,10 @@ use rules::permissions::act::Act;
 use rules::permissions::may::may;
 use running::step_deeds::links::close_connection_of;
 use std::alloc::AllocError;
-use world::header::Header;
-use world::law::View;
-use world::part::Part;
-use world::readers::{read_header, write_part};
+use view::header::Header;
+use view::law::View;
+use view::part::Part;
+use view::readers::{read_header, write_part};
 
 /// `set_player_flag`: an object is a player where the value is true, and else it is none any more and its link is closed.
 /// `E_INVARG` where the object is not there, `E_PERM` where the programmer is no wizard.

@@ -4,7 +4,7 @@ ghost use Rattle.spec_world.specs.World.{World, object_at};
 ghost use Rattle.spec_world.specs.Families.{parent_of, recycled, reparented, reparented_each, to_nowhere};
 ghost use Rattle.spec_world.proofs.WorldsKept.{IsNobodys};
 ghost use Rattle.rules.specs.Lines.{AreAgreeing};
-ghost use Rattle.world.specs.Law.{Goes, Lasts};
+ghost use Rattle.view.specs.Law.{Goes, Lasts};
 ghost use Rattle.builtins.specs.Going.{forgotten, HasChildren};
 
 use builtins_view::reparenting::reparent::reparent;
@@ -12,8 +12,8 @@ use rules::family::below::below;
 use rules::relatives::children::lose_child;
 use rules::relatives::contents::{out_of_place, put_location};
 use std::alloc::{AllocError, Global};
-use world::law::View;
-use world::readers::{read_children, read_contents, read_header, write_object};
+use view::law::View;
+use view::readers::{read_children, read_contents, read_header, write_object};
 
 /// An object goes, if it is there: its children go to its parent, and its contents to no place.
 pub fn recycle_object<V: View>(alloc: Global, view: &mut V, object: i32) -> Result<(), AllocError>

@@ -3,7 +3,7 @@ ghost use Rattle.std.specs.Prelude.{◌≡◌, [], ◌∷◌, IfOk, OnOk};
 ghost use Rattle.spec_value.specs.Datum.{integer};
 ghost use Rattle.spec_moo.specs.Natives.Tasks.{is_own_id, kills, kill_task_row};
 ghost use Rattle.moo_value.specs.Answers.{answer_of};
-ghost use Rattle.world.specs.Law.{Goes, Lasts};
+ghost use Rattle.view.specs.Law.{Goes, Lasts};
 ghost use Rattle.rules.specs.Lines.{AreAgreeing};
 ghost use Rattle.builtins_view.specs.Said.{Does};
 ghost use Rattle.builtins.specs.BuiltinsQueueActing.{Acts};
@@ -17,8 +17,8 @@ use moo_value::value::Value;
 use rules::permissions::act::Act;
 use rules::permissions::may::may;
 use std::alloc::AllocError;
-use world::law::View;
-use world::readers::{read_task, write_task};
+use view::law::View;
+use view::readers::{read_task, write_task};
 
 /// `kill_task`: the task that calls it dies by its own id, and one that waits goes. `E_INVARG` where there is no such task, `E_PERM`
 /// where the programmer may not control it.

@@ -6,7 +6,7 @@ ghost use Rattle.spec_moo.specs.Natives.Tasks.{innermost, due_value as due_value
 ghost use Rattle.spec_moo.specs.Natives.Rows.{list_value};
 ghost use Rattle.moo_value.specs.Answers.{answer_of};
 ghost use Rattle.moo_task.specs.Effects.{waiting_of};
-ghost use Rattle.world.specs.Law.{Lasts, Tells};
+ghost use Rattle.view.specs.Law.{Lasts, Tells};
 ghost use Rattle.rules.specs.Lines.{AreAgreeing};
 ghost use Rattle.builtins_view.specs.Said.{Says};
 ghost use Rattle.builtins.specs.Listed.{seen_task, seen_at, seen_of};
@@ -18,8 +18,8 @@ use moo_value::answer::Answer;
 use moo_value::value::Value;
 use rules::permissions::may::is_wizard;
 use std::alloc::{AllocError, Global};
-use world::law::View;
-use world::readers::{read_task, read_waiting};
+use view::law::View;
+use view::readers::{read_task, read_waiting};
 
 /// `queued_tasks`: for each task that waits, its id, when it is due, and its innermost verb's programmer, definer, name and object: one's
 /// own, and of a wizard all.

@@ -4,7 +4,7 @@ ghost use Rattle.spec_value.specs.Datum.{integer};
 ghost use Rattle.spec_moo.specs.Natives.Tasks.{is_suspended as is_suspended_of, resumes, resume_row};
 ghost use Rattle.moo_task.specs.Effects.{waiting_of};
 ghost use Rattle.moo_task.specs.declared.effect.NativeEffect.TheVariants.{Answers};
-ghost use Rattle.world.specs.Law.{Goes, Lasts};
+ghost use Rattle.view.specs.Law.{Goes, Lasts};
 ghost use Rattle.rules.specs.Lines.{AreAgreeing};
 ghost use Rattle.builtins.specs.BuiltinsQueueActing.{Acts};
 
@@ -17,8 +17,8 @@ use moo_value::value::Value;
 use rules::permissions::act::Act;
 use rules::permissions::may::may;
 use std::alloc::AllocError;
-use world::law::View;
-use world::readers::{read_task, write_task};
+use view::law::View;
+use view::readers::{read_task, write_task};
 
 /// `resume`: a task that is suspended goes on, with 0.
 pub fn resume<V: View>(

@@ -3,7 +3,7 @@ ghost use Rattle.std.specs.Prelude.{◌≡◌, IfOk};
 ghost use Rattle.spec_value.specs.Datum.{of_list};
 ghost use Rattle.moo_task.specs.Frames.{native_of};
 ghost use Rattle.rules.specs.Lines.{AreAgreeing};
-ghost use Rattle.world.specs.Law.{Lasts, Tells};
+ghost use Rattle.view.specs.Law.{Lasts, Tells};
 ghost use Rattle.builtins.specs.Led.{MayBegin};
 
 use moo_program::program::Program;
@@ -15,7 +15,7 @@ use moo_value::value::Value;
 use rules::inherit::verb::{FoundVerb, find_verb};
 use running::moo_objects::calling::callee;
 use std::alloc::AllocError;
-use world::law::View;
+use view::law::View;
 
 /// The call of the verb that a word names on an object, if there is one; the built-in function then waits for its value.
 pub fn begins<V: View>(

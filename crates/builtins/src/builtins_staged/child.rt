@@ -4,7 +4,7 @@ ghost use Rattle.spec_world.specs.World.{World, object_at};
 ghost use Rattle.spec_world.specs.Families.{created, heir_slots as heir_slots_of, slots_at};
 ghost use Rattle.spec_world.specs.ObjectLaws.{IsPlace};
 ghost use Rattle.rules.specs.Lines.{AreAgreeing};
-ghost use Rattle.world.specs.Law.{Goes, Lasts, Tells};
+ghost use Rattle.view.specs.Law.{Goes, Lasts, Tells};
 ghost use Rattle.builtins.specs.Children.{child_header, child_with, put_heirs, IsNext};
 
 use builtins_view::reparenting::along::inherited_slots;
@@ -12,13 +12,13 @@ use builtins_view::reparenting::heirs::heir_slot;
 use moo_value::text::Text;
 use rules::relatives::children::add_child;
 use std::alloc::{AllocError, Global};
-use world::header::Header;
-use world::law::View;
-use world::object::{Lists, Object};
-use world::readers::{write_greatest, write_object};
-use world::slot::Slot;
-use world::slots::Slots;
-use world::verb::Verbs;
+use view::header::Header;
+use view::law::View;
+use view::object::{Lists, Object};
+use view::readers::{write_greatest, write_object};
+use view::slot::Slot;
+use view::slots::Slots;
+use view::verb::Verbs;
 
 /// A parent, or nobody, has a new child under the next number.
 pub fn make_child<V: View>(

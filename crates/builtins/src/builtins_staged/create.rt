@@ -6,7 +6,7 @@ ghost use Rattle.spec_world.specs.World.{World, object_at};
 ghost use Rattle.spec_world.specs.ObjectLaws.{IsPlace};
 ghost use Rattle.spec_moo.specs.Natives.Objects.{create_for as create_for_of, create_row, create_with};
 ghost use Rattle.rules.specs.Lines.{AreAgreeing};
-ghost use Rattle.world.specs.Law.{Goes, Lasts, Tells};
+ghost use Rattle.view.specs.Law.{Goes, Lasts, Tells};
 ghost use Rattle.builtins.specs.Led.{Leads};
 ghost use Rattle.builtins.specs.Children.{initialized, IsAfter, IsNext};
 
@@ -22,8 +22,8 @@ use moo_value::text::Text;
 use moo_value::value::Value;
 use rules::permissions::act::Act;
 use std::alloc::{AllocError, Global};
-use world::law::View;
-use world::readers::read_greatest;
+use view::law::View;
+use view::readers::read_greatest;
 
 // No object has a greater number.
 const LAST_NUMBER: i32 = 999_999;

@@ -8,7 +8,7 @@ ghost use Rattle.spec_world.specs.Permissions.{is_wizard as is_wizard_of};
 ghost use Rattle.spec_moo.specs.Natives.Objects.{accepted as accepted_of, asked, gone_over as gone_over_of, move_now as move_now_of, move_row, stage, told_to_enter as told_to_enter_of};
 ghost use Rattle.moo_value.specs.Errors.{code_of};
 ghost use Rattle.rules.specs.Lines.{AreAgreeing};
-ghost use Rattle.world.specs.Law.{Goes, Lasts, Tells};
+ghost use Rattle.view.specs.Law.{Goes, Lasts, Tells};
 ghost use Rattle.builtins.specs.Verdict.{verdict};
 ghost use Rattle.builtins.specs.Led.{Leads, MayBegin};
 ghost use Rattle.builtins.specs.Moves.{first_checks, later_checks, MayMove};
@@ -26,8 +26,8 @@ use moo_value::value::Value;
 use rules::permissions::act::Act;
 use rules::permissions::may::{is_wizard, may};
 use std::alloc::{AllocError, Global};
-use world::law::View;
-use world::readers::read_header;
+use view::law::View;
+use view::readers::read_header;
 
 /// `move`. `E_INVARG` where the object is not there, or the place is not, `E_PERM` where the programmer may not change the object,
 /// `E_RECMOVE` where the place is inside of it. The verb `accept` of the place is called, if there is one.

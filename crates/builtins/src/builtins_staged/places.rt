@@ -4,14 +4,14 @@ ghost use Rattle.spec_world.specs.World.{World, object_at};
 ghost use Rattle.spec_world.specs.Naming.{location_of};
 ghost use Rattle.spec_world.specs.Whereabouts.{is_inside as is_inside_of, moved};
 ghost use Rattle.rules.specs.Lines.{AreAgreeing};
-ghost use Rattle.world.specs.Law.{Goes, Lasts, Tells};
+ghost use Rattle.view.specs.Law.{Goes, Lasts, Tells};
 ghost use Rattle.builtins.specs.Moves.{is_in as is_in_of, MayMove};
 
 use rules::relatives::contents::{out_of_place, put_into, put_location};
 use std::alloc::{AllocError, Global};
-use world::header::Header;
-use world::law::View;
-use world::readers::read_header;
+use view::header::Header;
+use view::law::View;
+use view::readers::read_header;
 
 /// Where an object is: -1 where it is in no place, or is not there.
 pub fn location<V: View>(view: &mut V, object: i32) -> Result<i32, AllocError>

@@ -8,7 +8,7 @@ ghost use Rattle.moo_value.specs.Errors.{code_of};
 ghost use Rattle.moo_task.specs.Deeds.{scene_of};
 ghost use Rattle.moo_task.specs.Effects.{effect_of};
 ghost use Rattle.rules.specs.Lines.{AreAgreeing};
-ghost use Rattle.world.specs.Law.{Goes, Lasts, Tells};
+ghost use Rattle.view.specs.Law.{Goes, Lasts, Tells};
 ghost use Rattle.builtins.specs.Verdict.{verdict};
 ghost use Rattle.builtins.specs.Led.{LeadsOver, MayBegin};
 ghost use Rattle.builtins.specs.Recycles.{recycle_checks, recycle_told};
@@ -27,7 +27,7 @@ use moo_value::value::Value;
 use rules::permissions::act::Act;
 use rules::permissions::may::may;
 use std::alloc::{AllocError, Global};
-use world::law::View;
+use view::law::View;
 
 /// `recycle`. `E_INVARG` where the object is not there, `E_PERM` where the programmer may not change it. The verb `recycle` of the
 /// object is called, if there is one, and else the object goes at once.

@@ -1,11 +1,11 @@
 //! What is asked of a world before it is changed.
 ghost use Rattle.std.specs.Prelude.{◌≡◌, is_some, IfOk};
 ghost use Rattle.spec_world.specs.World.{object_at};
-ghost use Rattle.world.specs.Law.{Lasts, Tells};
+ghost use Rattle.view.specs.Law.{Lasts, Tells};
 
 use std::alloc::AllocError;
-use world::law::View;
-use world::readers::read_header;
+use view::law::View;
+use view::readers::read_header;
 
 /// Whether an object is there.
 pub fn is_there<V: View>(view: &mut V, object: i32) -> Result<bool, AllocError>

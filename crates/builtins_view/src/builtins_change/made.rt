@@ -11,7 +11,7 @@ use moo_compiler::program::Program;
 use moo_tree::statement::Tree;
 use moo_value::text::Text;
 use std::alloc::{AllocError, Global};
-use world::verb::Verb;
+use view::verb::Verb;
 
 /// A verb's owner, its bits and its names, as texts.
 #[derive(Drop)]

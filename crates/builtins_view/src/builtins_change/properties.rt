@@ -5,7 +5,7 @@ ghost use Rattle.spec_world.specs.World.{object_at};
 ghost use Rattle.spec_world.specs.Permissions.{write_slot};
 ghost use Rattle.spec_moo.specs.Natives.Properties.{are_bits as are_bits_of, set_property_info_row, with_slot_bits};
 ghost use Rattle.moo_value.specs.Answers.{answer_of};
-ghost use Rattle.world.specs.Law.{Goes, Lasts, Tells};
+ghost use Rattle.view.specs.Law.{Goes, Lasts, Tells};
 ghost use Rattle.rules.specs.Acts.{act_of};
 ghost use Rattle.rules.specs.Lines.{AreAgreeing};
 ghost use Rattle.builtins_view.specs.Said.{Does};
@@ -22,9 +22,9 @@ use moo_value::value::Value;
 use rules::permissions::act::Act;
 use rules::permissions::may::may;
 use std::alloc::AllocError;
-use world::law::View;
-use world::readers::read_slot;
-use world::slot::Slot;
+use view::law::View;
+use view::readers::read_slot;
+use view::slot::Slot;
 
 /// `set_property_info`. `E_INVARG` where the object is not there, `E_PROPNF` where it has no such slot, `E_PERM` where the
 /// programmer may not write it or not give it to that owner, and `E_INVARG` for other bits than r, w and c and for an owner

@@ -5,7 +5,7 @@ ghost use Rattle.spec_world.specs.Members.{with_verb, without_verb, verb_added, 
 ghost use Rattle.spec_world.specs.Permissions.{in_place};
 ghost use Rattle.spec_world.specs.Questions.{verbs_at};
 ghost use Rattle.spec_moo.specs.Natives.Verbs.{with_info as with_info_of, with_specifier as with_specifier_of};
-ghost use Rattle.world.specs.Law.{Goes, Lasts};
+ghost use Rattle.view.specs.Law.{Goes, Lasts};
 ghost use Rattle.builtins_view.specs.Programs.{with_program as with_program_of};
 ghost use Rattle.builtins_view.specs.Specifiers.{specifier_of};
 
@@ -13,10 +13,10 @@ use crate::builtins_change::made::{Info, with_info, with_program, with_specifier
 use crate::builtins_change::specifier::Specifier;
 use moo_compiler::program::Program;
 use std::alloc::{AllocError, Global};
-use world::law::View;
-use world::part::Part;
-use world::readers::write_part;
-use world::verb::{Verb, Verbs};
+use view::law::View;
+use view::part::Part;
+use view::readers::write_part;
+use view::verb::{Verb, Verbs};
 
 /// A verb of an object, with these verbs, has another owner, other bits and names.
 pub fn put_info<V: View>(

@@ -2,12 +2,12 @@
 ghost use Rattle.std.specs.Prelude.{◌≡◌, ◌<◌, length, map, option_map, IfSome};
 ghost use Rattle.spec_world.specs.Prepositions.{sets};
 ghost use Rattle.spec_moo.specs.Natives.Verbs.{object_part as object_part_meant, preposition_part as preposition_part_meant, specifier as specifier_meant, set_with};
-ghost use Rattle.world.specs.Parts.{object_part_of, preposition_part_of};
+ghost use Rattle.view.specs.Parts.{object_part_of, preposition_part_of};
 ghost use Rattle.builtins_view.specs.Specifiers.{specifier_of, has_member as has_member_of, first_with as first_with_of};
 
 use moo_value::text::Text;
 use rules::verb_match::names::is_same;
-use world::verb::{ObjectPart, PrepositionPart};
+use view::verb::{ObjectPart, PrepositionPart};
 
 /// A direct object, a preposition and an indirect object, as texts.
 #[derive(Drop)]

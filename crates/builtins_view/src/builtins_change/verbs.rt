@@ -8,7 +8,7 @@ ghost use Rattle.spec_world.specs.VerbNames.{names_in};
 ghost use Rattle.spec_moo.specs.Natives.Properties.{are_bits as are_bits_of};
 ghost use Rattle.spec_moo.specs.Natives.Verbs.{set_verb_info_row, set_verb_args_row, add_verb_row, delete_verb_row, is_none_named};
 ghost use Rattle.moo_value.specs.Answers.{answer_of};
-ghost use Rattle.world.specs.Law.{Goes, Lasts, Tells};
+ghost use Rattle.view.specs.Law.{Goes, Lasts, Tells};
 ghost use Rattle.rules.specs.Lines.{AreAgreeing};
 ghost use Rattle.builtins_view.specs.Said.{Does};
 ghost use Rattle.builtins_view.specs.BuiltinsChangeLater.{verb_given, specified, added, added_owned};
@@ -27,9 +27,9 @@ use moo_value::value::Value;
 use rules::permissions::act::Act;
 use rules::permissions::may::may;
 use std::alloc::{AllocError, Global};
-use world::law::View;
-use world::readers::read_verbs;
-use world::verb::Verb;
+use view::law::View;
+use view::readers::read_verbs;
+use view::verb::Verb;
 
 /// `set_verb_info`. `E_INVARG` where the object is not there, `E_VERBNF` where it has no such verb, `E_PERM` where the programmer
 /// may not write it or not give it to that owner, and `E_INVARG` for other bits than r, w, x and d, for no name at all and for an

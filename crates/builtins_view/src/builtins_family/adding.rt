@@ -7,7 +7,7 @@ ghost use Rattle.spec_world.specs.Questions.{defines_at};
 ghost use Rattle.spec_moo.specs.Natives.Properties.{add_property_row, slot_with as slot_with_of};
 ghost use Rattle.moo_value.specs.Answers.{answer_of};
 ghost use Rattle.rules.specs.Lines.{AreAgreeing};
-ghost use Rattle.world.specs.Law.{Goes, Lasts, Tells};
+ghost use Rattle.view.specs.Law.{Goes, Lasts, Tells};
 ghost use Rattle.builtins_view.specs.Said.{Does};
 ghost use Rattle.builtins_view.specs.BuiltinsChangeListed.{owner_and_bits};
 ghost use Rattle.rules.specs.Below.{IsFamily};
@@ -24,11 +24,11 @@ use rules::family::below::below;
 use rules::permissions::act::Act;
 use rules::permissions::may::may;
 use std::alloc::{AllocError, Global};
-use world::law::View;
-use world::lists::Names;
-use world::part::Part;
-use world::readers::{read_defines, write_part};
-use world::slot::Slot;
+use view::law::View;
+use view::lists::Names;
+use view::part::Part;
+use view::readers::{read_defines, write_part};
+use view::slot::Slot;
 
 /// `add_property`. `E_INVARG` where the object is not there, `E_PERM` where the programmer may not add to it or not give to that
 /// owner, and `E_INVARG` for a name that is empty, or that a built-in property has, or a property above or below; for other bits

@@ -7,7 +7,7 @@ ghost use Rattle.spec_world.specs.Questions.{defines_at};
 ghost use Rattle.spec_moo.specs.Natives.Properties.{delete_property_row};
 ghost use Rattle.moo_value.specs.Answers.{answer_of};
 ghost use Rattle.rules.specs.Lines.{AreAgreeing};
-ghost use Rattle.world.specs.Law.{Goes, Lasts};
+ghost use Rattle.view.specs.Law.{Goes, Lasts};
 ghost use Rattle.builtins_view.specs.Said.{Does};
 ghost use Rattle.rules.specs.Below.{IsFamily};
 
@@ -22,10 +22,10 @@ use rules::permissions::act::Act;
 use rules::permissions::may::may;
 use rules::verb_match::names::is_same;
 use std::alloc::{AllocError, Global};
-use world::law::View;
-use world::lists::Names;
-use world::part::Part;
-use world::readers::{read_defines, write_part};
+use view::law::View;
+use view::lists::Names;
+use view::part::Part;
+use view::readers::{read_defines, write_part};
 
 /// `delete_property`. `E_INVARG` where the object is not there, `E_PROPNF` where it does not define the property itself, `E_PERM`
 /// where the programmer may not take from it.

@@ -1,16 +1,16 @@
 //! Objects that are changed one after the other.
 ghost use Rattle.std.specs.Prelude.{◌≡◌, IfOk, OnOk};
 ghost use Rattle.spec_world.specs.Families.{change_object};
-ghost use Rattle.world.specs.Law.{Goes, Lasts};
+ghost use Rattle.view.specs.Law.{Goes, Lasts};
 ghost use Rattle.rules.specs.InTurn.{in_turn};
 ghost use Rattle.builtins_view.specs.Slots.{getting, slot_for as slot_for_of};
 
 use crate::builtins_world::properties::put_slot;
 use moo_value::text::Text;
 use std::alloc::AllocError;
-use world::law::View;
-use world::readers::read_header;
-use world::slot::Slot;
+use view::law::View;
+use view::readers::read_header;
+use view::slot::Slot;
 
 /// Each object gets a slot of a property: the one that defines it this slot, another one an heir's.
 pub fn give_slots<V: View>(

@@ -4,7 +4,7 @@ ghost use Rattle.spec_world.specs.World.{World};
 ghost use Rattle.spec_world.specs.Inherit.{slot_at};
 ghost use Rattle.spec_moo.specs.Properties.{built_in};
 ghost use Rattle.spec_moo.specs.Natives.Properties.{is_empty as is_empty_of};
-ghost use Rattle.world.specs.Law.{Lasts, Tells};
+ghost use Rattle.view.specs.Law.{Lasts, Tells};
 ghost use Rattle.builtins_view.specs.Slots.{among_names, any_defines};
 ghost use Rattle.spec_world.specs.Questions.{defines_at};
 
@@ -12,8 +12,8 @@ use crate::builtins_world::properties::has_name;
 use moo_value::text::Text;
 use rules::access::built_in::named;
 use std::alloc::AllocError;
-use world::law::View;
-use world::readers::{read_defines, read_slot};
+use view::law::View;
+use view::readers::{read_defines, read_slot};
 
 /// Whether a name is neither empty nor built in, and an object and all below it, which are these, have no such property.
 pub fn is_new_name<V: View>(

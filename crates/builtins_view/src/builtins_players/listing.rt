@@ -5,15 +5,15 @@ ghost use Rattle.spec_world.specs.Questions.{header_at};
 ghost use Rattle.spec_moo.specs.Natives.Objects.{players_row};
 ghost use Rattle.moo_value.specs.Answers.{answer_of};
 ghost use Rattle.rules.specs.Lines.{AreAgreeing};
-ghost use Rattle.world.specs.Law.{Lasts, Tells};
+ghost use Rattle.view.specs.Law.{Lasts, Tells};
 ghost use Rattle.builtins_view.specs.Said.{Says};
 ghost use Rattle.builtins_view.specs.Counting.{numbers_to, player_in, players_from};
 
 use moo_value::answer::Answer;
 use moo_value::value::Value;
 use std::alloc::{AllocError, Global};
-use world::law::View;
-use world::readers::{read_greatest, read_header};
+use view::law::View;
+use view::readers::{read_greatest, read_header};
 
 /// `players`: the players, in the order of their numbers. Each number that an object has had is asked for, so this takes time and
 /// reads in proportion to the greatest of them.

@@ -5,7 +5,7 @@ ghost use Rattle.spec_moo.specs.Natives.Tasks.{dump_database_row, shutdown_row};
 ghost use Rattle.builtins_view.specs.Said.{with_programmer, Does};
 ghost use Rattle.moo_value.specs.Answers.{answer_of};
 ghost use Rattle.moo_task.specs.Deeds.{scene_of};
-ghost use Rattle.world.specs.Law.{Goes, Lasts, Tells};
+ghost use Rattle.view.specs.Law.{Goes, Lasts, Tells};
 
 use moo_task::deeds::Deeds;
 use moo_value::answer::Answer;
@@ -14,8 +14,8 @@ use moo_value::value::Value;
 use rules::permissions::act::Act;
 use rules::permissions::may::may;
 use std::alloc::AllocError;
-use world::law::View;
-use world::readers::write_ending;
+use view::law::View;
+use view::readers::write_ending;
 
 /// `dump_database`: a checkpoint is asked for. `E_PERM` for all but wizards.
 pub fn dump_database<V: View>(

@@ -3,7 +3,7 @@ ghost use Rattle.std.specs.Prelude.{◌≡◌, ℤ, [], ◌∷◌, IfOk};
 ghost use Rattle.spec_value.specs.Datum.{object as object_of};
 ghost use Rattle.spec_moo.specs.Natives.Objects.{valid_row, is_player_row, parent_row, children_row, max_object_row};
 ghost use Rattle.moo_value.specs.Answers.{answer_of};
-ghost use Rattle.world.specs.Law.{Lasts, Tells};
+ghost use Rattle.view.specs.Law.{Lasts, Tells};
 ghost use Rattle.builtins_view.specs.Said.{Says};
 
 use crate::builtins_world::values::objects_value;
@@ -11,8 +11,8 @@ use moo_value::answer::Answer;
 use moo_value::error::MooError;
 use moo_value::value::Value;
 use std::alloc::{AllocError, Global};
-use world::law::View;
-use world::readers::{read_children, read_greatest, read_header};
+use view::law::View;
+use view::readers::{read_children, read_greatest, read_header};
 
 /// `valid`: whether an object is there.
 pub fn valid<V: View>(view: &mut V, object: i32) -> Result<Answer, AllocError>

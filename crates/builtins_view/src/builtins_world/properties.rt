@@ -9,9 +9,9 @@ ghost use Rattle.spec_world.specs.WellFormed.{has_name as has_name_of};
 ghost use Rattle.spec_moo.specs.Natives.Properties.{properties_row, property_info_row, is_clear_property_row, clear_property_row, slot_bits as slot_bits_of, defines_it};
 ghost use Rattle.moo_value.specs.Answers.{answer_of};
 ghost use Rattle.moo_value.specs.Errors.{code_of};
-ghost use Rattle.world.specs.Meanings.{part_of};
+ghost use Rattle.view.specs.Meanings.{part_of};
 ghost use Rattle.rules.specs.Lines.{AreAgreeing};
-ghost use Rattle.world.specs.Law.{Goes, Lasts, Tells};
+ghost use Rattle.view.specs.Law.{Goes, Lasts, Tells};
 ghost use Rattle.builtins_view.specs.Missing.{missing_error};
 ghost use Rattle.builtins_view.specs.Said.{Does, Says};
 
@@ -24,10 +24,10 @@ use rules::permissions::act::Act;
 use rules::permissions::may::may;
 use rules::verb_match::names::is_same;
 use std::alloc::{AllocError, Global};
-use world::law::View;
-use world::part::Part;
-use world::readers::{read_defines, read_header, read_slot, write_part};
-use world::slot::Slot;
+use view::law::View;
+use view::part::Part;
+use view::readers::{read_defines, read_header, read_slot, write_part};
+use view::slot::Slot;
 
 /// `properties`: the names that an object defines, in the order of definition. `E_INVARG` where it is not there, `E_PERM` where the
 /// programmer may not list them.

@@ -1,9 +1,9 @@
 //! What a command has to name for a verb, as texts: objects, and a preposition by all members of its set.
 ghost use Rattle.std.specs.Prelude.{◌≡◌};
 ghost use Rattle.spec_moo.specs.Natives.Verbs.{object_part_text as object_part_text_of, preposition_text as preposition_text_of};
-ghost use Rattle.world.specs.Parts.{object_part_of, preposition_part_of};
+ghost use Rattle.view.specs.Parts.{object_part_of, preposition_part_of};
 
-use world::verb::{ObjectPart, PrepositionPart};
+use view::verb::{ObjectPart, PrepositionPart};
 
 /// `none`, `any` or `this`
 pub fn object_part_text(part: ObjectPart) -> &'static str

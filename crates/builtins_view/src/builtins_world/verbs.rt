@@ -5,7 +5,7 @@ ghost use Rattle.spec_moo.specs.Natives.Verbs.{verbs_row, verb_info_row, verb_ar
 ghost use Rattle.spec_moo.specs.Natives.Properties.{as_texts};
 ghost use Rattle.spec_moo.specs.Natives.Rows.{list_value};
 ghost use Rattle.moo_value.specs.Answers.{answer_of};
-ghost use Rattle.world.specs.Law.{Lasts, Tells};
+ghost use Rattle.view.specs.Law.{Lasts, Tells};
 ghost use Rattle.builtins_view.specs.Said.{Says};
 ghost use Rattle.builtins_view.specs.Verbs.{info_value, specifier_value};
 
@@ -18,9 +18,9 @@ use moo_value::value::Value;
 use rules::permissions::act::Act;
 use rules::permissions::may::may;
 use std::alloc::{AllocError, Global};
-use world::law::View;
-use world::readers::read_verbs;
-use world::verb::Verb;
+use view::law::View;
+use view::readers::read_verbs;
+use view::verb::Verb;
 
 /// `verbs`: the names of an object's own verbs, as they were given. `E_INVARG` where it is not there, `E_PERM` where the programmer
 /// may not list them.

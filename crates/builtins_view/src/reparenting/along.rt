@@ -4,7 +4,7 @@ ghost use Rattle.spec_world.specs.Inherit.{slot_at};
 ghost use Rattle.spec_world.specs.WellFormed.{lists};
 ghost use Rattle.spec_world.specs.Questions.{defines_at};
 ghost use Rattle.rules.specs.Lines.{AreAgreeing};
-ghost use Rattle.world.specs.Law.{Lasts, Tells};
+ghost use Rattle.view.specs.Law.{Lasts, Tells};
 ghost use Rattle.builtins_view.specs.Along.{given, names_on, slots_of, with_found};
 ghost use Rattle.builtins_view.specs.Heirs.{heritage, names_beside as names_beside_of, slots_beside as slots_beside_of};
 
@@ -12,9 +12,9 @@ use moo_value::text::Text;
 use rules::inherit::line::ancestors;
 use rules::relatives::lists::is_among;
 use std::alloc::{AllocError, Global};
-use world::law::View;
-use world::readers::{read_defines, read_slot};
-use world::slot::Slot;
+use view::law::View;
+use view::readers::{read_defines, read_slot};
+use view::slot::Slot;
 
 /// The slots of an object that its children inherit, with the names under which they are defined: none where it is not there.
 pub fn inherited_slots<V: View>(

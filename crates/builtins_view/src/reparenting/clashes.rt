@@ -2,13 +2,13 @@
 ghost use Rattle.std.specs.Prelude.{◌≡◌, IfOk};
 ghost use Rattle.std.specs.List.{list_any};
 ghost use Rattle.spec_world.specs.Questions.{defines_at};
-ghost use Rattle.world.specs.Law.{Lasts, Tells};
+ghost use Rattle.view.specs.Law.{Lasts, Tells};
 ghost use Rattle.builtins_view.specs.Clashes.{any_clashes as any_clashes_of, any_slot, has_slot};
 
 use moo_value::text::Text;
 use std::alloc::AllocError;
-use world::law::View;
-use world::readers::{read_defines, read_slot};
+use view::law::View;
+use view::readers::{read_defines, read_slot};
 
 /// Whether one of these objects defines a property that another one has.
 pub fn any_clashes<V: View>(view: &mut V, parent: i32, family: &[i32]) -> Result<bool, AllocError>

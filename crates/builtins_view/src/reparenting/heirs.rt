@@ -2,16 +2,16 @@
 ghost use Rattle.std.specs.Prelude.{◌≡◌, IfOk, OnOk};
 ghost use Rattle.spec_world.specs.Families.{heir_slot as heir_slot_of};
 ghost use Rattle.spec_world.specs.Inherit.{slot_at};
-ghost use Rattle.world.specs.Law.{Goes, Lasts};
+ghost use Rattle.view.specs.Law.{Goes, Lasts};
 ghost use Rattle.builtins_view.specs.Heirs.{inherit_down, inherit_each as inherit_each_of, inherited, lose_each as lose_each_of};
 
 use crate::builtins_world::properties::put_slot;
 use moo_value::text::Text;
 use rules::family::losing::lose_slots;
 use std::alloc::AllocError;
-use world::law::View;
-use world::readers::{read_header, read_slot};
-use world::slot::Slot;
+use view::law::View;
+use view::readers::{read_header, read_slot};
+use view::slot::Slot;
 
 /// Each object loses its slots of these names.
 pub fn lose_each<V: View>(view: &mut V, objects: &[i32], names: &[Text]) -> Result<(), AllocError>

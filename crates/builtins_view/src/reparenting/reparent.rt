@@ -4,13 +4,13 @@ ghost use Rattle.spec_world.specs.World.{object_at};
 ghost use Rattle.spec_world.specs.Families.{parent_of, with_heirs, reparented};
 ghost use Rattle.rules.specs.Lines.{AreAgreeing};
 ghost use Rattle.rules.specs.Below.{IsFamily};
-ghost use Rattle.world.specs.Law.{Goes, Lasts};
+ghost use Rattle.view.specs.Law.{Goes, Lasts};
 
 use crate::reparenting::along::{names_beside, slots_beside};
 use crate::reparenting::heirs::{inherit_each, lose_each};
 use rules::relatives::children::put_below;
 use std::alloc::{AllocError, Global};
-use world::law::View;
+use view::law::View;
 
 /// An object, which with all below it is this family, goes over from its parent to another one.
 pub fn reparent<V: View>(

@@ -3,12 +3,12 @@ use crate::object_records::names::{look_upwards, names_of};
 use crate::object_records::object::ObjectRecord;
 use moo_value::text::Text;
 use std::alloc::{AllocError, Global};
-use world::change::Change;
+use view::change::Change;
 use world::draft::Draft;
-use world::object::Object;
-use world::slot::Slot;
-use world::slots::Slots;
-use world::verb::Verbs;
+use view::object::Object;
+use view::slot::Slot;
+use view::slots::Slots;
+use view::verb::Verbs;
 
 /// The objects of some records, into a draft: whether that could be done. It can't where an object has another number of slots
 /// than there are properties along its parents, or where parents go round.

@@ -4,7 +4,7 @@ use crate::checkpoint_lines::fault::DecodeError;
 use crate::checkpoint_lines::lines::Lines;
 use moo_value::text::Text;
 use std::alloc::Global;
-use world::header::Header;
+use view::header::Header;
 
 /// The first of the lines that a header has: the name, the owner, the parent and the location.
 #[derive(Drop)]

@@ -5,8 +5,8 @@ use crate::checkpoint_lines::lines::Lines;
 use moo_value::text::Text;
 use moo_value::value::{Shown, Value};
 use std::alloc::{AllocError, Global};
-use world::link::{Link, Programming};
-use world::lists::{Lines as ProgramLines, Names};
+use view::link::{Link, Programming};
+use view::lists::{Lines as ProgramLines, Names};
 
 /// What a link's last field can say.
 #[derive(Drop)]

@@ -5,10 +5,10 @@ use crate::object_records::header::{header, next_flags, next_naming};
 use crate::object_records::slot::next_slots;
 use crate::object_records::verb::next_verbs;
 use std::alloc::Global;
-use world::header::Header;
-use world::object::Lists;
-use world::slot::Slot;
-use world::verb::Verb;
+use view::header::Header;
+use view::object::Lists;
+use view::slot::Slot;
+use view::verb::Verb;
 
 /// An object whose slots have no names yet. They stand in the order in which the object itself defines its properties,
 /// then its parent, and so on upwards.

@@ -4,7 +4,7 @@ use crate::checkpoint_lines::lines::Lines;
 use crate::checkpoint_lines::row::Row;
 use moo_value::value::Value;
 use std::alloc::Global;
-use world::slot::Slot;
+use view::slot::Slot;
 
 /// The slots of an object, without their names, from the next lines.
 pub fn next_slots(alloc: Global, lines: &mut Lines<'_>) -> Result<Vec<Slot>, DecodeError> {

@@ -7,7 +7,7 @@ use crate::checkpoint_lines::row::Row;
 use moo_compiler::program::Program;
 use moo_value::text::Text;
 use std::alloc::Global;
-use world::verb::{ObjectPart, PrepositionPart, Verb};
+use view::verb::{ObjectPart, PrepositionPart, Verb};
 
 /// What a verb's own line says.
 #[derive(Drop)]

@@ -8,8 +8,8 @@ ghost use Rattle.checkpoint_text.specs.CheckpointObjectsLines.{link_line};
 use crate::checkpoint_fields::page::Page;
 use std::alloc::AllocError;
 use world::draft::Draft;
-use world::link::{Link, Programming};
-use world::lists::Lines;
+use view::link::{Link, Programming};
+use view::lists::Lines;
 
 /// Writes the links of these numbers.
 pub fn put_links(page: &mut Page, draft: &Draft, numbers: &[i32]) -> Result<(), AllocError>

@@ -12,8 +12,8 @@ use crate::checkpoint_objects::slot::put_slots;
 use crate::checkpoint_objects::verb::put_verbs;
 use std::alloc::{AllocError, Global};
 use world::draft::Draft;
-use world::header::Header;
-use world::object::Object;
+use view::header::Header;
+use view::object::Object;
 
 /// Writes the objects of these numbers.
 pub fn put_objects(

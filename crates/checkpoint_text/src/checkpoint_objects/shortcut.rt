@@ -6,7 +6,7 @@ ghost use Rattle.checkpoint_text.specs.Shortcuts.{Leads, GoesOn, AllGoOn, ArePas
 
 use std::alloc::{AllocError, Global};
 use world::draft::Draft;
-use world::object::Object;
+use view::object::Object;
 
 /// So many objects, from one upwards, define no property. Behind them comes another number.
 #[derive(Clone, Copy)]

@@ -13,8 +13,8 @@ use moo_value::text::Text;
 use moo_value::value::Value;
 use std::alloc::{AllocError, Global};
 use world::draft::Draft;
-use world::object::Object;
-use world::slot::Slot;
+use view::object::Object;
+use view::slot::Slot;
 
 /// Writes the slots of an object: of the properties that it defines, then of those of its parent, and so on.
 pub fn put_slots(

@@ -2,12 +2,12 @@
 ghost use Rattle.std.specs.Prelude.{◌≡◌, ◌++◌, [], ◌∷◌, OnOk};
 ghost use Rattle.spec_world.specs.Checkpoint.{verb_lines, each_verb, verb_line, verb_bits, part_text, preposition_number, with_line_ends};
 ghost use Rattle.checkpoint_text.specs.CheckpointObjectsLines.{program_lines, verb_arguments, verb_names};
-ghost use Rattle.world.specs.Parts.{object_part_of, preposition_part_of};
+ghost use Rattle.view.specs.Parts.{object_part_of, preposition_part_of};
 
 use crate::checkpoint_fields::page::Page;
 use moo_printer::print::print;
 use std::alloc::{AllocError, Global};
-use world::verb::{ObjectPart, PrepositionPart, Verb};
+use view::verb::{ObjectPart, PrepositionPart, Verb};
 
 /// Writes verbs with their programs.
 pub fn put_verbs(page: &mut Page, alloc: Global, verbs: &[Verb]) -> Result<(), AllocError>

@@ -5,7 +5,7 @@ ghost use Rattle.spec_value.specs.Answer.{truth};
 ghost use Rattle.spec_world.specs.World.{Object, object_at};
 ghost use Rattle.spec_moo.specs.Properties.{own_contents, own_location, built_in, row_of, built_in_value, objects_listed};
 ghost use Rattle.moo_value.specs.Answers.{answer_of};
-ghost use Rattle.world.specs.Law.{Lasts, Tells};
+ghost use Rattle.view.specs.Law.{Lasts, Tells};
 ghost use Rattle.rules.specs.BuiltIn.{property_of, attribute_of, flag_of, built_in_at};
 
 use crate::verb_match::words::is_word;
@@ -13,9 +13,9 @@ use moo_value::answer::Answer;
 use moo_value::error::MooError;
 use moo_value::value::Value;
 use std::alloc::{AllocError, Global};
-use world::header::Header;
-use world::law::View;
-use world::readers::{read_contents, read_header};
+use view::header::Header;
+use view::law::View;
+use view::readers::{read_contents, read_header};
 
 /// A property that every object has.
 #[derive(Clone, Copy, PartialEq, Eq, Debug)]

@@ -6,15 +6,15 @@ ghost use Rattle.spec_moo.specs.Scene.{Scene};
 ghost use Rattle.spec_moo.specs.Pending.{Pending};
 ghost use Rattle.spec_moo.specs.Effects.Calls.{verb_effect, above_definer};
 ghost use Rattle.rules.specs.Lines.{AreAgreeing};
-ghost use Rattle.world.specs.Law.{Lasts, StaysSound, Tells};
+ghost use Rattle.view.specs.Law.{Lasts, StaysSound, Tells};
 ghost use Rattle.rules.specs.Calling.{call_effect, verb_error, verb_found};
 
 use crate::inherit::verb::{FoundVerb, find_verb};
 use moo_value::error::MooError;
 use moo_value::value::{Shown, Value};
 use std::alloc::AllocError;
-use world::law::View;
-use world::readers::read_header;
+use view::law::View;
+use view::readers::read_header;
 
 /// The verb that a call of a word on an object runs: `E_TYPE` where they are no object and no text, `E_INVIND` where the object is
 /// not there, `E_VERBNF` where no verb of it may be called so.

@@ -5,7 +5,7 @@ ghost use Rattle.spec_moo.specs.Properties.{read, read_object, found as found_of
 ghost use Rattle.moo_value.specs.Answers.{answer_of};
 ghost use Rattle.moo_value.specs.Errors.{code_of};
 ghost use Rattle.rules.specs.Lines.{AreAgreeing};
-ghost use Rattle.world.specs.Law.{Lasts, StaysSound, Tells};
+ghost use Rattle.view.specs.Law.{Lasts, StaysSound, Tells};
 ghost use Rattle.rules.specs.Reading.{missing_error, read_named};
 
 use crate::access::built_in::{named, read_built_in};
@@ -16,8 +16,8 @@ use moo_value::error::MooError;
 use moo_value::text::Text;
 use moo_value::value::{Shown, Value};
 use std::alloc::{AllocError, Global};
-use world::law::View;
-use world::readers::{read_header, read_slot};
+use view::law::View;
+use view::readers::{read_header, read_slot};
 
 /// The value of a property, by an object and a name, for a programmer: `E_TYPE` where they are no object and no text, `E_INVIND`
 /// where the object is not there, `E_PROPNF` where it has no such property, `E_PERM` where the programmer may not read it.

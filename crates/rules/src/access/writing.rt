@@ -6,7 +6,7 @@ ghost use Rattle.spec_world.specs.Permissions.{is_wizard as is_wizard_of};
 ghost use Rattle.spec_moo.specs.Properties.{own_name, own_owner, write, write_object, with_built_in};
 ghost use Rattle.moo_value.specs.Errors.{code_of};
 ghost use Rattle.rules.specs.Lines.{AreAgreeing};
-ghost use Rattle.world.specs.Law.{Goes, Lasts, Tells};
+ghost use Rattle.view.specs.Law.{Goes, Lasts, Tells};
 ghost use Rattle.rules.specs.BuiltIn.{attribute_of, flag_of, property_of};
 ghost use Rattle.rules.specs.Writing.{IsWritten, write_named, built_in_written, place_error, owner_may as owner_may_of, is_bit as is_bit_of};
 
@@ -17,10 +17,10 @@ use moo_value::error::MooError;
 use moo_value::text::Text;
 use moo_value::value::{Shown, Value};
 use std::alloc::{AllocError, Global};
-use world::header::Header;
-use world::law::View;
-use world::part::Part;
-use world::readers::{read_header, read_slot, write_part, write_value};
+use view::header::Header;
+use view::law::View;
+use view::part::Part;
+use view::readers::{read_header, read_slot, write_part, write_value};
 
 /// Gives a property another value, by an object and a name, for a programmer: `E_TYPE` where they are no object and no text,
 /// `E_INVIND` where the object is not there, `E_PROPNF` where it has no such property; a name wants a text and an owner an

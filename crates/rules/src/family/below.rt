@@ -2,13 +2,13 @@
 ghost use Rattle.std.specs.Prelude.{◌≡◌, ◌<◌, ◌++◌, pos, length, get_or, is_some, IfOk, OnOk, IsTrue};
 ghost use Rattle.spec_world.specs.World.{World, object_at};
 ghost use Rattle.spec_world.specs.Questions.{children_at};
-ghost use Rattle.world.specs.Law.{Lasts, Tells};
+ghost use Rattle.view.specs.Law.{Lasts, Tells};
 ghost use Rattle.rules.specs.Lines.{AreAgreeing};
 ghost use Rattle.rules.specs.Below.{IsFamily, among};
 
 use std::alloc::{AllocError, Global};
-use world::law::View;
-use world::readers::{read_children, read_header};
+use view::law::View;
+use view::readers::{read_children, read_header};
 
 // One more than there can be objects, which have numbers from 0 to 999,999.
 const MOST_ROUNDS: usize = 1_000_001;

@@ -2,16 +2,16 @@
 ghost use Rattle.std.specs.Prelude.{◌≡◌, None, IfOk, OnOk};
 ghost use Rattle.spec_world.specs.Families.{change_object};
 ghost use Rattle.spec_world.specs.Questions.{new_slot};
-ghost use Rattle.world.specs.Meanings.{part_of};
-ghost use Rattle.world.specs.Law.{Goes, Lasts};
+ghost use Rattle.view.specs.Meanings.{part_of};
+ghost use Rattle.view.specs.Law.{Goes, Lasts};
 ghost use Rattle.rules.specs.InTurn.{in_turn};
 ghost use Rattle.rules.specs.Losing.{losing};
 
 use moo_value::text::Text;
 use std::alloc::AllocError;
-use world::law::View;
-use world::part::Part;
-use world::readers::write_part;
+use view::law::View;
+use view::part::Part;
+use view::readers::write_part;
 
 /// Each object loses its slot of a property.
 pub fn lose_slots<V: View>(view: &mut V, objects: &[i32], name: &Text) -> Result<(), AllocError>

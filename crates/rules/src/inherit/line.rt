@@ -1,13 +1,13 @@
 //! Ancestors.
 ghost use Rattle.std.specs.Prelude.{◌≡◌, ℕ, negsuc, IfOk, MatchOption};
 ghost use Rattle.spec_world.specs.Inherit.{ancestors as ancestors_of};
-ghost use Rattle.world.specs.Law.{Lasts, Tells};
+ghost use Rattle.view.specs.Law.{Lasts, Tells};
 ghost use Rattle.rules.specs.Lines.{AreAgreeing, IsAbove, IsParentIn};
 
 use std::alloc::{AllocError, Global};
-use world::header::Header;
-use world::law::View;
-use world::readers::read_header;
+use view::header::Header;
+use view::law::View;
+use view::readers::read_header;
 
 /// An object, its parent, the parent's parent, and so on: empty for an object that is not there.
 pub fn ancestors<V: View>(alloc: Global, view: &mut V, object: i32) -> Result<Vec<i32>, AllocError>

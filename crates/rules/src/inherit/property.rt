@@ -2,16 +2,16 @@
 ghost use Rattle.std.specs.Prelude.{◌≡◌, drop, IfOk};
 ghost use Rattle.spec_world.specs.World.{World};
 ghost use Rattle.spec_world.specs.Inherit.{ancestors, slot_at, first_value, property_value};
-ghost use Rattle.world.specs.Law.{Lasts, Tells};
+ghost use Rattle.view.specs.Law.{Lasts, Tells};
 ghost use Rattle.rules.specs.Lines.{AreAgreeing, IsOwn};
 
 use crate::inherit::line::parent;
 use moo_value::text::Text;
 use moo_value::value::Value;
 use std::alloc::AllocError;
-use world::law::View;
-use world::readers::read_slot;
-use world::slot::Slot;
+use view::law::View;
+use view::readers::read_slot;
+use view::slot::Slot;
 
 /// The value of a property of an object: that of the first slot along the ancestors that is not clear. None where there is no
 /// such property. Case is ignored.

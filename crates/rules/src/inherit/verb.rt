@@ -3,8 +3,8 @@ ghost use Rattle.std.specs.Prelude.{◌≡◌, ◌<◌, ℤ, length, IfOk, IfSom
 ghost use Rattle.spec_world.specs.World.{object_at};
 ghost use Rattle.spec_world.specs.Inherit.{ancestors};
 ghost use Rattle.spec_world.specs.VerbsSought.{find_verb as find_verb_of, find_command_verb as find_command_verb_of, first_on, first_passing, own_first, wants as wants_of, object_fits as object_fits_of, preposition_fits as preposition_fits_of};
-ghost use Rattle.world.specs.Law.{Lasts, Tells};
-ghost use Rattle.world.specs.Parts.{object_part_of, preposition_part_of};
+ghost use Rattle.view.specs.Law.{Lasts, Tells};
+ghost use Rattle.view.specs.Parts.{object_part_of, preposition_part_of};
 ghost use Rattle.rules.specs.Lines.{AreAgreeing};
 ghost use Rattle.rules.specs.Sought.{parts_of, passes as passes_of, first_among as first_among_of, placed};
 
@@ -12,9 +12,9 @@ use crate::inherit::line::parent;
 use crate::verb_match::names::matches;
 use std::alloc::AllocError;
 use std::marker::Model;
-use world::law::View;
-use world::readers::read_verbs;
-use world::verb::{ObjectPart, PrepositionPart, Verb, Verbs};
+use view::law::View;
+use view::readers::read_verbs;
+use view::verb::{ObjectPart, PrepositionPart, Verb, Verbs};
 
 /// A verb that was found, with the object that it stands on. It is shared with its owner, not copied.
 #[derive(Drop)]

@@ -4,15 +4,15 @@ ghost use Rattle.std.specs.Ordering.{int_eq};
 ghost use Rattle.spec_world.specs.World.{object_at};
 ghost use Rattle.spec_world.specs.Inherit.{slot_at};
 ghost use Rattle.spec_world.specs.Permissions.{may as may_of, granted as granted_of, is_wizard as is_wizard_of, is_programmer as is_programmer_of, owns_or as owns_or_of, write_name, list_members, change_members, have_child, program_verb, in_place, on_slot, of_object, of_verb, verb_in};
-ghost use Rattle.world.specs.Law.{Lasts, Tells};
+ghost use Rattle.view.specs.Law.{Lasts, Tells};
 ghost use Rattle.rules.specs.Acts.{act_of};
 
 use crate::permissions::act::Act;
 use moo_value::text::Text;
 use std::alloc::AllocError;
-use world::law::View;
-use world::readers::{read_header, read_slot, read_verbs};
-use world::verb::{Verb, Verbs};
+use view::law::View;
+use view::readers::{read_header, read_slot, read_verbs};
+use view::verb::{Verb, Verbs};
 
 /// Whether a programmer may do something.
 #[tactic(auto, unfolding(spec_world::specs::Permissions::may))]

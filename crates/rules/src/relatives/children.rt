@@ -1,14 +1,14 @@
 //! Children and their parents.
 ghost use Rattle.std.specs.Prelude.{◌≡◌, IfOk, OnOk};
 ghost use Rattle.spec_world.specs.Families.{change_object, lose_child as lose_child_of, add_child as add_child_of, put_below as put_below_of};
-ghost use Rattle.world.specs.Law.{Goes, Lasts};
+ghost use Rattle.view.specs.Law.{Goes, Lasts};
 
 use crate::relatives::lists::{with_last, without};
 use std::alloc::{AllocError, Global};
-use world::header::Header;
-use world::law::View;
-use world::part::Part;
-use world::readers::{read_children, read_header, write_part};
+use view::header::Header;
+use view::law::View;
+use view::part::Part;
+use view::readers::{read_children, read_header, write_part};
 
 /// An object goes over from the children of one parent to those of another, the last. Where a parent is not there nothing changes for it.
 pub fn put_below<V: View>(

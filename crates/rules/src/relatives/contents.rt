@@ -2,14 +2,14 @@
 ghost use Rattle.std.specs.Prelude.{◌≡◌, IfOk, OnOk};
 ghost use Rattle.spec_world.specs.Families.{change_object, out_of_place as out_of_place_of};
 ghost use Rattle.spec_world.specs.Whereabouts.{put_into as put_into_of};
-ghost use Rattle.world.specs.Law.{Goes, Lasts};
+ghost use Rattle.view.specs.Law.{Goes, Lasts};
 
 use crate::relatives::lists::{with_last, without};
 use std::alloc::{AllocError, Global};
-use world::header::Header;
-use world::law::View;
-use world::part::Part;
-use world::readers::{read_contents, read_header, write_part};
+use view::header::Header;
+use view::law::View;
+use view::part::Part;
+use view::readers::{read_contents, read_header, write_part};
 
 /// An object is in the contents of a place no more.
 pub fn out_of_place<V: View>(

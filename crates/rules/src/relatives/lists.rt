@@ -4,7 +4,7 @@ ghost use Rattle.std.specs.Ordering.{int_eq};
 ghost use Rattle.spec_world.specs.WellFormed.{lists};
 
 use std::alloc::{AllocError, Global};
-use world::lists::Objects;
+use view::lists::Objects;
 
 /// Objects but for one.
 pub fn without(alloc: Global, objects: &[i32], object: &i32) -> Result<Objects, AllocError>

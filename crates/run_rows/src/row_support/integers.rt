@@ -1,6 +1,6 @@
 //! The integers in values and properties.
 use moo_value::value::{Shown, Value};
-use world::slot::Slot;
+use view::slot::Slot;
 
 /// The integer that a value is.
 pub fn integer(value: &Value) -> Option<i32> {

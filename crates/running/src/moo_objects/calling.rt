@@ -10,7 +10,7 @@ ghost use Rattle.moo_code.specs.Instruction.{call_verb as call_verb_of, call_fun
 ghost use Rattle.moo_task.specs.Shown.{Around, here};
 ghost use Rattle.rules.specs.Lines.{AreAgreeing};
 ghost use Rattle.rules.specs.Calling.{call_effect};
-ghost use Rattle.world.specs.Law.{Goes, Lasts};
+ghost use Rattle.view.specs.Law.{Goes, Lasts};
 ghost use Rattle.running.specs.Called.{items_of, running, effect_of, shown_called, weighed_effect, Calls, HasList};
 
 use moo_task::moo_machine::call::Call;
@@ -22,7 +22,7 @@ use moo_value::value::{Shown, Value};
 use rules::access::calling::{called_verb, passed_verb};
 use rules::inherit::verb::FoundVerb;
 use std::alloc::{AllocError, Global};
-use world::law::View;
+use view::law::View;
 
 /// What a call of a verb did.
 #[derive(Drop)]

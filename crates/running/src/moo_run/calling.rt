@@ -2,7 +2,7 @@
 ghost use Rattle.std.specs.Prelude.{◌≡◌, ◌<◌, ◌+◌, ◌^◌, false, codes, IfOk, OnOk};
 ghost use Rattle.spec_value.specs.Datum.{Data, list, to_list, same_text};
 ghost use Rattle.rules.specs.Lines.{AreAgreeing};
-ghost use Rattle.world.specs.Law.{Goes, Lasts};
+ghost use Rattle.view.specs.Law.{Goes, Lasts};
 ghost use Rattle.moo_task.specs.Outcomes.{Keeps};
 ghost use Rattle.running.specs.Scenes.{led_at};
 ghost use Rattle.running.specs.Calls.{AreArguments, calls_function_at, calls_native_at};
@@ -18,7 +18,7 @@ use moo_value::items::copied;
 use moo_value::text::Text;
 use moo_value::value::{Shown, Value};
 use std::alloc::{AllocError, Global};
-use world::law::View;
+use view::law::View;
 
 // Why a value is no list of arguments: it is no list, or weighs too much.
 fn refused(arguments: &Value) -> Option<MooError>

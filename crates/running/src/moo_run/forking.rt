@@ -5,7 +5,7 @@ ghost use Rattle.moo_code.specs.Names.{names_of};
 ghost use Rattle.moo_program.specs.Gathering.{forks_in};
 ghost use Rattle.moo_program.specs.Meaning.{some_name_at, body_at};
 ghost use Rattle.rules.specs.Lines.{AreAgreeing};
-ghost use Rattle.world.specs.Law.{Goes, Lasts};
+ghost use Rattle.view.specs.Law.{Goes, Lasts};
 ghost use Rattle.moo_task.specs.Forking.{forks};
 ghost use Rattle.running.specs.Scenes.{led_at};
 
@@ -15,8 +15,8 @@ use moo_task::moo_forks::fork::{Fork, start_fork};
 use moo_task::outcome::Outcome;
 use moo_task::running::Running;
 use std::alloc::{AllocError, Global};
-use world::law::View;
-use world::readers::write_task;
+use view::law::View;
+use view::readers::write_task;
 
 /// A task is forked, which the fork tells by the slot of its variable, if it has one, and by its number among those of the verb's
 /// program.

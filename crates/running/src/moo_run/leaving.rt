@@ -4,7 +4,7 @@ ghost use Rattle.spec_moo.specs.Scene.{Scene};
 ghost use Rattle.moo_task.specs.Meant.{failure_meant, leaving_meant};
 ghost use Rattle.spec_moo.specs.Leaving.{returned, failed, broken, continued};
 ghost use Rattle.rules.specs.Lines.{AreAgreeing};
-ghost use Rattle.world.specs.Law.{Goes, Lasts};
+ghost use Rattle.view.specs.Law.{Goes, Lasts};
 ghost use Rattle.moo_task.specs.Frames.{native_of};
 ghost use Rattle.moo_task.specs.Outcomes.{led, Keeps};
 ghost use Rattle.running.specs.Scenes.{led_at, IsSettled};
@@ -21,7 +21,7 @@ use moo_task::outcome::{End, Outcome};
 use moo_task::running::Running;
 use moo_value::value::Value;
 use std::alloc::{AllocError, Global};
-use world::law::View;
+use view::law::View;
 
 /// A leaving goes out of the verb that runs, into what waits for it.
 pub fn out_of_verb<V: View, N: Natives>(

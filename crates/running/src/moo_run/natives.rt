@@ -2,7 +2,7 @@
 ghost use Rattle.std.specs.Prelude.{◌≡◌, IfOk, OnOk};
 ghost use Rattle.spec_moo.specs.Natives.{native as native_does, native_turn};
 ghost use Rattle.rules.specs.Lines.{AreAgreeing};
-ghost use Rattle.world.specs.Law.{Goes, Lasts};
+ghost use Rattle.view.specs.Law.{Goes, Lasts};
 ghost use Rattle.moo_task.specs.Frames.{native_of};
 ghost use Rattle.running.specs.Scenes.{caller_of, scene_at, effect_at};
 
@@ -13,7 +13,7 @@ use moo_task::running::Running;
 use moo_value::text::Text;
 use moo_value::value::Value;
 use std::alloc::{AllocError, Global};
-use world::law::View;
+use view::law::View;
 
 /// Built-in functions over a view. What they change besides the world are the deeds of the step.
 pub trait Natives {

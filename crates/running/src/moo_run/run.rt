@@ -1,7 +1,7 @@
 //! Runs of tasks.
 ghost use Rattle.std.specs.Prelude.{◌≡◌, IfOk, OnOk};
 ghost use Rattle.rules.specs.Lines.{AreAgreeing};
-ghost use Rattle.world.specs.Law.{Goes, Lasts};
+ghost use Rattle.view.specs.Law.{Goes, Lasts};
 ghost use Rattle.moo_task.specs.Outcomes.{running_kept};
 ghost use Rattle.running.specs.Stopping.{IsUnderWay, StopsAsSegment, stopped_at};
 
@@ -13,7 +13,7 @@ use moo_task::deeds::Deeds;
 use moo_task::outcome::Outcome;
 use moo_task::running::Running;
 use std::alloc::{AllocError, Global};
-use world::law::View;
+use view::law::View;
 
 /// Runs a task, which begins or goes on behind a call, until it stops.
 pub fn run<V: View, N: Natives>(

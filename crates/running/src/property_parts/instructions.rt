@@ -4,7 +4,7 @@ ghost use Rattle.moo_code.specs.Instruction.{in_property, length_of, target_at, 
 ghost use Rattle.moo_program.specs.Meaning.{bracketed};
 ghost use Rattle.moo_value.specs.Answers.{answer_of};
 ghost use Rattle.rules.specs.Lines.{AreAgreeing};
-ghost use Rattle.world.specs.Law.{Goes, Lasts};
+ghost use Rattle.view.specs.Law.{Goes, Lasts};
 ghost use Rattle.running.specs.Worlds.{Does, answer_stored};
 ghost use Rattle.running.specs.Targets.{count_in as count_in_of};
 
@@ -18,7 +18,7 @@ use moo_value::answer::Answer;
 use moo_value::error::MooError;
 use moo_value::value::Value;
 use std::alloc::{AllocError, Global};
-use world::law::View;
+use view::law::View;
 
 /// `$` in brackets behind a part of a property, where the values of its object, its name and the brackets before begin above so
 /// many operands.

@@ -4,7 +4,7 @@ ghost use Rattle.spec_moo.specs.Effects.Lists.{length_in};
 ghost use Rattle.moo_value.specs.Answers.{answer_of};
 ghost use Rattle.running.specs.Targets.{part_answer, whole_answer};
 ghost use Rattle.rules.specs.Lines.{AreAgreeing};
-ghost use Rattle.world.specs.Law.{Goes, Lasts, Tells};
+ghost use Rattle.view.specs.Law.{Goes, Lasts, Tells};
 ghost use Rattle.rules.specs.Writing.{IsWritten};
 ghost use Rattle.running.specs.Parts.{part_there, part_written};
 
@@ -17,7 +17,7 @@ use moo_value::value::Value;
 use rules::access::reading::read_property;
 use rules::access::writing::write_property;
 use std::alloc::{AllocError, Global};
-use world::law::View;
+use view::law::View;
 
 /// The length, for `$`, of what stands behind brackets of what a property holds.
 pub fn length_there<V: View>(

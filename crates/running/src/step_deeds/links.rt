@@ -5,15 +5,15 @@ ghost use Rattle.spec_world.specs.Links.{close_link as close_link_of};
 ghost use Rattle.spec_world.specs.SpecViewLaws.{first as first_of};
 ghost use Rattle.spec_moo.specs.Linking.{link_closed};
 ghost use Rattle.moo_task.specs.Deeds.{scene_of};
-ghost use Rattle.world.specs.Law.{Goes, Lasts, Tells};
+ghost use Rattle.view.specs.Law.{Goes, Lasts, Tells};
 ghost use Rattle.rules.specs.Lines.{AreAgreeing};
 ghost use Rattle.rules.specs.Standing.{IsStanding};
 ghost use Rattle.running.specs.Closing.{without_readers};
 
 use moo_task::deeds::Deeds;
 use std::alloc::AllocError;
-use world::law::View;
-use world::readers::{read_connections, read_readers, write_link, write_task};
+use view::law::View;
+use view::readers::{read_connections, read_readers, write_link, write_task};
 
 /// The connection of an object that has a link.
 pub fn connection<V: View>(view: &mut V, object: i32) -> Result<Option<i32>, AllocError>

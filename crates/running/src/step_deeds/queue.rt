@@ -4,14 +4,14 @@ ghost use Rattle.spec_moo.specs.Scene.{enqueued};
 ghost use Rattle.spec_moo.specs.Scene.{due_of as due_when};
 ghost use Rattle.moo_task.specs.Deeds.{scene_of, due_of};
 ghost use Rattle.moo_task.specs.Effects.{waiting_of};
-ghost use Rattle.world.specs.Law.{Goes, Lasts};
+ghost use Rattle.view.specs.Law.{Goes, Lasts};
 
 use moo_task::deeds::{Deeds, Due, Queued};
 use moo_task::effect::Waiting;
 use moo_task::task::Task;
 use std::alloc::AllocError;
-use world::law::View;
-use world::readers::write_task;
+use view::law::View;
+use view::readers::write_task;
 
 /// A task is put into the queue at an id. One that is there already is replaced.
 pub fn enqueue<V: View>(

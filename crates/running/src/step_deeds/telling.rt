@@ -3,13 +3,13 @@ ghost use Rattle.std.specs.Prelude.{◌≡◌, ◌++◌, ℕ, Some, OnOk, map};
 ghost use Rattle.spec_world.specs.World.{World};
 ghost use Rattle.spec_moo.specs.Steps.Running.{told, told_on, lines_to};
 ghost use Rattle.moo_task.specs.Deeds.{scene_of, told_of};
-ghost use Rattle.world.specs.Law.{Lasts, Tells};
+ghost use Rattle.view.specs.Law.{Lasts, Tells};
 
 use crate::step_deeds::links::connection;
 use moo_task::deeds::{Deeds, Told};
 use moo_value::text::Text;
 use std::alloc::AllocError;
-use world::law::View;
+use view::law::View;
 
 /// Lines for the link that an object has, if it has one. They do not count among those that a step may tell.
 pub fn tell<V: View>(

@@ -9,7 +9,7 @@ use crate::task_checks::spelled::task_is_spelled;
 use crate::tree_checks::tree::tree_is_spelled;
 use std::alloc::{AllocError, Global};
 use world::draft::Draft;
-use world::verb::Verb;
+use view::verb::Verb;
 
 /// Whether texts spell the programs of all verbs of objects, and of all verbs of tasks that wait.
 #[tactic(auto, using(crate::proofs::Spelling::texts_spell))]

@@ -11,7 +11,7 @@ use crate::object_checks::names::{are_filled, slots_follow};
 use crate::object_checks::way::Way;
 use std::alloc::{AllocError, Global};
 use world::draft::Draft;
-use world::object::Object;
+use view::object::Object;
 
 /// Whether each of these objects agrees with its neighbours.
 pub fn all_agree(

@@ -12,7 +12,7 @@ use crate::object_checks::way::{Way, down, up};
 use crate::table_checks::marks::Marks;
 use crate::table_checks::once::{are_places, is_placed};
 use world::draft::Draft;
-use world::object::Object;
+use view::object::Object;
 
 const NOWHERE: i32 = -1;
 

@@ -12,7 +12,7 @@ use crate::table_checks::once::is_once;
 use crate::table_checks::rise::rise;
 use std::alloc::{AllocError, Global};
 use world::draft::Draft;
-use world::link::Link;
+use view::link::Link;
 
 const LAST_CONNECTION: i32 = 999_999;
 

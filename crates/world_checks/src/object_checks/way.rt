@@ -2,7 +2,7 @@
 ghost use Rattle.std.specs.Prelude.{◌≡◌};
 ghost use Rattle.world_checks.specs.Ways.{up_of, down_of};
 
-use world::object::Object;
+use view::object::Object;
 
 /// A way up from objects: to parents, or to locations. The way back leads to children, or to contents.
 #[derive(Clone, Copy)]

@@ -1,7 +1,7 @@
 use Rattle.std.proofs.Common.{rules, subst}
 use Rattle.spec_world.specs.Questions.{Agrees}
 use Rattle.spec_world.specs.Step.{Step}
-use Rattle.world.specs.Sound.{IsSound}
+use Rattle.view.specs.Sound.{IsSound}
 use Rattle.speculate.specs.declared.held.Held.{Held}
 use Rattle.speculate.specs.declared.held.Held.TheVariants.{Holds}
 use Rattle.speculate.specs.BoardState.{FitsStep}

@@ -1,4 +1,4 @@
-use Rattle.world.proofs.SoundKeeps.{sound_valued, sound_raised}
+use Rattle.view.proofs.SoundKeeps.{sound_valued, sound_raised}
 use Rattle.world.proofs.keeping.changes.Goals as goal
 
 pub returns-clause-values : goal.returns-clause-values

@@ -1,6 +1,6 @@
 use Rattle.std.proofs.Common.{sym, subst}
 use Rattle.spec_world.specs.World.{World}
-use Rattle.world.specs.Sound.{IsSound}
+use Rattle.view.specs.Sound.{IsSound}
 use Rattle.world_fixture.proofs.RoomsAreSound.{endless_is_sound}
 use Rattle.world_fixture.proofs.rooms.fixture_with_endless_verb.Goals as goal
 

@@ -2,7 +2,7 @@ use Rattle.std.proofs.Common.{◌≡◌, sym, ap, ◌∙◌, subst, rules, w32, 
 use Rattle.std.proofs.lemmas.Int.{to_z-of_z}
 use Rattle.spec_world.specs.World.{Header, object_at}
 use Rattle.spec_world.specs.Families.{parent_of}
-use Rattle.world.specs.Law.{Tells}
+use Rattle.view.specs.Law.{Tells}
 use Rattle.builtins.proofs.Parents.{parent_told}
 use Rattle.builtins.proofs.builtins_objects.chparent.parent_of.Goals as goal
 

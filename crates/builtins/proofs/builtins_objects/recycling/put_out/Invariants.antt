@@ -1,5 +1,5 @@
 use Rattle.std.proofs.Common.{◌≡◌, drop}
-use Rattle.world.specs.Law.{Goes}
+use Rattle.view.specs.Law.{Goes}
 use Rattle.spec_world.specs.Families.{to_nowhere}
 use Rattle.builtins.proofs.builtins_objects.recycling.put_out.Given as goal
 

@@ -1,5 +1,5 @@
 use Rattle.std.proofs.Common.{◌≡◌, drop}
-use Rattle.world.specs.Law.{Goes}
+use Rattle.view.specs.Law.{Goes}
 use Rattle.spec_world.specs.World.{World}
 use Rattle.spec_world.specs.Families.{reparented_each}
 use Rattle.rules.specs.Lines.{AreAgreeing}

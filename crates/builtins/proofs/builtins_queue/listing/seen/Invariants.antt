@@ -1,5 +1,5 @@
 use Rattle.std.proofs.Common.{◌≡◌, ◌++◌, drop}
-use Rattle.world.specs.Law.{Tells}
+use Rattle.view.specs.Law.{Tells}
 use Rattle.builtins.specs.Listed.{seen_of}
 use Rattle.builtins.proofs.builtins_queue.listing.seen.Given as goal
 

@@ -1,6 +1,6 @@
 use Rattle.std.proofs.Common.{◌≡◌}
 use Rattle.spec_world.specs.Whereabouts.{is_inside}
-use Rattle.world.specs.Law.{Tells}
+use Rattle.view.specs.Law.{Tells}
 use Rattle.rules.specs.Lines.{AreAgreeing}
 use Rattle.builtins.proofs.Ways.{places_ahead}
 use Rattle.builtins.proofs.builtins_staged.places.is_inside.Given as goal

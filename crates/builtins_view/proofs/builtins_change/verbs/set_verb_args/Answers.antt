@@ -2,7 +2,7 @@ use Rattle.std.proofs.Common.{[], ◌∷◌, w32, subst}
 use Rattle.std.proofs.lemmas.Int.{to_z-of_z}
 use Rattle.std.specs.Prelude.{IfOk}
 use Rattle.moo_value.specs.Answers.{answer_of}
-use Rattle.world.specs.Law.{Goes}
+use Rattle.view.specs.Law.{Goes}
 use Rattle.builtins_view.specs.Said.{Does}
 use Rattle.builtins_view.specs.BuiltinsChangeLater.{specified}
 use Rattle.spec_value.specs.Datum.{object as object_of}

@@ -4,7 +4,7 @@ use Rattle.std.specs.Prelude.{IfOk}
 use Rattle.spec_value.specs.Datum.{object as object_of, text as text_value}
 use Rattle.spec_moo.specs.Natives.Properties.{add_property_row}
 use Rattle.moo_value.specs.Answers.{answer_of}
-use Rattle.world.specs.Law.{Goes}
+use Rattle.view.specs.Law.{Goes}
 use Rattle.builtins_view.specs.Said.{Does}
 use Rattle.builtins_view.proofs.Keeping.{leaves_well}
 use Rattle.builtins_view.specs.BuiltinsChangeListed.{owner_and_bits}

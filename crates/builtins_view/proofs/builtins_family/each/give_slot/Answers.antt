@@ -2,7 +2,7 @@ use Rattle.std.proofs.Common.{◌≡◌, OnOk, ap, ◌∙◌, subst, rules, w32,
 use Rattle.std.proofs.lemmas.Int.{to_z-of_z}
 use Rattle.spec_world.specs.World.{Header}
 use Rattle.spec_world.specs.Inherit.{with_slot}
-use Rattle.world.specs.Law.{Goes}
+use Rattle.view.specs.Law.{Goes}
 use Rattle.builtins_view.specs.Slots.{slot_for}
 use Rattle.builtins_view.proofs.Slots.{got_told}
 use Rattle.builtins_view.proofs.builtins_family.each.give_slot.Goals as goal

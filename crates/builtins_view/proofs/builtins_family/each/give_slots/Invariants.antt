@@ -1,5 +1,5 @@
 use Rattle.std.proofs.Common.{◌≡◌, drop}
-use Rattle.world.specs.Law.{Goes}
+use Rattle.view.specs.Law.{Goes}
 use Rattle.rules.specs.InTurn.{in_turn}
 use Rattle.builtins_view.specs.Slots.{getting}
 use Rattle.builtins_view.proofs.builtins_family.each.give_slots.Given as goal

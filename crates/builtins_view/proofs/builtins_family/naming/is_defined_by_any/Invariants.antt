@@ -1,5 +1,5 @@
 use Rattle.std.proofs.Common.{◌≡◌, drop}
-use Rattle.world.specs.Law.{Tells}
+use Rattle.view.specs.Law.{Tells}
 use Rattle.builtins_view.specs.Slots.{any_defines}
 use Rattle.builtins_view.proofs.builtins_family.naming.is_defined_by_any.Given as goal
 

@@ -1,5 +1,5 @@
 use Rattle.std.proofs.Common.{◌≡◌, ◌++◌, ◌-◌}
-use Rattle.world.specs.Law.{Tells}
+use Rattle.view.specs.Law.{Tells}
 use Rattle.builtins_view.specs.Counting.{players_from}
 use Rattle.builtins_view.proofs.builtins_players.listing.among.Given as goal
 

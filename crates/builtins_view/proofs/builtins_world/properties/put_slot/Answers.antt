@@ -1,6 +1,6 @@
 use Rattle.std.proofs.Common.{w32, to_z, of_z}
 use Rattle.std.proofs.lemmas.Int.{to_z-of_z}
-use Rattle.world.specs.Meanings.{part_of}
+use Rattle.view.specs.Meanings.{part_of}
 use Rattle.builtins_view.proofs.BuiltinsWorldChanges.{put_told}
 use Rattle.builtins_view.proofs.builtins_world.properties.put_slot.Goals as goal
 

@@ -1,5 +1,5 @@
 use Rattle.std.proofs.Common.{◌≡◌, ◌++◌, drop}
-use Rattle.world.specs.Law.{Tells}
+use Rattle.view.specs.Law.{Tells}
 use Rattle.builtins_view.specs.Along.{names_on}
 use Rattle.builtins_view.proofs.reparenting.along.names_along.Given as goal
 

@@ -1,5 +1,5 @@
 use Rattle.std.proofs.Common.{◌≡◌, drop}
-use Rattle.world.specs.Law.{Tells}
+use Rattle.view.specs.Law.{Tells}
 use Rattle.builtins_view.specs.Clashes.{any_clashes}
 use Rattle.builtins_view.proofs.reparenting.clashes.any_clashes.Given as goal
 

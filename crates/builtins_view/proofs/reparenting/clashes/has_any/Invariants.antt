@@ -1,5 +1,5 @@
 use Rattle.std.proofs.Common.{◌≡◌, drop}
-use Rattle.world.specs.Law.{Tells}
+use Rattle.view.specs.Law.{Tells}
 use Rattle.std.specs.List.{list_any}
 use Rattle.builtins_view.specs.Clashes.{has_slot}
 use Rattle.builtins_view.proofs.reparenting.clashes.has_any.Given as goal

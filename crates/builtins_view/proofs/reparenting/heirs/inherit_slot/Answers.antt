@@ -3,7 +3,7 @@ use Rattle.std.proofs.lemmas.Int.{to_z-of_z}
 use Rattle.spec_world.specs.World.{Header}
 use Rattle.spec_world.specs.Inherit.{with_slot}
 use Rattle.spec_world.specs.Families.{heir_slot}
-use Rattle.world.specs.Law.{Goes}
+use Rattle.view.specs.Law.{Goes}
 use Rattle.builtins_view.proofs.OneHeir.{heir_told}
 use Rattle.builtins_view.proofs.reparenting.heirs.inherit_slot.Goals as goal
 

@@ -1,5 +1,5 @@
 use Rattle.std.proofs.Common.{◌≡◌, drop}
-use Rattle.world.specs.Law.{Goes}
+use Rattle.view.specs.Law.{Goes}
 use Rattle.builtins_view.specs.Heirs.{inherit_down}
 use Rattle.builtins_view.proofs.reparenting.heirs.inherit_slots.Given as goal
 

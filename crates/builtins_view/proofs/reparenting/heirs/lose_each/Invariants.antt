@@ -1,5 +1,5 @@
 use Rattle.std.proofs.Common.{◌≡◌, drop}
-use Rattle.world.specs.Law.{Goes}
+use Rattle.view.specs.Law.{Goes}
 use Rattle.builtins_view.specs.Heirs.{lose_each}
 use Rattle.builtins_view.proofs.reparenting.heirs.lose_each.Given as goal
 

@@ -4,7 +4,7 @@ use Rattle.spec_world.specs.World.{Header, object_at}
 use Rattle.spec_world.specs.Questions.{header_at}
 use Rattle.spec_world.specs.VerbsSought.{find_verb}
 use Rattle.spec_moo.specs.Effects.Calls.{above_definer}
-use Rattle.world.specs.Law.{Tells}
+use Rattle.view.specs.Law.{Tells}
 use Rattle.rules.proofs.Tellings.{if_ok_as, told_as, told_on}
 use Rattle.rules.proofs.CallRules.{passed_above, passed_nowhere}
 use Rattle.rules.proofs.StaysSound.{lasts_on, sound_told}

@@ -4,7 +4,7 @@ use Rattle.spec_value.specs.Datum.{Text, text}
 use Rattle.spec_world.specs.World.{object_at}
 use Rattle.spec_moo.specs.Properties.{read, read_object}
 use Rattle.moo_value.specs.Answers.{answer_of}
-use Rattle.world.specs.Law.{Tells}
+use Rattle.view.specs.Law.{Tells}
 use Rattle.rules.proofs.Tellings.{if_ok_as, told_as}
 use Rattle.rules.proofs.ReadRules.{read_as}
 use Rattle.rules.proofs.access.reading.read_property.Goals as goal

@@ -3,7 +3,7 @@ use Rattle.std.proofs.lemmas.Int.{to_z-of_z}
 use Rattle.spec_value.specs.Datum.{Text, text}
 use Rattle.spec_world.specs.World.{object_at}
 use Rattle.spec_moo.specs.Properties.{write, write_object}
-use Rattle.world.specs.Law.{Goes}
+use Rattle.view.specs.Law.{Goes}
 use Rattle.rules.proofs.Tellings.{if_ok_as}
 use Rattle.rules.specs.Writing.{IsWritten}
 use Rattle.rules.proofs.WriteRules.{write_as, written_as}

@@ -3,7 +3,7 @@ use Rattle.std.proofs.lemmas.Int.{to_z-of_z}
 use Rattle.std.specs.Prelude.{is_some}
 use Rattle.spec_world.specs.World.{World, object_at}
 use Rattle.spec_world.specs.Questions.{header_at}
-use Rattle.world.specs.Law.{Tells}
+use Rattle.view.specs.Law.{Tells}
 use Rattle.rules.proofs.Tellings.{if_ok_as, known_on, told_as, told_on}
 use Rattle.rules.specs.Below.{IsFamily}
 use Rattle.rules.proofs.Walking.{no_family, shown_there}

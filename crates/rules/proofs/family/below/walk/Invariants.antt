@@ -1,5 +1,5 @@
 use Rattle.std.proofs.Common.{◌≡◌}
-use Rattle.world.specs.Law.{Tells}
+use Rattle.view.specs.Law.{Tells}
 use Rattle.rules.specs.Lines.{AreAgreeing}
 use Rattle.rules.specs.Below.{Walked}
 use Rattle.rules.proofs.family.below.walk.Given as goal

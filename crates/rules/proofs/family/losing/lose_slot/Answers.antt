@@ -1,6 +1,6 @@
 use Rattle.std.proofs.Common.{w32, to_z, of_z}
 use Rattle.std.proofs.lemmas.Int.{to_z-of_z}
-use Rattle.world.specs.Meanings.{part_of}
+use Rattle.view.specs.Meanings.{part_of}
 use Rattle.rules.proofs.OneByOne.{lost_told}
 use Rattle.rules.proofs.family.losing.lose_slot.Goals as goal
 

@@ -1,5 +1,5 @@
 use Rattle.std.proofs.Common.{◌≡◌, drop}
-use Rattle.world.specs.Law.{Goes}
+use Rattle.view.specs.Law.{Goes}
 use Rattle.rules.specs.InTurn.{in_turn}
 use Rattle.rules.specs.Losing.{losing}
 use Rattle.rules.proofs.family.losing.lose_slots.Given as goal

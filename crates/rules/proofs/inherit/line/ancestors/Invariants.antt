@@ -1,6 +1,6 @@
 use Rattle.std.proofs.Common.{◌≡◌, ◌++◌}
 use Rattle.spec_world.specs.Inherit.{ancestors}
-use Rattle.world.specs.Law.{Tells}
+use Rattle.view.specs.Law.{Tells}
 use Rattle.rules.specs.Lines.{AreAgreeing, from, size}
 use Rattle.rules.proofs.inherit.line.ancestors.Given as goal
 

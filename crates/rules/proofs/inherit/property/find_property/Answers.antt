@@ -1,7 +1,7 @@
 use Rattle.std.proofs.Common.{◌≡◌, w32}
 use Rattle.std.proofs.lemmas.Int.{to_z-of_z}
 use Rattle.spec_world.specs.Inherit.{slot_at, property_value}
-use Rattle.world.specs.Law.{Tells}
+use Rattle.view.specs.Law.{Tells}
 use Rattle.rules.proofs.Tellings.{if_ok_as, known_on, told_on}
 use Rattle.rules.proofs.inherit.property.find_property.Goals as goal
 

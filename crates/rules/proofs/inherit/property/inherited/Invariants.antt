@@ -1,6 +1,6 @@
 use Rattle.std.proofs.Common.{◌≡◌, drop}
 use Rattle.spec_world.specs.Inherit.{ancestors, first_value}
-use Rattle.world.specs.Law.{Tells}
+use Rattle.view.specs.Law.{Tells}
 use Rattle.rules.specs.Lines.{AreAgreeing, from, size}
 use Rattle.rules.proofs.inherit.property.inherited.Given as goal
 

@@ -1,7 +1,7 @@
 use Rattle.std.proofs.Common.{◌≡◌, drop, ◌∙◌, w32}
 use Rattle.std.proofs.lemmas.Int.{to_z-of_z}
 use Rattle.spec_world.specs.Inherit.{ancestors, slot_at, first_value, property_value}
-use Rattle.world.specs.Law.{Tells}
+use Rattle.view.specs.Law.{Tells}
 use Rattle.rules.proofs.Walks.{settled_value, clear_value}
 use Rattle.rules.proofs.Tellings.{if_ok_as, told_before, told_with}
 use Rattle.rules.proofs.inherit.property.value_of.Goals as goal

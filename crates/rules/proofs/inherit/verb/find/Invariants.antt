@@ -1,7 +1,7 @@
 use Rattle.std.proofs.Common.{◌≡◌}
 use Rattle.spec_world.specs.Inherit.{ancestors}
 use Rattle.spec_world.specs.VerbsSought.{first_on}
-use Rattle.world.specs.Law.{Tells}
+use Rattle.view.specs.Law.{Tells}
 use Rattle.rules.specs.Lines.{AreAgreeing, from, size}
 use Rattle.rules.specs.Sought.{passes}
 use Rattle.rules.proofs.inherit.verb.find.Given as goal

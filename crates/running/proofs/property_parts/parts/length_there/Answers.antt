@@ -2,7 +2,7 @@ use Rattle.std.proofs.Common.{◌≡◌, ◌∷◌, sym, subst, arith, rules, �
 use Rattle.spec_value.specs.Datum.{Datum}
 use Rattle.spec_moo.specs.Effects.Lists.{length_in}
 use Rattle.moo_value.specs.Answers.{answer_of}
-use Rattle.world.specs.Law.{Tells}
+use Rattle.view.specs.Law.{Tells}
 use Rattle.running.specs.Parts.{part_there}
 use Rattle.running.proofs.Writing.{parted, others, none_told, length_told}
 use Rattle.running.proofs.property_parts.parts.length_there.Goals as goal

@@ -3,7 +3,7 @@ use Rattle.std.specs.Prelude.{Err}
 use Rattle.spec_value.specs.Datum.{Datum}
 use Rattle.spec_moo.specs.Properties.{read}
 use Rattle.moo_value.specs.Answers.{answer_of}
-use Rattle.world.specs.Law.{Goes}
+use Rattle.view.specs.Law.{Goes}
 use Rattle.rules.proofs.Tellings.{known_on}
 use Rattle.rules.specs.Writing.{IsWritten}
 use Rattle.running.specs.Parts.{part_written}

@@ -1,6 +1,6 @@
 use Rattle.std.proofs.Common.{Option, refl, subst, unwrap_or}
 use Rattle.spec_world.specs.World.{World}
-use Rattle.world.specs.Sound.{IsSound}
+use Rattle.view.specs.Sound.{IsSound}
 use Rattle.world.proofs.fork.Forked+Draft.keep.Goals as goal
 
 pub replace-requires : goal.replace-requires

@@ -1,6 +1,6 @@
 use Rattle.std.proofs.Common.{◌≡◌, map, drop}
 use Rattle.spec_world.specs.Questions.{apply_all}
-use Rattle.world.specs.Meanings.{change_of}
+use Rattle.view.specs.Meanings.{change_of}
 use Rattle.world.proofs.worlds.World.changed.Given as goal
 
 abbrev pub invariant-loop-change : goal.invariant-loop-change

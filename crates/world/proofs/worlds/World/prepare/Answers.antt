@@ -1,6 +1,6 @@
 use Rattle.std.proofs.Common.{sym, subst}
 use Rattle.spec_world.specs.World.{World}
-use Rattle.world.specs.Sound.{IsSound}
+use Rattle.view.specs.Sound.{IsSound}
 use Rattle.world.proofs.worlds.World.prepare.Goals as goal
 
 pub invariant_of-result : goal.invariant_of-result

@@ -1,6 +1,6 @@
 use Rattle.std.proofs.Common.{false, sym, subst}
 use Rattle.spec_world.specs.World.{World}
-use Rattle.world.specs.Sound.{IsSound}
+use Rattle.view.specs.Sound.{IsSound}
 use Rattle.world.proofs.Settled.{settled_is_sound}
 use Rattle.world.proofs.worlds.World.reopen.Goals as goal
 

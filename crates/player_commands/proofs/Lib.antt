@@ -1,0 +1,11 @@
+mod Fronts
+mod Reading
+mod Spaces
+pub mod Numbers
+pub mod Fits
+pub mod Tallies
+pub mod NamingRules
+pub mod Requests
+pub mod VerbRules
+pub mod LineRules
+pub mod ProgramRules

@@ -1,0 +1,7 @@
+pub mod Behind
+pub mod Cutting
+pub mod CommandLinesMeant
+pub mod Numbers
+pub mod Fits
+pub mod Meanings
+pub mod Openings

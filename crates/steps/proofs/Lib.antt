@@ -1,0 +1,13 @@
+pub mod Beginnings
+pub mod StepsPlaying
+pub mod Values
+pub mod Accepted
+pub mod Codings
+pub mod Relinks
+pub mod Endings
+pub mod Runs
+pub mod Dues
+pub mod Logins
+pub mod Resuming
+pub mod StepsSteps
+pub mod Typed

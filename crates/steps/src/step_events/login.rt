@@ -1,0 +1,100 @@
+//! Logins.
+ghost use Rattle.std.specs.Prelude.{◌≡◌, IfOk, IsTrue, codes};
+ghost use Rattle.spec_value.specs.Datum.{Data, list};
+ghost use Rattle.spec_world.specs.WellFormed.{is_connection};
+ghost use Rattle.spec_world.specs.Links.{connection_object as connection_object_of};
+ghost use Rattle.spec_moo.specs.Steps.Running.{run as run_of, system_task as system_task_of};
+ghost use Rattle.spec_moo.specs.Steps.Events.{login as login_of, after_login, foreground_ticks};
+ghost use Rattle.moo_task.specs.Deeds.{scene_of};
+ghost use Rattle.view.specs.Law.{Goes, Lasts};
+ghost use Rattle.steps.specs.StepsPerformed.{StepsTo};
+ghost use Rattle.steps.specs.Ready.{AreReady};
+
+use crate::step_links::logins::{accept, connection_object};
+use crate::step_runs::run::{Ran, run_task};
+use crate::step_tasks::opening::{FOREGROUND_TICKS, nothing};
+use crate::step_tasks::outcome::outcome;
+use crate::step_tasks::system::{on_system, system_task};
+use moo_task::deeds::Deeds;
+use moo_value::text::Text;
+use moo_value::value::Value;
+use rules::inherit::verb::FoundVerb;
+use running::moo_run::natives::Natives;
+use std::alloc::{AllocError, Global};
+use task_step::outcome::Outcome;
+use view::law::View;
+
+/// A login: `#0:do_login_command` is called for the connection.
+pub fn login<V: View, N: Natives>(
+    alloc: Global,
+    view: &mut V,
+    natives: &mut N,
+    deeds: Deeds,
+    connection: i32,
+    argstr: Text,
+    arguments: Value,
+) -> Result<Outcome, AllocError>
+    requires home { V.holds view.old (V.home view.old) }
+    requires ready { AreReady V.holds V.now view.old deeds }
+    requires list { (args : Data) × (arguments ≡ list args) }
+    requires connection { IsTrue (is_connection connection) }
+    ensures lasts { Lasts V.holds V.home V.anchor view.old view.new result }
+    ensures played { IfOk result (λ o. (args : Data) → arguments ≡ list args → Goes V.holds V.now view.old view.new
+        (λ before after. StepsTo (login_of (scene_of deeds before foreground_ticks) connection argstr args) after o)) }
+{
+    let found = on_system(view, "do_login_command")?;
+    match found {
+        Some(found) => {
+            let outcome = log_in(
+                alloc, view, natives, deeds, connection, argstr, arguments, &found,
+            )?;
+            Ok(outcome)
+        }
+        None => {
+            let outcome = nothing(alloc, &deeds)?;
+            Ok(outcome)
+        }
+    }
+}
+
+// The verb that was found is called.
+fn log_in<V: View, N: Natives>(
+    alloc: Global,
+    view: &mut V,
+    natives: &mut N,
+    deeds: Deeds,
+    connection: i32,
+    argstr: Text,
+    arguments: Value,
+    found: &FoundVerb,
+) -> Result<Outcome, AllocError>
+    requires home { V.holds view.old (V.home view.old) }
+    requires ready { AreReady V.holds V.now view.old deeds }
+    requires list { (args : Data) × (arguments ≡ list args) }
+    requires connection { IsTrue (is_connection connection) }
+    ensures lasts { Lasts V.holds V.home V.anchor view.old view.new result }
+    ensures played { IfOk result (λ o. (args : Data) → arguments ≡ list args → Goes V.holds V.now view.old view.new
+        (λ before after. StepsTo (after_login connection (run_of (scene_of deeds before foreground_ticks)
+        (system_task_of (connection_object_of connection) (codes "do_login_command") argstr args found.now))) after o)) }
+{
+    let object = connection_object(connection);
+    let task = system_task(
+        alloc,
+        object,
+        "do_login_command",
+        argstr,
+        arguments,
+        found,
+        FOREGROUND_TICKS,
+    )?;
+    let ran = run_task(alloc, view, natives, deeds, task)?;
+    let Ran {
+        ending,
+        mut deeds,
+        ticks_left: _,
+        ticks_used,
+    } = ran;
+    accept(alloc, view, &mut deeds, connection, &ending)?;
+    let outcome = outcome(alloc, &deeds, ending, ticks_used)?;
+    Ok(outcome)
+}

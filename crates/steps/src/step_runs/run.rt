@@ -1,0 +1,78 @@
+//! Tasks that run until they stop.
+ghost use Rattle.std.specs.Prelude.{◌≡◌, ◌-◌, IfOk};
+ghost use Rattle.spec_moo.specs.Pending.{Pending};
+ghost use Rattle.spec_moo.specs.Steps.Running.{run as run_of};
+ghost use Rattle.moo_task.specs.Deeds.{scene_of};
+ghost use Rattle.moo_task.specs.Outcomes.{ticks_of};
+ghost use Rattle.view.specs.Law.{Goes, Lasts};
+ghost use Rattle.steps.specs.StepsPerformed.{HasValue};
+ghost use Rattle.steps.specs.Ready.{AreReady};
+ghost use Rattle.steps.specs.Stops.{HasRun, left_at};
+ghost use Rattle.steps.specs.Tasks.{MayRun};
+
+use crate::step_runs::ending::after_stop;
+use moo_task::deeds::Deeds;
+use moo_task::running::Running;
+use running::moo_run::natives::Natives;
+use running::moo_run::run::run;
+use running::moo_run::stopped::{Stop, Stopped};
+use std::alloc::{AllocError, Global};
+use task_step::outcome::Ending;
+use view::law::View;
+
+/// What the run of a task came to.
+#[derive(Drop)]
+pub struct Ran {
+    /// How it ended.
+    pub ending: Ending,
+    /// What the step has done.
+    pub deeds: Deeds,
+    /// The ticks that the machine had left.
+    pub ticks_left: u32,
+    /// The ticks that were used.
+    pub ticks_used: u32,
+}
+
+/// Runs a task until it stops, and does what its end does.
+pub fn run_task<V: View, N: Natives>(
+    alloc: Global,
+    view: &mut V,
+    natives: &mut N,
+    deeds: Deeds,
+    task: Running,
+) -> Result<Ran, AllocError>
+    requires home { V.holds view.old (V.home view.old) }
+    requires ready { AreReady V.holds V.now view.old deeds }
+    requires runs { (p : Pending) × MayRun task p }
+    ensures lasts { Lasts V.holds V.home V.anchor view.old view.new result }
+    ensures ran { IfOk result (λ r. (p : Pending) → MayRun task p → Goes V.holds V.now view.old view.new
+        (λ before after. HasRun (run_of (scene_of deeds before (ticks_of task)) p) after r)) }
+    ensures ready { IfOk result (λ r. HasValue r.ending → AreReady V.holds V.now view.new r.deeds) }
+{
+    let player = task.player;
+    let given = task.frame.state.ticks;
+    let stopped = run(alloc, view, natives, deeds, task)?;
+    let Stopped {
+        stop,
+        mut deeds,
+        ticks_left,
+    } = stopped;
+    let ticks_used = given.saturating_sub(left(&stop, ticks_left));
+    let ending = after_stop(alloc, view, &mut deeds, player, stop)?;
+    Ok(Ran {
+        ending,
+        deeds,
+        ticks_left,
+        ticks_used,
+    })
+}
+
+// The ticks that are left: none where a charge found none.
+fn left(stop: &Stop, ticks_left: u32) -> u32
+    ensures { result ≡ left_at stop.now ticks_left }
+{
+    match stop {
+        Stop::OutOfTicks(_) => 0,
+        Stop::Ends(_) | Stop::Waits(_, _, _) => ticks_left,
+    }
+}

@@ -1,0 +1,58 @@
+//! Verbs that begin a task.
+ghost use Rattle.std.specs.Prelude.{◌≡◌, IfOk};
+ghost use Rattle.spec_value.specs.Datum.{Data, list};
+ghost use Rattle.spec_moo.specs.Steps.Running.{begun};
+ghost use Rattle.moo_task.specs.Outcomes.{ticks_of};
+ghost use Rattle.steps.specs.Tasks.{MayRun, called_as as called_as_of};
+
+use moo_program::program::Program;
+use moo_task::moo_machine::call::{Call, Start};
+use moo_task::running::Running;
+use moo_task::start::SharedStart;
+use moo_value::text::Text;
+use moo_value::value::Value;
+use rules::inherit::verb::FoundVerb;
+use std::alloc::{AllocError, Global};
+
+/// A task that begins with a verb, whose variable `verb` holds a word.
+pub fn begin(
+    alloc: Global,
+    player: i32,
+    call: Call,
+    word: Text,
+    start: Start,
+    arguments: Value,
+    program: Program,
+    ticks: u32,
+) -> Result<Running, AllocError>
+    ensures runs { IfOk result (λ r. (args : Data) → arguments ≡ list args → MayRun r (begun player call word start args program)) }
+    ensures ticks { IfOk result (λ r. ticks_of r ≡ ticks) }
+{
+    let called = called_as(&call, word);
+    let start = SharedStart::new(alloc, start)?;
+    let mut task = Running::start(alloc, player, start, called, program, arguments, ticks)?;
+    task.frame.call = call;
+    Ok(task)
+}
+
+// Who runs the verb, by another name.
+fn called_as(call: &Call, word: Text) -> Call
+    ensures { result ≡ called_as_of call.now word }
+{
+    Call {
+        this: call.this,
+        caller: call.caller,
+        definer: call.definer,
+        programmer: call.programmer,
+        verb: word,
+        debug: call.debug,
+    }
+}
+
+/// The program of a verb that was found.
+pub fn program_of(found: &FoundVerb) -> Result<Program, AllocError>
+    ensures { IfOk result (λ p. p ≡ (found.now.verb).program) }
+{
+    let verb = found.verb();
+    verb.program.whole().clone()
+}

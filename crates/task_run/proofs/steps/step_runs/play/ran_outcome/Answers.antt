@@ -1,4 +1,0 @@
-use Rattle.task_run.proofs.steps.step_runs.play.ran_outcome.Goals as goal
-
-pub returns : goal.returns
-returns c w = c.in_ok-outcome.ensures w c.args.ran.ticks_left

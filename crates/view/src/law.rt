@@ -1,0 +1,45 @@
+//! What a view promises.
+ghost use Rattle.std.specs.Prelude.{◌≡◌, ℕ, IfOk, OnOk};
+ghost use Rattle.spec_world.specs.World.{World};
+ghost use Rattle.spec_world.specs.Questions.{ask, apply};
+ghost use Rattle.view.specs.Meanings.{question_of, answer_of, change_of};
+ghost use Rattle.view.specs.Law.{Goes, Keeps, Lasts, Tells};
+
+use crate::change::Change;
+use crate::question::{Answer, Question};
+use std::alloc::AllocError;
+
+/// A world that a step reads and changes.
+///
+/// A view stands for pairs of worlds: the one at its start, and the one now. Some of the worlds that the start may have been
+/// go as answers come in, but never the one that the answers come from, its home.
+pub trait View {
+    /// The worlds that the start may have been.
+    ghost holds: { Self → World → Type 0 };
+
+    /// The world now, for a start.
+    ghost now: { Self → World → World };
+
+    /// The start that the answers come from.
+    ghost home: { Self → World };
+
+    /// The borrow in which the view lies, if it lies in one, and how many views were opened there.
+    ghost anchor: { Self → ℕ × ℕ };
+
+    /// The answer to a question. After an `Err` the view is only to be dropped or undone.
+    fn get(&mut self, question: &Question) -> Result<Answer, AllocError>
+        ensures lasts { Lasts holds home anchor self.old self.new result }
+        ensures answer { IfOk result (λ a. answer_of a ≡ ask (now self.old (home self.old)) (question_of question.now)) }
+        ensures left { IfOk result (λ a. Tells holds now self.old self.new (λ w. ask w (question_of question.now) ≡ answer_of a)) }
+
+        // A start that gives the home's answer, at its start and now, stays.
+        ensures kept { IfOk result (λ a. (w : World) → holds self.old w →
+            ask w (question_of question.now) ≡ ask (home self.old) (question_of question.now) →
+            ask (now self.old w) (question_of question.now) ≡ answer_of a → holds self.new w) };
+
+    /// A change. After an `Err` the view is only to be dropped or undone.
+    fn put(&mut self, change: Change) -> Result<(), AllocError>
+        ensures lasts { Lasts holds home anchor self.old self.new result }
+        ensures left { OnOk result (Goes holds now self.old self.new (λ before after. after ≡ apply (change_of change) before)) }
+        ensures kept { OnOk result (Keeps holds self.old self.new) };
+}

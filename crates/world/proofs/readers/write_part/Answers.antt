@@ -1,6 +1,0 @@
-use Rattle.std.proofs.Common.{w32}
-use Rattle.std.proofs.lemmas.Int.{to_z-of_z}
-use Rattle.world.proofs.readers.write_part.Goals as goal
-
-pub returns-clause-left : goal.returns-clause-left
-returns-clause-left g c = rw (to_z-of_z w32 c.args.object c.ranges.object) at c.put.ensures.left

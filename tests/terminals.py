@@ -68,8 +68,8 @@ def found(*names):
     return None
 
 
-def passes_over(name):
-    print(f"tests/terminals.sh: no {name} here, so it is passed over", file=sys.stderr)
+def lacks(name, so="it is passed over"):
+    print(f"tests/terminals.sh: no {name} here, so {so}", file=sys.stderr)
 
 
 def wants_gone(server):
@@ -191,16 +191,16 @@ def tinyfugue():
 
 def rows():
     if not found("nc", "netcat", "ncat"):
-        passes_over("nc")
+        lacks("nc", "a few lines of Python stand in")
     yield nc
     if not found("tmux"):
-        passes_over("tmux, so no client gets a terminal")
+        lacks("tmux", "no client gets a terminal")
         return
     for row, *names in ((telnet, "telnet"), (tintin, "tt++"), (tinyfugue, "tf", "tf5")):
         if found(*names):
             yield row
         else:
-            passes_over(names[0])
+            lacks(names[0])
 
 
 sys.exit(play_rows("tests/terminals.py", rows()))

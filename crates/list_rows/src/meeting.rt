@@ -35,12 +35,8 @@ impl Meeting {
 
     /// Whether both workers met, in two calls.
     pub fn was_held(&self) -> bool {
-        self.was_met() && self.calls.load(Ordering::SeqCst) == 2
-    }
-
-    /// Whether both workers met, in any number of calls.
-    pub fn was_met(&self) -> bool {
-        self.missed.load(Ordering::SeqCst) == 0
+        self.calls.load(Ordering::SeqCst) == 2
+            && self.missed.load(Ordering::SeqCst) == 0
             && self.begun.load(Ordering::SeqCst) == 1
             && self.answered.load(Ordering::SeqCst) == 1
     }

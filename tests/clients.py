@@ -2,6 +2,7 @@
 """clients.py PORT PID [descriptors | shutdown]: clients of a moo-server over the fixture on this port, whose process is known. Says what went wrong, and
 ends with status 1 then. With `descriptors`, the server has but a few descriptors; with `shutdown`, it is told to end."""
 import os
+import re
 import socket
 import struct
 import sys
@@ -368,6 +369,102 @@ def shutdown():
         time.sleep(0.1)
 
 
+# Streams with the replies and the lines that RFC 854 and the rules of the line give them.
+STREAMS = [
+    # Options are refused, in the middle of a line too.
+    (b"lo\xff\xfd\x01ok\r\n", b'\xff\xfc\x01', [b'look']),
+    (b"a\xff\xfb\x03b\n", b'\xff\xfe\x03', [b'ab']),
+    (b"a\xff\xfc\x03\xff\xfe\x01b\n", b'', [b'ab']),
+    (b"\xff\xfd\xff\xff\xfb\xff", b'\xff\xfc\xff\xff\xfe\xff', []),
+    (b"\xff\xfd\r\n", b'\xff\xfc\r', [b'']),
+    # Line ends.
+    (b"a\r\nb\nc", b'', [b'a', b'b']),
+    (b"a\r\x00b\n", b'', [b'ab']),
+    (b"a\rb\n", b'', [b'ab']),
+    (b"a\x00b\r\n", b'', [b'ab']),
+    (b"\r\r\n\n\r", b'', [b'', b'']),
+    (b"a\r\xff\xf1\nb\r\x00\n", b'', [b'a', b'b']),
+    (b"a\r\xff\n", b'', [b'a']),
+    # Erasing.
+    (b"\xff\xf7a\r\n", b'', [b'a']),
+    (b"abc\xff\xf7\xff\xf7d\n", b'', [b'ad']),
+    (b"ab\x01\xff\xf7\n", b'', [b'a']),
+    (b"ab\xff\xf8c\n\xff\xf8\n", b'', [b'c', b'']),
+    (b"ab\nc\xff\xf7\xff\xf7\n", b'', [b'ab', b'']),
+    # Are you there.
+    (b"a\xff\xf6b\n", b'[Yes]\r\n', [b'ab']),
+    # Subnegotiations, with an IAC as data, with a command inside, not closed, closed by the first IAC SE.
+    (b"\xff\xfa\x18\xff\xff\x01\xff\xf0a\n", b'', [b'a']),
+    (b"\xff\xfa\xff\xf0a\n", b'', [b'a']),
+    (b"\xff\xfa\x18\xff\xfd\x01\xff\xf6\r\n\xff\xf0a\n", b'', [b'a']),
+    (b"a\n\xff\xfa\x18b\n\xf0c\n", b'', [b'a']),
+    (b"\xff\xfa\x18\xff\xff\xf0b\n\xff\xf0a\n", b'', [b'a']),
+    # 255 as data, an IAC before a byte below 240, and bytes that are no characters.
+    (b"a\xff\xffb\n", b'', [b'ab']),
+    (b"a\xffb\n\xff\nc\xff\r\n", b'', [b'ab', b'', b'c']),
+    (b"\xff\xff\xfd\x01a\n", b'', [b'a']),
+    (b"a\t~ \x7f\x1f\x80\xef\n", b'', [b'a\t~ ']),
+    (b"", b'', []),
+]
+
+# Each command from SE on: the replies and the lines of `ab`, the command, `xy` and a line end, and those without `xy`.
+COMMANDS = [
+    (240, (b'', [b'abxy']), (b'', [b'ab'])),
+    (241, (b'', [b'abxy']), (b'', [b'ab'])),
+    (242, (b'', [b'abxy']), (b'', [b'ab'])),
+    (243, (b'', [b'abxy']), (b'', [b'ab'])),
+    (244, (b'', [b'abxy']), (b'', [b'ab'])),
+    (245, (b'', [b'abxy']), (b'', [b'ab'])),
+    (246, (b'[Yes]\r\n', [b'abxy']), (b'[Yes]\r\n', [b'ab'])),
+    (247, (b'', [b'axy']), (b'', [b'a'])),
+    (248, (b'', [b'xy']), (b'', [b''])),
+    (249, (b'', [b'abxy']), (b'', [b'ab'])),
+    (250, (b'', []), (b'', [])),
+    (251, (b'\xff\xfex', [b'aby']), (b'\xff\xfe\r', [b'ab'])),
+    (252, (b'', [b'aby']), (b'', [b'ab'])),
+    (253, (b'\xff\xfcx', [b'aby']), (b'\xff\xfc\r', [b'ab'])),
+    (254, (b'', [b'aby']), (b'', [b'ab'])),
+    (255, (b'', [b'abxy']), (b'', [b'ab'])),
+]
+
+# A character many times, what comes after it, and the length of the line.
+LONG_LINES = [(4095, b"", 4095), (4096, b"", 4096), (4097, b"", 4096), (10000, b"", 4096), (10000, b"\xff\xf7", 4095), (10000, b"\xff\xf7yz", 4096)]
+
+
+def told(stream, cut):
+    """The replies to a stream that comes in two pieces, and the lines that it has, on a link that is told each of its lines as a literal."""
+    link = connect(greeted=False)
+    wants("the first line of an open link", read(link, 4), b'""\r\n')
+    link.sendall(stream[:cut])
+    link.sendall(stream[cut:])
+    link.shutdown(socket.SHUT_WR)
+    got = read(link, 1 << 30)
+    link.close()
+    lines = re.compile(rb'"([^"\n]*)"\r\n')
+    return lines.sub(b"", got), lines.findall(got)
+
+
+def streams():
+    """Whole streams, over sockets. Links on which nobody has logged in are told what they say."""
+    wizard = log_in(b"#2")
+    says("a verb to be programmed", wizard, b".program #0:do_login_command", b"Now programming #0:do_login_command.")
+    says("a verb that is programmed", wizard, b"notify(player, toliteral(argstr));\r\n.", b"Verb programmed.")
+    for stream, replies, lines in STREAMS:
+        wants(f"the stream {stream!r}", told(stream, len(stream) // 2), (replies, lines))
+    for command, behind, alone in COMMANDS:
+        wants(f"command {command} in a line", told(b"ab" + bytes([255, command]) + b"xy\r\n", 3), behind)
+        wants(f"command {command} at a line's end", told(b"ab" + bytes([255, command]) + b"\r\n", 3), alone)
+    for options in (range(128), range(128, 256)):
+        stream = b"".join(bytes([255, 253, option, 255, 251, option]) for option in options)
+        replies = b"".join(bytes([255, 252, option, 255, 254, option]) for option in options)
+        wants("every option", told(stream, 5), (replies, []))
+    for count, after, length in LONG_LINES:
+        replies, lines = told(count * b"x" + after + b"\n", 3000)
+        wants(f"a line of {count} and {after!r}", (replies, [len(line) for line in lines]), (b"", [length]))
+    wizard.close()
+    settle()
+
+
 if sys.argv[3:] == ["descriptors"]:
     few_descriptors()
 elif sys.argv[3:] == ["shutdown"]:
@@ -387,4 +484,5 @@ else:
     beside("noise", noise)
     if os.path.exists(f"/proc/{pid}/stat"):
         idle()
+    streams()
 sys.exit(failures > 0)

@@ -1,7 +1,5 @@
-//! Rows of what stands on no other crate of worlds or tasks: tables, and lines of Telnet streams.
+//! Rows of tables of shared blocks.
 #![tactic(auto)]
 
-#[cfg(test)]
-mod streams;
 #[cfg(test)]
 mod tables;

@@ -5,9 +5,9 @@ ghost use Rattle.spec_moo.specs.Steps.{play1};
 ghost use Rattle.view.specs.Law.{Goes, AreSound};
 ghost use Rattle.task_run.specs.Performed.{StepsTo};
 
-use steps::step_events::play::play_step;
 use builtins::builtin_natives::builtins::Builtins;
 use std::alloc::{AllocError, Global};
+use steps::step_events::play::play_step;
 use task_step::outcome::Outcome;
 use task_step::step::Step;
 use view::law::View;

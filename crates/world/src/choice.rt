@@ -5,11 +5,11 @@ ghost use Rattle.std.specs.Ordering.{int_eq};
 ghost use Rattle.world.specs.Numbered.{signed_key};
 ghost use Rattle.world.specs.Picked.{chosen};
 
-use view::link::Link;
 use crate::records::Compared;
 use crate::tasks::id_of;
 use moo_task::task::Task;
 use std::alloc::{AllocError, Global};
+use view::link::Link;
 use world_table::Table;
 
 /// Something of some records.

@@ -7,8 +7,15 @@ ghost use Rattle.spec_world.specs.Questions.{header_at, children_at, contents_at
 ghost use Rattle.view.specs.Meanings.{question_of, answer_of, part_of, change_of};
 ghost use Rattle.world.specs.Numbered.{numbered};
 
-use view::change::Change;
 use crate::choice::{AllNumbers, LinksOf, LoggedIn, gather, is_gathered};
+use crate::records::{put_record, record_at, same_records, set_record};
+use crate::tasks::Tasks;
+use moo_task::task::Task;
+use moo_value::text::Text;
+use moo_value::value::Value;
+use std::alloc::{AllocError, Global};
+use std::marker::Model;
+use view::change::Change;
 use view::header::Header;
 use view::link::Link;
 use view::lists::{Names, Numbers, Objects, Players};
@@ -16,15 +23,8 @@ use view::object::Object;
 use view::part::Part;
 use view::question::{Answer, Question};
 use view::reads::Reads;
-use crate::records::{put_record, record_at, same_records, set_record};
 use view::slot::Slot;
-use crate::tasks::Tasks;
 use view::verb::Verbs;
-use moo_task::task::Task;
-use moo_value::text::Text;
-use moo_value::value::Value;
-use std::alloc::{AllocError, Global};
-use std::marker::Model;
 use world_table::Table;
 
 // No step has this number.

@@ -5,11 +5,11 @@ ghost use Rattle.view.specs.Meanings.{question_of, answer_of, change_of};
 ghost use Rattle.view.specs.Sound.{IsSound};
 ghost use Rattle.world.specs.Forks.{start_of, changed_in, borrow_of, IsKeepable};
 
-use view::change::Change;
 use crate::draft::Draft;
-use view::question::{Answer, Question};
 use crate::worlds::World;
 use std::alloc::AllocError;
+use view::change::Change;
+use view::question::{Answer, Question};
 
 /// The changes stand in a fork of the world's records until they are kept. Dropped, it leaves the world as it was.
 pub struct Forked<'w, T> {

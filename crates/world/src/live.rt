@@ -5,12 +5,12 @@ ghost use Rattle.view.specs.Meanings.{question_of, answer_of, change_of};
 ghost use Rattle.view.specs.Law.{Goes, Keeps};
 ghost use Rattle.world.specs.Forks.{start_of, changed_in, borrow_of};
 
-use view::change::Change;
 use crate::draft::Draft;
 use crate::fork::{Fork, Forked};
+use std::alloc::AllocError;
+use view::change::Change;
 use view::law::View;
 use view::question::{Answer, Question};
-use std::alloc::AllocError;
 
 /// A view of the world itself.
 pub type Live<'w> = Fork<'w>;

@@ -5,10 +5,10 @@ ghost use Rattle.spec_value.specs.Table.{at, with};
 ghost use Rattle.spec_world.specs.Questions.{put_record as changed_record};
 ghost use Rattle.world.specs.Numbered.{numbered};
 
-use view::link::Link;
-use view::object::Object;
 use moo_task::task::Task;
 use std::alloc::AllocError;
+use view::link::Link;
+use view::object::Object;
 use world_table::Table;
 
 /// The greatest number that an object or a link may have.

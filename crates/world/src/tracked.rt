@@ -7,14 +7,14 @@ ghost use Rattle.view.specs.Sound.{IsSound};
 ghost use Rattle.view.specs.Law.{Goes, Keeps};
 ghost use Rattle.world.specs.Trace.{Trace, IsStart, world_now};
 
-use view::change::Change;
 use crate::draft::Draft;
-use view::law::View;
-use view::question::{Answer, Question};
-use view::reads::{Changes, Reads};
 use crate::worlds::Snapshot;
 use std::alloc::{AllocError, Global};
 use std::marker::Model;
+use view::change::Change;
+use view::law::View;
+use view::question::{Answer, Question};
+use view::reads::{Changes, Reads};
 
 /// A view of a snapshot. It keeps the questions with the snapshot's answers, and the changes; the snapshot stays as it is.
 #[derive(Drop)]

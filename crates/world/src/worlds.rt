@@ -7,11 +7,11 @@ ghost use Rattle.view.specs.Sound.{IsSound};
 use crate::count::Count;
 use crate::draft::Draft;
 use crate::prepared::Prepared;
-use view::question::{Answer, Question};
-use view::reads::{Changes, Reads};
 use std::alloc::{AllocError, Global};
 use std::marker::Model;
 use std::snapshot::Snapshot as Remembered;
+use view::question::{Answer, Question};
+use view::reads::{Changes, Reads};
 
 /// A world. It is well formed.
 #[derive(Drop)]

@@ -7,13 +7,13 @@ use crate::fixture_verbs::{box_verbs, room_verbs, system_verbs};
 use moo_value::text::Text;
 use moo_value::value::Value;
 use std::alloc::{AllocError, Global};
-use world::draft::Draft;
 use view::header::Header;
 use view::link::Link;
 use view::object::{Lists, Object};
 use view::slot::Slot;
 use view::slots::Slots;
 use view::verb::Verbs;
+use world::draft::Draft;
 use world::worlds::World;
 
 pub(crate) const NOWHERE: i32 = -1;

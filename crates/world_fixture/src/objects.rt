@@ -5,8 +5,8 @@ ghost use Rattle.world_fixture.specs.Objects as meant;
 
 use crate::fixture::{NOWHERE, header, plain, records};
 use std::alloc::{AllocError, Global};
-use world::draft::Draft;
 use view::object::Object;
+use world::draft::Draft;
 use world::worlds::World;
 
 /// The number of the first object behind those of the fixture.

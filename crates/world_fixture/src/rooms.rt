@@ -6,10 +6,10 @@ ghost use Rattle.world_fixture.specs.Rooms as meant;
 use crate::fixture::{NOWHERE, header, plain, records, room_of};
 use crate::room_verbs::{counting_verbs, endless_verbs};
 use std::alloc::{AllocError, Global};
-use world::draft::Draft;
 use view::link::Link;
 use view::object::Object;
 use view::verb::Verbs;
+use world::draft::Draft;
 use world::worlds::World;
 
 /// The fixture with 64 more rooms. In each a player with a link is alone, and may count as in the fixture's own room or run the verb `total`, which

@@ -4,11 +4,11 @@ use crate::object_records::object::ObjectRecord;
 use moo_value::text::Text;
 use std::alloc::{AllocError, Global};
 use view::change::Change;
-use world::draft::Draft;
 use view::object::Object;
 use view::slot::Slot;
 use view::slots::Slots;
 use view::verb::Verbs;
+use world::draft::Draft;
 
 /// The objects of some records, into a draft: whether that could be done. It can't where an object has another number of slots
 /// than there are properties along its parents, or where parents go round.

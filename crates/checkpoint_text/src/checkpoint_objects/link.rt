@@ -7,9 +7,9 @@ ghost use Rattle.checkpoint_text.specs.CheckpointObjectsLines.{link_line};
 
 use crate::checkpoint_fields::page::Page;
 use std::alloc::AllocError;
-use world::draft::Draft;
 use view::link::{Link, Programming};
 use view::lists::Lines;
+use world::draft::Draft;
 
 /// Writes the links of these numbers.
 pub fn put_links(page: &mut Page, draft: &Draft, numbers: &[i32]) -> Result<(), AllocError>

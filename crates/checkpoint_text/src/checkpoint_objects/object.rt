@@ -11,9 +11,9 @@ use crate::checkpoint_objects::shortcut::Shortcut;
 use crate::checkpoint_objects::slot::put_slots;
 use crate::checkpoint_objects::verb::put_verbs;
 use std::alloc::{AllocError, Global};
-use world::draft::Draft;
 use view::header::Header;
 use view::object::Object;
+use world::draft::Draft;
 
 /// Writes the objects of these numbers.
 pub fn put_objects(

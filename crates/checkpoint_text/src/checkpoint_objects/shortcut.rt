@@ -5,8 +5,8 @@ ghost use Rattle.std.specs.Prelude.{◌≡◌, ◌-◌, ◌⊎◌, [], IfOk, IsT
 ghost use Rattle.checkpoint_text.specs.Shortcuts.{Leads, GoesOn, AllGoOn, ArePassed};
 
 use std::alloc::{AllocError, Global};
-use world::draft::Draft;
 use view::object::Object;
+use world::draft::Draft;
 
 /// So many objects, from one upwards, define no property. Behind them comes another number.
 #[derive(Clone, Copy)]

@@ -12,9 +12,9 @@ use crate::checkpoint_objects::shortcut::{Shortcut, beyond, parent};
 use moo_value::text::Text;
 use moo_value::value::Value;
 use std::alloc::{AllocError, Global};
-use world::draft::Draft;
 use view::object::Object;
 use view::slot::Slot;
+use world::draft::Draft;
 
 /// Writes the slots of an object: of the properties that it defines, then of those of its parent, and so on.
 pub fn put_slots(

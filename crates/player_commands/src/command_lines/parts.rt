@@ -8,8 +8,8 @@ ghost use Rattle.player_commands.specs.CommandLinesMeant.{parts_of, with_front, 
 
 use crate::command_lines::behind::{first_part, spaces};
 use crate::command_lines::words::words;
-use rules::verb_match::prepositions::find_preposition;
 use moo_value::text::{Text, back};
+use rules::verb_match::prepositions::find_preposition;
 use std::alloc::{AllocError, Global};
 
 /// The parts of a line.

@@ -14,10 +14,10 @@ ghost use Rattle.player_commands.specs.Openings.{opened, begun, place_among};
 
 use crate::command_parser::request::Request;
 use crate::object_match::naming::name_object;
+use moo_value::text::Text;
 use rules::permissions::act::Act;
 use rules::permissions::may::may;
 use rules::verb_match::names::matches;
-use moo_value::text::Text;
 use std::alloc::{AllocError, Global};
 use view::law::View;
 use view::readers::read_verbs;

@@ -6,8 +6,8 @@ ghost use Rattle.view.specs.Law.{Lasts, Tells};
 ghost use Rattle.player_commands.specs.Meanings.{named_of, meant_of, meant_in_room, meant_by_objects};
 
 use crate::command_parser::command::{Meant, Said};
-use rules::inherit::verb::find_command_verb;
 use crate::object_match::place::location;
+use rules::inherit::verb::find_command_verb;
 use std::alloc::AllocError;
 use view::law::View;
 

@@ -6,10 +6,10 @@ ghost use Rattle.rules.specs.Lines.{AreAgreeing};
 ghost use Rattle.view.specs.Law.{Lasts, Tells};
 ghost use Rattle.player_commands.specs.Fits.{some_fit, named_in, object_fit, with_objects};
 
-use rules::inherit::property::find_property;
 use crate::object_match::fit::{Fit, NO_FIT};
 use crate::object_match::tally::Matches;
 use moo_value::text::Text;
+use rules::inherit::property::find_property;
 use std::alloc::AllocError;
 use view::header::Header;
 use view::law::View;

@@ -8,8 +8,8 @@ ghost use Rattle.world_checks.specs.Spelled.{ObjectSpelledAt, TaskSpelledAt};
 use crate::task_checks::spelled::task_is_spelled;
 use crate::tree_checks::tree::tree_is_spelled;
 use std::alloc::{AllocError, Global};
-use world::draft::Draft;
 use view::verb::Verb;
+use world::draft::Draft;
 
 /// Whether texts spell the programs of all verbs of objects, and of all verbs of tasks that wait.
 #[tactic(auto, using(crate::proofs::Spelling::texts_spell))]

@@ -10,8 +10,8 @@ use crate::object_checks::kin::agrees_along;
 use crate::object_checks::names::{are_filled, slots_follow};
 use crate::object_checks::way::Way;
 use std::alloc::{AllocError, Global};
-use world::draft::Draft;
 use view::object::Object;
+use world::draft::Draft;
 
 /// Whether each of these objects agrees with its neighbours.
 pub fn all_agree(

@@ -11,8 +11,8 @@ use crate::object_checks::guess::Guess;
 use crate::object_checks::way::{Way, down, up};
 use crate::table_checks::marks::Marks;
 use crate::table_checks::once::{are_places, is_placed};
-use world::draft::Draft;
 use view::object::Object;
+use world::draft::Draft;
 
 const NOWHERE: i32 = -1;
 

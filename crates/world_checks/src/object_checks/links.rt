@@ -11,8 +11,8 @@ ghost use Rattle.world_checks.specs.Persons.{person_of};
 use crate::table_checks::once::is_once;
 use crate::table_checks::rise::rise;
 use std::alloc::{AllocError, Global};
-use world::draft::Draft;
 use view::link::Link;
+use world::draft::Draft;
 
 const LAST_CONNECTION: i32 = 999_999;
 

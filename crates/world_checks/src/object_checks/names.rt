@@ -11,10 +11,10 @@ use crate::object_checks::way::{Way, up};
 use crate::table_checks::merge::is_merge;
 use moo_value::text::Text;
 use std::alloc::{AllocError, Global};
-use world::draft::Draft;
 use view::object::Object;
 use view::slot::Slot;
 use view::slots::Slots;
+use world::draft::Draft;
 
 /// Whether an object defines each property once, its parent has no slot of that name, and it has a slot for each of these and of its
 /// parent's, and no other.

@@ -5,8 +5,13 @@ from worlds import Literal, World, loop
 
 CALLS = sized(30, 1)
 LIMIT = 0.020
-SIZE = sized(65535, 500)
+# The items of the heaviest list, and the characters of the heaviest text. The arguments of a call are a list too, which may not be heavier: ALONE is the
+# most that one argument may have, BESIDE the most of one beside a number, PAIR the most of each of two, and with a quarter goes LONG.
+SIZE = sized(65535, 1500)
 HALF = SIZE // 2
+ALONE, BESIDE, PAIR = SIZE - 1, SIZE - 2, HALF - 1
+QUARTER = SIZE // 4
+LONG = SIZE - QUARTER - 6
 
 
 def many(item, count=SIZE):
@@ -19,16 +24,20 @@ def letters(count=SIZE, first="", last=""):
 
 def words():
     """Texts of 256 characters that differ in their ends."""
-    return [253 * "a" + f"{number:03}" for number in range(SIZE // 257)]
+    return [253 * "a" + f"{number:03}" for number in range(SIZE // 257 - 1)]
+
+
+def nest(depth):
+    """A list that nests so deep."""
+    return Literal(depth * "{" + "0" + depth * "}")
 
 
 NUMBERS = many("-2147483648")
 TEXTS = many('""')
 LISTS = many("{}")
 ERRORS = many("E_ARGS")
-NEST = Literal(SIZE * "{" + "0" + SIZE * "}")
-NEST_BELOW = Literal((SIZE - 1) * "{" + "0" + (SIZE - 1) * "}")
-LESS_NUMBERS, LESS_TEXTS = many("-2147483648", SIZE - 1), many('""', SIZE - 1)
+NEST, NEST_BELOW = nest(SIZE), nest(SIZE - 1)
+LESS_NUMBERS, LESS_TEXTS = many("-2147483648", BESIDE), many('""', BESIDE)
 
 # What is called, and its operands a, b and c. `n` is the size of a list or a text.
 CASES = [
@@ -40,26 +49,26 @@ CASES = [
     ("a[1] = b, text", "a[1] = b;", letters(), "b"),
     ("a[2..n] = b, text", "a[2..n] = b;", letters(), letters(SIZE - 1)),
     ("a[n + 1..0] = b, text", "`a[n + 1..0] = b ! ANY';", letters(), "a"),
-    ("tostr(a), text", "tostr(a);", letters()),
-    ("tostr(a, b), texts", "tostr(a, b);", letters(HALF), letters(HALF)),
+    ("tostr(a), text", "tostr(a);", letters(ALONE)),
+    ("tostr(a, b), texts", "tostr(a, b);", letters(PAIR), letters(PAIR)),
     ("toliteral(a), text", "toliteral(a);", letters(SIZE - 2)),
-    ("toliteral(a), text of quotes", "`toliteral(a) ! ANY';", SIZE * '"'),
-    ("toint(a), text of spaces", "toint(a);", SIZE * " "),
-    ("toint(a), text of letters", "toint(a);", letters()),
-    ("toobj(a), text of spaces", "toobj(a);", SIZE * " "),
-    ("equal(a, b), texts", "equal(a, b);", letters(), letters()),
-    ("strcmp(a, b)", "strcmp(a, b);", letters(), letters()),
-    ("index(a, b), not there", "index(a, b);", letters(), letters(HALF, last="b")),
-    ("index(a, b, 1), not there", "index(a, b, 1);", letters(), letters(HALF, last="b")),
-    ("index(a, b), in other letters", "index(a, b);", letters(), letters().upper()),
-    ("index(a, b), short and not there", "index(a, b);", letters(), "ab"),
-    ("rindex(a, b), not there", "rindex(a, b);", letters(), letters(HALF, first="b")),
-    ("rindex(a, b, 1), not there", "rindex(a, b, 1);", letters(), letters(HALF, first="b")),
-    ("strsub(a, b, c), each character", "strsub(a, b, c);", letters(), "a", "a"),
-    ("strsub(a, b, c), each dropped", "strsub(a, b, c, 1);", letters(), "a", ""),
-    ("strsub(a, b, c), too long", "`strsub(a, b, c) ! ANY';", letters(), "a", letters()),
-    ("strsub(a, b, c), not there", "strsub(a, b, c);", letters(), letters(HALF, last="b"), "a"),
-    ("strsub(a, b, c), half of it", "strsub(a, b, c);", letters(2 * HALF), letters(HALF), letters(HALF)),
+    ("toliteral(a), text of quotes", "`toliteral(a) ! ANY';", ALONE * '"'),
+    ("toint(a), text of spaces", "toint(a);", ALONE * " "),
+    ("toint(a), text of letters", "toint(a);", letters(ALONE)),
+    ("toobj(a), text of spaces", "toobj(a);", ALONE * " "),
+    ("equal(a, b), texts", "equal(a, b);", letters(PAIR), letters(PAIR)),
+    ("strcmp(a, b)", "strcmp(a, b);", letters(PAIR), letters(PAIR)),
+    ("index(a, b), not there", "index(a, b);", letters(LONG), letters(QUARTER, last="b")),
+    ("index(a, b, 1), not there", "index(a, b, 1);", letters(LONG), letters(QUARTER, last="b")),
+    ("index(a, b), in other letters", "index(a, b);", letters(PAIR), letters(PAIR).upper()),
+    ("index(a, b), short and not there", "index(a, b);", letters(SIZE - 5), "ab"),
+    ("rindex(a, b), not there", "rindex(a, b);", letters(LONG), letters(QUARTER, first="b")),
+    ("rindex(a, b, 1), not there", "rindex(a, b, 1);", letters(LONG), letters(QUARTER, first="b")),
+    ("strsub(a, b, c), each character", "strsub(a, b, c);", letters(SIZE - 6), "a", "a"),
+    ("strsub(a, b, c), each dropped", "strsub(a, b, c, 1);", letters(SIZE - 6), "a", ""),
+    ("strsub(a, b, c), too long", "`strsub(a, b, c) ! ANY';", letters(PAIR - 2), "a", letters(PAIR - 2)),
+    ("strsub(a, b, c), not there", "strsub(a, b, c);", letters(LONG), letters(QUARTER, last="b"), "a"),
+    ("strsub(a, b, c), half of it", "strsub(a, b, c);", letters(2 * QUARTER), letters(QUARTER), letters(QUARTER)),
     ("a == b, integers", "a == b;", NUMBERS, NUMBERS),
     ("a == b, empty texts", "a == b;", TEXTS, TEXTS),
     ("a == b, empty lists", "a == b;", LISTS, LISTS),
@@ -79,31 +88,31 @@ CASES = [
     ("{b, @c} = a, integers", "{b, @c} = a;", NUMBERS),
     ("{b, @c} = a, empty texts", "{b, @c} = a;", TEXTS),
     ("a = b; a[1] = 0, copied", "a = b; a[1] = 0;", 0, TEXTS),
-    ("length(a), list", "length(a);", TEXTS),
+    ("length(a), list", "length(a);", LESS_TEXTS),
     ("tostr(@a), integers", "`tostr(@a) ! ANY';", NUMBERS),
     ("tostr(@a), errors", "`tostr(@a) ! ANY';", ERRORS),
     ("tostr(@a), empty texts", "tostr(@a);", TEXTS),
-    ("toliteral(a), integers", "`toliteral(a) ! ANY';", NUMBERS),
-    ("toliteral(a), empty texts", "`toliteral(a) ! ANY';", TEXTS),
-    ("toliteral(a), empty lists", "`toliteral(a) ! ANY';", LISTS),
-    ("equal(a, b), integers", "equal(a, b);", NUMBERS, NUMBERS),
-    ("equal(a, b), empty lists", "equal(a, b);", LISTS, LISTS),
-    ("is_member(b, a), integers", "is_member(b, a);", NUMBERS, 1),
-    ("is_member(b, a), empty lists", "is_member(b, a);", LISTS, 1),
-    ("is_member(b, a), words", "is_member(b, a);", words(), words()[-1]),
+    ("toliteral(a), integers", "`toliteral(a) ! ANY';", LESS_NUMBERS),
+    ("toliteral(a), empty texts", "`toliteral(a) ! ANY';", LESS_TEXTS),
+    ("toliteral(a), empty lists", "`toliteral(a) ! ANY';", many("{}", ALONE)),
+    ("equal(a, b), integers", "equal(a, b);", many("-2147483648", PAIR), many("-2147483648", PAIR)),
+    ("equal(a, b), empty lists", "equal(a, b);", many("{}", PAIR), many("{}", PAIR)),
+    ("is_member(b, a), integers", "is_member(b, a);", LESS_NUMBERS, 1),
+    ("is_member(b, a), empty lists", "is_member(b, a);", many("{}", BESIDE), 1),
+    ("is_member(b, a), words", "is_member(b, a);", words()[1:], words()[-1]),
     ("listappend(a, 0), integers", "listappend(a, 0);", LESS_NUMBERS),
     ("listappend(a, 0), empty texts", "listappend(a, 0);", LESS_TEXTS),
-    ("listappend(a, 0, 0), at the front", "listappend(a, 0, 0);", LESS_TEXTS),
+    ("listappend(a, 0, 0), at the front", "listappend(a, 0, 0);", many('""', BESIDE - 1)),
     ("listinsert(a, 0), integers", "listinsert(a, 0);", LESS_NUMBERS),
     ("listinsert(a, 0), empty texts", "listinsert(a, 0);", LESS_TEXTS),
-    ("listinsert(a, b), too heavy", "`listinsert(a, b) ! ANY';", TEXTS, TEXTS),
-    ("listdelete(a, 1), integers", "listdelete(a, 1);", NUMBERS),
-    ("listdelete(a, 1), empty texts", "listdelete(a, 1);", TEXTS),
-    ("listset(a, 0, 1), integers", "listset(a, 0, 1);", NUMBERS),
-    ("listset(a, 0, 1), empty texts", "listset(a, 0, 1);", TEXTS),
-    ("setadd(a, b), empty texts", "setadd(a, b);", LESS_TEXTS, "a"),
-    ("setremove(a, b), words", "setremove(a, b);", words(), words()[-1]),
-    ("setremove(a, b), not there", "setremove(a, b);", TEXTS, "a"),
+    ("listinsert(a, b), two lists", "listinsert(a, b);", many('""', PAIR), many('""', PAIR)),
+    ("listdelete(a, 1), integers", "listdelete(a, 1);", LESS_NUMBERS),
+    ("listdelete(a, 1), empty texts", "listdelete(a, 1);", LESS_TEXTS),
+    ("listset(a, 0, 1), integers", "listset(a, 0, 1);", many("-2147483648", BESIDE - 1)),
+    ("listset(a, 0, 1), empty texts", "listset(a, 0, 1);", many('""', BESIDE - 1)),
+    ("setadd(a, b), empty texts", "setadd(a, b);", many('""', BESIDE - 2), "a"),
+    ("setremove(a, b), words", "setremove(a, b);", words()[1:], words()[-1]),
+    ("setremove(a, b), not there", "setremove(a, b);", many('""', BESIDE - 2), "a"),
     ("min(@a)", "min(@a);", NUMBERS),
     ("max(@a)", "max(@a);", NUMBERS),
     ("a == b, nests", "a == b;", NEST, NEST),
@@ -111,10 +120,10 @@ CASES = [
     ("a[1], nest", "a[1];", NEST),
     ("a[1..1], nest", "a[1..1];", NEST),
     ("a[1..1] = b, nest", "`a[1..1] = b ! ANY';", NEST, NEST),
-    ("toliteral(a), nest", "`toliteral(a) ! ANY';", NEST),
-    ("equal(a, b), nests", "equal(a, b);", NEST, NEST),
-    ("listappend(a, 0), nest", "listappend(a, 0);", NEST_BELOW),
-    ("setadd(a, b), nest", "setadd(a, b);", NEST, NEST_BELOW),
+    ("toliteral(a), nest", "`toliteral(a) ! ANY';", NEST_BELOW),
+    ("equal(a, b), nests", "equal(a, b);", nest(PAIR), nest(PAIR)),
+    ("listappend(a, 0), nest", "listappend(a, 0);", nest(BESIDE)),
+    ("setadd(a, b), nest", "setadd(a, b);", nest(PAIR), nest(PAIR)),
     ("a ^ b", "a ^ b;", -2147483647, 2147483647),
 ]
 

@@ -5,6 +5,8 @@ pub mod leaving;
 pub mod natives;
 mod parts;
 pub mod run;
+mod simple;
 pub mod step;
 pub mod stopped;
+mod top;
 mod tracing;

@@ -3,6 +3,7 @@ pub mod calling;
 mod forking;
 pub mod leaving;
 pub mod natives;
+mod onward;
 mod parts;
 pub mod run;
 mod simple;

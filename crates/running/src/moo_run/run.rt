@@ -35,7 +35,7 @@ pub fn run<V: View, N: Natives>(
     let mut deeds = deeds;
     let mut task = task;
     'instructions: loop {
-        go_onward(&mut task)?;
+        go_onward(alloc, &mut task)?;
         let outcome = step(alloc, view, natives, &mut deeds, &mut task)?;
         match outcome {
             Outcome::On => {}

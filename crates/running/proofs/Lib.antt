@@ -22,3 +22,5 @@ pub mod Traces
 pub mod Closing
 pub mod ToldLines
 pub mod Queueing
+pub mod Tops
+pub mod Onward

@@ -12,3 +12,4 @@ pub mod Scenes
 pub mod Steps
 pub mod Stopping
 pub mod Closing
+pub mod Onward

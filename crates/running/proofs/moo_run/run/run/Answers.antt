@@ -9,7 +9,7 @@ use Rattle.moo_task.specs.Outcomes.{ticks_of, running_kept}
 use Rattle.moo_task.specs.declared.outcome.Outcome.{Outcome}
 use Rattle.running.specs.Scenes.{scene_at, led_at}
 use Rattle.running.specs.Stopping.{bound_of, begun_at, stopped_at}
-use Rattle.running.proofs.Running.{comes_on, comes_first, falls_on, over_on, operands_there, over_first, stops, step_to}
+use Rattle.running.proofs.Running.{comes_on, comes_first, comes_onward, over_onward, falls_onward, falls_on, over_on, operands_there, over_first, stops, step_to}
 use Rattle.running.proofs.moo_run.run.run.Goals as goal
 
 pub instructions-init : goal.instructions-init
@@ -32,13 +32,15 @@ instructions-smaller g c =
     let home = view.home c.instructions.view in
     let held : view.holds c.step.new.view home = subst (view.holds c.step.new.view) c.in_ok-outcome.ensures.lasts.home_stays c.in_ok-outcome.ensures.lasts.home_is_left in
     let l = c.in_ok-outcome.ensures.step home held in
+    let over = (over_onward c.args.task.player c.instructions.task c.go_onward.new.task c.instructions.deeds (view.now c.instructions.view home) c.instructions.invariant.player (c.in_ok-go_onward.ensures.comes c.instructions.deeds (view.now c.instructions.view home)) b c.instructions.invariant.over) in
     subst (λ (x : World). lasting c.args.task.player b (begun_at c.step.new.deeds (view.now c.step.new.view x) c.step.new.task)
     < lasting c.args.task.player b (begun_at c.instructions.deeds (view.now c.instructions.view home) c.instructions.task)) (sym c.in_ok-outcome.ensures.lasts.home_stays)
-    (falls_on c.args.task.player b (scene_at c.instructions.deeds (view.now c.instructions.view home) c.instructions.task) (running_kept c.instructions.task) c.instructions.task.outer
-    (ticks_of c.instructions.task) (begun_at c.step.new.deeds (view.now c.step.new.view home) c.step.new.task) c.instructions.invariant.over
-    (step_to c.args.task.player c.instructions.task c.step.new.task c.instructions.deeds c.step.new.deeds (view.now c.instructions.view home) (view.now c.step.new.view home) c.in_ok-outcome.outcome
-    (begun_at c.step.new.deeds (view.now c.step.new.view home) c.step.new.task) c.instructions.invariant.player l.1
-    (ap (λ (o : Outcome). led_at o c.step.new.deeds (view.now c.step.new.view home) c.step.new.task) c.in-On.is)))
+    (falls_onward c.args.task.player c.instructions.task c.go_onward.new.task c.instructions.deeds (view.now c.instructions.view home) c.instructions.invariant.player (c.in_ok-go_onward.ensures.comes c.instructions.deeds (view.now c.instructions.view home)) b (begun_at c.step.new.deeds (view.now c.step.new.view home) c.step.new.task) c.instructions.invariant.over
+    (falls_on c.args.task.player b (scene_at c.instructions.deeds (view.now c.instructions.view home) c.go_onward.new.task) (running_kept c.go_onward.new.task) c.go_onward.new.task.outer
+    (ticks_of c.go_onward.new.task) (begun_at c.step.new.deeds (view.now c.step.new.view home) c.step.new.task) over
+    (step_to c.args.task.player c.go_onward.new.task c.step.new.task c.instructions.deeds c.step.new.deeds (view.now c.instructions.view home) (view.now c.step.new.view home) c.in_ok-outcome.outcome
+    (begun_at c.step.new.deeds (view.now c.step.new.view home) c.step.new.task) (c.in_ok-go_onward.ensures.player ∙ c.instructions.invariant.player) l.1
+    (ap (λ (o : Outcome). led_at o c.step.new.deeds (view.now c.step.new.view home) c.step.new.task) c.in-On.is))))
 
 pub instructions-preserved : goal.instructions-preserved
 instructions-preserved g c =
@@ -47,24 +49,24 @@ instructions-preserved g c =
     let home = view.home c.instructions.view in
     let held : view.holds c.step.new.view home = subst (view.holds c.step.new.view) c.in_ok-outcome.ensures.lasts.home_stays c.in_ok-outcome.ensures.lasts.home_is_left in
     let on_then = λ (w : World) (h : view.holds c.step.new.view w).
-    step_to c.args.task.player c.instructions.task c.step.new.task c.instructions.deeds c.step.new.deeds (view.now c.instructions.view w) (view.now c.step.new.view w) c.in_ok-outcome.outcome
-    (begun_at c.step.new.deeds (view.now c.step.new.view w) c.step.new.task) c.instructions.invariant.player (c.in_ok-outcome.ensures.step w h).1
+    step_to c.args.task.player c.go_onward.new.task c.step.new.task c.instructions.deeds c.step.new.deeds (view.now c.instructions.view w) (view.now c.step.new.view w) c.in_ok-outcome.outcome
+    (begun_at c.step.new.deeds (view.now c.step.new.view w) c.step.new.task) (c.in_ok-go_onward.ensures.player ∙ c.instructions.invariant.player) (c.in_ok-outcome.ensures.step w h).1
     (ap (λ (o : Outcome). led_at o c.step.new.deeds (view.now c.step.new.view w) c.step.new.task) c.in-On.is) in
     record {
       anchor = c.in_ok-outcome.ensures.lasts.anchor_stays ∙ c.instructions.invariant.anchor;
       home = c.in_ok-outcome.ensures.lasts.home_stays ∙ c.instructions.invariant.home;
       held = c.in_ok-outcome.ensures.lasts.home_is_left;
       well_formed = c.in_ok-outcome.ensures.well_formed;
-      player = c.in_ok-outcome.ensures.player ∙ c.instructions.invariant.player;
+      player = c.in_ok-outcome.ensures.player ∙ (c.in_ok-go_onward.ensures.player ∙ c.instructions.invariant.player);
       over = subst (λ (x : World). IsOver (ran c.args.task.player b (begun_at c.step.new.deeds (view.now c.step.new.view x) c.step.new.task))) (sym c.in_ok-outcome.ensures.lasts.home_stays)
-          (over_on c.args.task.player b (scene_at c.instructions.deeds (view.now c.instructions.view home) c.instructions.task) (running_kept c.instructions.task) c.instructions.task.outer
-          (ticks_of c.instructions.task) (begun_at c.step.new.deeds (view.now c.step.new.view home) c.step.new.task) c.instructions.invariant.over (on_then home held));
+          (over_on c.args.task.player b (scene_at c.instructions.deeds (view.now c.instructions.view home) c.go_onward.new.task) (running_kept c.go_onward.new.task) c.go_onward.new.task.outer
+          (ticks_of c.go_onward.new.task) (begun_at c.step.new.deeds (view.now c.step.new.view home) c.step.new.task) (over_onward c.args.task.player c.instructions.task c.go_onward.new.task c.instructions.deeds (view.now c.instructions.view home) c.instructions.invariant.player (c.in_ok-go_onward.ensures.comes c.instructions.deeds (view.now c.instructions.view home)) _ c.instructions.invariant.over) (on_then home held));
       comes = λ w h.
           let l = c.in_ok-outcome.ensures.step w h in
           let was = c.instructions.invariant.comes w l.0 in (
             was.0,
-            comes_on c.args.task.player (begun_at c.args.deeds (view.now c.args.view.now w) c.args.task) (scene_at c.instructions.deeds (view.now c.instructions.view w) c.instructions.task)
-                (running_kept c.instructions.task) c.instructions.task.outer (ticks_of c.instructions.task) (begun_at c.step.new.deeds (view.now c.step.new.view w) c.step.new.task) was.1 (on_then w h),
+            comes_on c.args.task.player (begun_at c.args.deeds (view.now c.args.view.now w) c.args.task) (scene_at c.instructions.deeds (view.now c.instructions.view w) c.go_onward.new.task)
+                (running_kept c.go_onward.new.task) c.go_onward.new.task.outer (ticks_of c.go_onward.new.task) (begun_at c.step.new.deeds (view.now c.step.new.view w) c.step.new.task) (comes_onward c.args.task.player c.instructions.task c.go_onward.new.task c.instructions.deeds (view.now c.instructions.view w) c.instructions.invariant.player (c.in_ok-go_onward.ensures.comes c.instructions.deeds (view.now c.instructions.view w)) _ was.1) (on_then w h),
           );
     }
 
@@ -76,10 +78,10 @@ returns-in-Ends-clause-stopped g c w h =
       was.0,
       λ f vars focus ps same stands.
           stops f vars focus ps c.args.task.player (scene_at c.args.deeds (view.now c.args.view.now w) c.args.task) (running_kept c.args.task) c.args.task.outer (ticks_of c.args.task) _ same stands
-          (comes_on c.args.task.player (begun_at c.args.deeds (view.now c.args.view.now w) c.args.task) (scene_at c.instructions.deeds (view.now c.instructions.view w) c.instructions.task)
-          (running_kept c.instructions.task) c.instructions.task.outer (ticks_of c.instructions.task) _ was.1
-          (step_to c.args.task.player c.instructions.task c.step.new.task c.instructions.deeds c.step.new.deeds (view.now c.instructions.view w) (view.now c.step.new.view w) c.in_ok-outcome.outcome
-          _ c.instructions.invariant.player l.1
+          (comes_on c.args.task.player (begun_at c.args.deeds (view.now c.args.view.now w) c.args.task) (scene_at c.instructions.deeds (view.now c.instructions.view w) c.go_onward.new.task)
+          (running_kept c.go_onward.new.task) c.go_onward.new.task.outer (ticks_of c.go_onward.new.task) _ (comes_onward c.args.task.player c.instructions.task c.go_onward.new.task c.instructions.deeds (view.now c.instructions.view w) c.instructions.invariant.player (c.in_ok-go_onward.ensures.comes c.instructions.deeds (view.now c.instructions.view w)) _ was.1)
+          (step_to c.args.task.player c.go_onward.new.task c.step.new.task c.instructions.deeds c.step.new.deeds (view.now c.instructions.view w) (view.now c.step.new.view w) c.in_ok-outcome.outcome
+          _ (c.in_ok-go_onward.ensures.player ∙ c.instructions.invariant.player) l.1
           (ap (λ (o : Outcome). led_at o c.step.new.deeds (view.now c.step.new.view w) c.step.new.task) c.in-Ends.is))),
     )
 
@@ -91,10 +93,10 @@ returns-in-RanOut-clause-stopped g c w h =
       was.0,
       λ f vars focus ps same stands.
           stops f vars focus ps c.args.task.player (scene_at c.args.deeds (view.now c.args.view.now w) c.args.task) (running_kept c.args.task) c.args.task.outer (ticks_of c.args.task) _ same stands
-          (comes_on c.args.task.player (begun_at c.args.deeds (view.now c.args.view.now w) c.args.task) (scene_at c.instructions.deeds (view.now c.instructions.view w) c.instructions.task)
-          (running_kept c.instructions.task) c.instructions.task.outer (ticks_of c.instructions.task) _ was.1
-          (step_to c.args.task.player c.instructions.task c.step.new.task c.instructions.deeds c.step.new.deeds (view.now c.instructions.view w) (view.now c.step.new.view w) c.in_ok-outcome.outcome
-          _ c.instructions.invariant.player l.1
+          (comes_on c.args.task.player (begun_at c.args.deeds (view.now c.args.view.now w) c.args.task) (scene_at c.instructions.deeds (view.now c.instructions.view w) c.go_onward.new.task)
+          (running_kept c.go_onward.new.task) c.go_onward.new.task.outer (ticks_of c.go_onward.new.task) _ (comes_onward c.args.task.player c.instructions.task c.go_onward.new.task c.instructions.deeds (view.now c.instructions.view w) c.instructions.invariant.player (c.in_ok-go_onward.ensures.comes c.instructions.deeds (view.now c.instructions.view w)) _ was.1)
+          (step_to c.args.task.player c.go_onward.new.task c.step.new.task c.instructions.deeds c.step.new.deeds (view.now c.instructions.view w) (view.now c.step.new.view w) c.in_ok-outcome.outcome
+          _ (c.in_ok-go_onward.ensures.player ∙ c.instructions.invariant.player) l.1
           (ap (λ (o : Outcome). led_at o c.step.new.deeds (view.now c.step.new.view w) c.step.new.task) c.in-RanOut.is
           ∙ ap (λ ts. halts (stopped (scene_at c.step.new.deeds (view.now c.step.new.view w) c.step.new.task) (out_of_ticks ts) 0)) (sym c.in_ok-verbs-in-RanOut.ensures)))),
     )
@@ -107,10 +109,10 @@ returns-in-Waits-clause-stopped g c w h =
       was.0,
       λ f vars focus ps same stands.
           stops f vars focus ps c.args.task.player (scene_at c.args.deeds (view.now c.args.view.now w) c.args.task) (running_kept c.args.task) c.args.task.outer (ticks_of c.args.task) _ same stands
-          (comes_on c.args.task.player (begun_at c.args.deeds (view.now c.args.view.now w) c.args.task) (scene_at c.instructions.deeds (view.now c.instructions.view w) c.instructions.task)
-          (running_kept c.instructions.task) c.instructions.task.outer (ticks_of c.instructions.task) _ was.1
-          (step_to c.args.task.player c.instructions.task c.step.new.task c.instructions.deeds c.step.new.deeds (view.now c.instructions.view w) (view.now c.step.new.view w) c.in_ok-outcome.outcome
-          _ c.instructions.invariant.player l.1
+          (comes_on c.args.task.player (begun_at c.args.deeds (view.now c.args.view.now w) c.args.task) (scene_at c.instructions.deeds (view.now c.instructions.view w) c.go_onward.new.task)
+          (running_kept c.go_onward.new.task) c.go_onward.new.task.outer (ticks_of c.go_onward.new.task) _ (comes_onward c.args.task.player c.instructions.task c.go_onward.new.task c.instructions.deeds (view.now c.instructions.view w) c.instructions.invariant.player (c.in_ok-go_onward.ensures.comes c.instructions.deeds (view.now c.instructions.view w)) _ was.1)
+          (step_to c.args.task.player c.go_onward.new.task c.step.new.task c.instructions.deeds c.step.new.deeds (view.now c.instructions.view w) (view.now c.step.new.view w) c.in_ok-outcome.outcome
+          _ (c.in_ok-go_onward.ensures.player ∙ c.instructions.invariant.player) l.1
           (ap (λ (o : Outcome). led_at o c.step.new.deeds (view.now c.step.new.view w) c.step.new.task) c.in-Waits.is))),
     )
 
@@ -120,8 +122,8 @@ unreachable-requires-in-LacksOperand g c =
     let home = view.home c.instructions.view in
     let held : view.holds c.step.new.view home = subst (view.holds c.step.new.view) c.in_ok-outcome.ensures.lasts.home_stays c.in_ok-outcome.ensures.lasts.home_is_left in
     operands_there c.args.task.player (bound_of c.args.deeds (view.now c.args.view.now (view.home c.args.view.now)) c.args.task)
-    (scene_at c.instructions.deeds (view.now c.instructions.view home) c.instructions.task) (running_kept c.instructions.task) c.instructions.task.outer (ticks_of c.instructions.task)
-    c.instructions.invariant.over
-    (step_to c.args.task.player c.instructions.task c.step.new.task c.instructions.deeds c.step.new.deeds (view.now c.instructions.view home) (view.now c.step.new.view home) c.in_ok-outcome.outcome
-    lacks_operand c.instructions.invariant.player (c.in_ok-outcome.ensures.step home held).1
+    (scene_at c.instructions.deeds (view.now c.instructions.view home) c.go_onward.new.task) (running_kept c.go_onward.new.task) c.go_onward.new.task.outer (ticks_of c.go_onward.new.task)
+    (over_onward c.args.task.player c.instructions.task c.go_onward.new.task c.instructions.deeds (view.now c.instructions.view home) c.instructions.invariant.player (c.in_ok-go_onward.ensures.comes c.instructions.deeds (view.now c.instructions.view home)) _ c.instructions.invariant.over)
+    (step_to c.args.task.player c.go_onward.new.task c.step.new.task c.instructions.deeds c.step.new.deeds (view.now c.instructions.view home) (view.now c.step.new.view home) c.in_ok-outcome.outcome
+    lacks_operand (c.in_ok-go_onward.ensures.player ∙ c.instructions.invariant.player) (c.in_ok-outcome.ensures.step home held).1
     (ap (λ (o : Outcome). led_at o c.step.new.deeds (view.now c.step.new.view home) c.step.new.task) c.in-LacksOperand.is))

@@ -5,8 +5,9 @@ ghost use Rattle.spec_world.specs.Questions.{ask, apply, apply_all, Agrees};
 ghost use Rattle.view.specs.Meanings.{question_of, answer_of, change_of};
 ghost use Rattle.view.specs.Sound.{IsSound};
 ghost use Rattle.view.specs.Law.{Goes, Keeps};
-ghost use Rattle.world.specs.Trace.{Trace, IsStart, world_now};
+ghost use Rattle.world.specs.Trace.{Trace, IsStart, IsTold, world_now};
 
+use crate::asked::Asked;
 use crate::draft::Draft;
 use crate::worlds::Snapshot;
 use std::alloc::{AllocError, Global};
@@ -21,7 +22,7 @@ use view::reads::{Changes, Reads};
 pub struct Tracked<'s> {
     snapshot: &'s Snapshot,
     fork: Option<Draft>,
-    reads: Reads,
+    reads: Asked,
     changes: Changes,
 }
 
@@ -51,7 +52,7 @@ impl<'s> Tracked<'s> {
         Tracked {
             snapshot,
             fork: None,
-            reads: Reads::new(alloc),
+            reads: Asked::new(alloc),
             changes: Changes::new(alloc),
         }
     }
@@ -68,7 +69,7 @@ impl<'s> Tracked<'s> {
             reads,
             changes,
         } = self;
-        (reads, changes)
+        (reads.into_reads(), changes)
     }
 
     // The answer now.
@@ -119,6 +120,19 @@ impl<'s> Tracked<'s> {
         self.reads.push(question.clone()?, answer)?;
         Ok(())
     }
+
+    // The snapshot's answer is kept, unless the question is found among those that were asked.
+    fn note(&mut self, question: &Question) -> Result<(), AllocError>
+        ensures ok { OnOk result (IsTold self.old self.new (question_of question.now)) }
+        ensures known { IsSound self.new.home × Agrees self.new.home self.new.reads }
+        ensures err { OnErr result (self.new ≡ self.old) }
+    {
+        if self.reads.has(question) {
+            return Ok(());
+        }
+        self.keep_read(question)?;
+        Ok(())
+    }
 }
 
 impl<'s> View for Tracked<'s> {
@@ -130,11 +144,10 @@ impl<'s> View for Tracked<'s> {
 
     ghost anchor = { λ _. (0, 0) };
 
-    #[tactic(auto, using(crate::proofs::History::agrees_more, crate::proofs::Goings::goes_on))]
+    #[tactic(auto, using(crate::proofs::Goings::goes_on, crate::proofs::Goings::stays))]
     fn get(&mut self, question: &Question) -> Result<Answer, AllocError> {
-        let answer = self.answer(question)?;
-        self.keep_read(question)?;
-        Ok(answer)
+        self.note(question)?;
+        self.answer(question)
     }
 
     #[tactic(auto, using(crate::proofs::History::apply_all_last))]

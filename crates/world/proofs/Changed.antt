@@ -1,5 +1,5 @@
 -- Changes in turn.
-use Rattle.std.proofs.Common.{◌≡◌, ℕ, zero, suc, ◌+◌, ◌<◌, ◌≤◌, List, [], ◌∷◌, map, length, drop, get_or, refl, sym, ◌∙◌, ap, add-one, arith}
+use Rattle.std.proofs.Common.{◌≡◌, ℕ, zero, suc, ◌+◌, ◌<◌, ◌≤◌, List, [], ◌∷◌, map, length, drop, get_or, refl, ◌∙◌, ap, add-one, arith}
 use Rattle.spec_world.specs.World.{World}
 use Rattle.spec_world.specs.Questions.{apply, apply_all}
 use Rattle.view.specs.Meanings.{change_of}

@@ -25,7 +25,6 @@ in_order : (w : World) → IsSound w → InOrder w
 in_order w h = record { tasks = h.well_formed.tasks_in_order; links = h.well_formed.links_in_order }
 
 -- what home answers now is what each start answers now that answered as home
-pub answered_now : (w home : World) (cs : List Change) (rs : List Read) (q : Question) (base a : Answer) → IsSound w → IsSound home
-    → Agrees w (rs ++ record { question = q; answer = base } ∷ []) → base ≡ ask home q → a ≡ ask (apply_all cs home) q → ask (apply_all cs w) q ≡ a
-answered_now w home cs rs q base a sound home_sound h is now =
-    alike_after cs w home q (in_order w sound) (in_order home home_sound) (agrees_last w rs (record { question = q; answer = base }) h ∙ is) ∙ sym now
+pub answered_now : (w home : World) (cs : List Change) (q : Question) (a : Answer) → IsSound w → IsSound home → ask w q ≡ ask home q
+    → a ≡ ask (apply_all cs home) q → ask (apply_all cs w) q ≡ a
+answered_now w home cs q a sound home_sound alike now = alike_after cs w home q (in_order w sound) (in_order home home_sound) alike ∙ sym now

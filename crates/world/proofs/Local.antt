@@ -1,5 +1,5 @@
 -- What an answer becomes by changes follows from the answer before them, in worlds whose tasks and links are in order.
-use Rattle.std.proofs.Common.{◌≡◌, ℤ, pos, int_le, Bool, true, false, cond, ◌&&◌, List, [], ◌∷◌, map, filter, Option, Some, None, option_map, IsTrue, max, min, refl, sym, ◌∙◌, ap}
+use Rattle.std.proofs.Common.{◌≡◌, ℤ, pos, int_le, Bool, true, false, cond, ◌&&◌, List, [], ◌∷◌, map, filter, Option, Some, None, option_map, IsTrue, refl, sym, ◌∙◌, ap}
 use Rattle.std.specs.Option.{option_and_then}
 use Rattle.std.specs.Ordering.{nat_cmp, int_cmp, int_eq, eq_by_cmp}
 use Rattle.std.specs.Cmp.{int_cmp_total, Equal-is}
@@ -7,14 +7,13 @@ use Rattle.std.specs.Cmp.Lexicographic.{slice_cmp, nat_list_cmp_total}
 use Rattle.std.specs.FinMap.{int_cmp-IsAntisymmetric, slice_cmp-IsAntisymmetric, nat_cmp-IsAntisymmetric}
 use Rattle.std.specs.FinMap.Entries.{find-put}
 use Rattle.spec_value.specs.Datum.{Datum, Text, fold_case, same_text}
-use Rattle.spec_value.specs.Table.{Numbered, at, with, without, is_numbered, named, with_name}
+use Rattle.spec_value.specs.Table.{Numbered, at, with, is_numbered, named, with_name}
 use Rattle.spec_world.specs.World.{World, Object, Slot, Task, Link, object_at, with_object}
 use Rattle.spec_world.specs.Inherit.{slot_of, slot_at, put_slot, with_slot}
 use Rattle.spec_world.specs.Families.{change_at, change_object}
 use Rattle.spec_world.specs.Links.{reads_on}
 use Rattle.spec_world.proofs.Households.{at_changed, at_without}
 use Rattle.spec_world.proofs.SlotTables.{text_turned, named_with, named_without}
-use Rattle.spec_world.specs.Listings.{waiting_ids, readers_on, connections_of, connected}
 use Rattle.spec_world.specs.Questions.{Question, about_header, about_children, about_contents, about_defines, about_slot, about_verbs, about_task, about_waiting, about_link, about_readers, about_connections, about_connected, about_greatest, about_ending, Answer, the_header, the_children, the_contents, the_defines, the_slot, the_verbs, the_task, the_waiting, the_link, the_readers, the_connections, the_connected, the_greatest, the_ending, ask, Part, put_header, put_children, put_contents, put_defines, put_verbs, put_slots, put_part, new_slot, slot_on, Change, new_part, new_value, new_object, new_task, new_link, new_greatest, new_ending, new_next, put_value, is_number, put_record, put_task, apply, apply_all}
 use Rattle.world.specs.Picked.{pick, picked, changed}
 use Rattle.world.proofs.Picked.{picked_put, picked_removed, sorted_changed}

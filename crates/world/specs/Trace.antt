@@ -1,9 +1,9 @@
 -- What a tracked view has read and changed.
-use Rattle.std.specs.Prelude.{List, refl}
+use Rattle.std.specs.Prelude.{◌≡◌, ◌↔◌, List, refl}
 use Rattle.std.specs.Coded.{Coded, code_by, coded×, coded_list}
 use Rattle.spec_world.specs.World.{World}
 use Rattle.spec_world.specs.WorldCode.{world_code}
-use Rattle.spec_world.specs.Questions.{Read, Change, Agrees, apply_all}
+use Rattle.spec_world.specs.Questions.{Question, ask, Read, Change, Agrees, apply_all}
 use Rattle.view.specs.QuestionCode.{read_code, change_code}
 use Rattle.view.specs.Sound.{IsSound}
 
@@ -24,3 +24,9 @@ IsStart t w = IsSound w × Agrees w t.reads
 -- the world now
 abbrev pub world_now : Trace → World → World
 world_now t w = apply_all t.changes w
+
+-- a question was asked: the worlds that agree are now those of before that answer it as home does
+pub record IsTold (old new : Trace) (q : Question) : Type 0 where
+  pub home_stays : new.home ≡ old.home
+  pub changes_stay : new.changes ≡ old.changes
+  pub agreeing : (w : World) → Agrees w new.reads ↔ Agrees w old.reads × (ask w q ≡ ask old.home q)

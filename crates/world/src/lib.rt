@@ -7,6 +7,7 @@
 //! records what was read, so that another thread can check a guess later.
 #![tactic(auto)]
 
+mod asked;
 mod choice;
 pub mod count;
 pub mod draft;
@@ -14,6 +15,7 @@ pub mod fork;
 pub mod keeping;
 pub mod live;
 pub mod prepared;
+mod questions;
 mod records;
 mod tasks;
 pub mod tracked;

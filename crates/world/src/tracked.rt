@@ -1,12 +1,14 @@
 //! A view of a snapshot that keeps what was read.
-ghost use Rattle.std.specs.Prelude.{◌≡◌, ◌++◌, ◌∷◌, [], ℕ, IfOk, OnOk, OnErr};
+ghost use Rattle.std.specs.Prelude.{◌≡◌, ◌++◌, ◌∷◌, [], ℕ, None, IfOk, OnOk, OnErr};
+ghost use Rattle.std.specs.Option.{unwrap_or};
 ghost use Rattle.spec_world.specs.World.{World as Plain};
 ghost use Rattle.spec_world.specs.Questions.{ask, apply, apply_all, Agrees};
 ghost use Rattle.view.specs.Meanings.{question_of, answer_of, change_of};
 ghost use Rattle.view.specs.Sound.{IsSound};
 ghost use Rattle.view.specs.Law.{Goes, Keeps};
-ghost use Rattle.world.specs.Trace.{Trace, IsStart, world_now};
+ghost use Rattle.world.specs.Trace.{Trace, IsStart, IsTold, world_now};
 
+use crate::asked::Asked;
 use crate::draft::Draft;
 use crate::worlds::Snapshot;
 use std::alloc::{AllocError, Global};
@@ -21,8 +23,9 @@ use view::reads::{Changes, Reads};
 pub struct Tracked<'s> {
     snapshot: &'s Snapshot,
     fork: Option<Draft>,
-    reads: Reads,
+    reads: Asked,
     changes: Changes,
+    alloc: Global,
 }
 
 impl<'s> Model for Tracked<'s> {
@@ -51,8 +54,9 @@ impl<'s> Tracked<'s> {
         Tracked {
             snapshot,
             fork: None,
-            reads: Reads::new(alloc),
+            reads: Asked::new(alloc),
             changes: Changes::new(alloc),
+            alloc,
         }
     }
 
@@ -67,8 +71,9 @@ impl<'s> Tracked<'s> {
             fork: _,
             reads,
             changes,
+            alloc: _,
         } = self;
-        (reads, changes)
+        (reads.into_reads(), changes)
     }
 
     // The answer now.
@@ -79,31 +84,6 @@ impl<'s> Tracked<'s> {
             Some(draft) => draft.ask(question),
             None => self.snapshot.ask(question),
         }
-    }
-
-    // The snapshot with the changes so far and this one.
-    fn next(&self, change: &Change) -> Result<Draft, AllocError>
-        ensures { IfOk result (λ d. d ≡ apply (change_of change.now) (apply_all self.now.changes self.now.home)) }
-    {
-        let mut next = match &self.fork {
-            Some(draft) => draft.share()?,
-            None => self.snapshot.share()?,
-        };
-        next.put(change.clone()?)?;
-        Ok(next)
-    }
-
-    // One change more, with the snapshot as it is then.
-    #[tactic(auto, using(crate::proofs::History::apply_all_last))]
-    fn add(&mut self, change: Change, next: Draft) -> Result<(), AllocError>
-        requires { next ≡ apply (change_of change) (apply_all self.old.changes self.old.home) }
-        ensures ok { OnOk result (self.new ≡ record (self.old) { changes = self.old.changes ++ change_of change ∷ [] }) }
-        ensures known { IsSound self.new.home × Agrees self.new.home self.new.reads }
-        ensures err { OnErr result (self.new ≡ self.old) }
-    {
-        self.changes.push(change)?;
-        self.fork = Some(next);
-        Ok(())
     }
 
     // The snapshot's answer is kept.
@@ -119,6 +99,19 @@ impl<'s> Tracked<'s> {
         self.reads.push(question.clone()?, answer)?;
         Ok(())
     }
+
+    // The snapshot's answer is kept, unless the question is found among those that were asked.
+    fn note(&mut self, question: &Question) -> Result<(), AllocError>
+        ensures ok { OnOk result (IsTold self.old self.new (question_of question.now)) }
+        ensures known { IsSound self.new.home × Agrees self.new.home self.new.reads }
+        ensures err { OnErr result (self.new ≡ self.old) }
+    {
+        if self.reads.has(question) {
+            return Ok(());
+        }
+        self.keep_read(question)?;
+        Ok(())
+    }
 }
 
 impl<'s> View for Tracked<'s> {
@@ -130,16 +123,53 @@ impl<'s> View for Tracked<'s> {
 
     ghost anchor = { λ _. (0, 0) };
 
-    #[tactic(auto, using(crate::proofs::History::agrees_more, crate::proofs::Goings::goes_on))]
+    #[tactic(auto, using(crate::proofs::Goings::goes_on, crate::proofs::Goings::stays))]
     fn get(&mut self, question: &Question) -> Result<Answer, AllocError> {
-        let answer = self.answer(question)?;
-        self.keep_read(question)?;
-        Ok(answer)
+        self.note(question)?;
+        self.answer(question)
     }
 
     #[tactic(auto, using(crate::proofs::History::apply_all_last))]
     fn put(&mut self, change: Change) -> Result<(), AllocError> {
-        let next = self.next(&change)?;
-        self.add(change, next)
+        put_on(self.snapshot, &mut self.fork, change.clone()?)?;
+        if self.changes.push(change).is_err() {
+            forget(&mut self.fork, &mut self.changes, self.alloc);
+            return Err(AllocError);
+        }
+        Ok(())
     }
+}
+
+// A change of a fork of a snapshot, or of one that is begun by it.
+fn put_on(snapshot: &Snapshot, fork: &mut Option<Draft>, change: Change) -> Result<(), AllocError>
+    ensures ok { OnOk result (unwrap_or fork.new snapshot.now ≡ apply (change_of change) (unwrap_or fork.old snapshot.now)) }
+    ensures err { OnErr result (fork.new ≡ fork.old) }
+{
+    match fork {
+        Some(draft) => draft.put(change),
+        None => {
+            *fork = Some(begun(snapshot, change)?);
+            Ok(())
+        }
+    }
+}
+
+// A snapshot's records with a first change.
+#[inline(never)]
+fn begun(snapshot: &Snapshot, change: Change) -> Result<Draft, AllocError>
+    ensures { IfOk result (λ d. d ≡ apply (change_of change) snapshot.now) }
+{
+    let mut draft = snapshot.share()?;
+    draft.put(change)?;
+    Ok(draft)
+}
+
+// No change is made, and none is to be.
+#[inline(never)]
+fn forget(fork: &mut Option<Draft>, changes: &mut Changes, alloc: Global)
+    ensures fork { fork.new ≡ None }
+    ensures changes { changes.new ≡ [] }
+{
+    *fork = None;
+    *changes = Changes::new(alloc);
 }

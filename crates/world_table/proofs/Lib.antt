@@ -3,3 +3,4 @@ pub mod Rising
 pub mod Rows
 pub mod Roots
 pub mod Walks
+pub mod Revising

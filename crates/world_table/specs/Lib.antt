@@ -3,3 +3,4 @@ pub mod Contents
 pub mod Entries
 pub mod Falls
 pub mod Held
+pub mod Revised

@@ -7,6 +7,7 @@
 #![tactic(auto)]
 
 mod place;
+pub mod revision;
 mod table;
 
 pub use table::Table;

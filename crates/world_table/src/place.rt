@@ -8,6 +8,7 @@ ghost use Rattle.world_table.specs.Branch.{reach};
 pub mod blocks;
 pub mod change;
 pub mod edit;
+pub mod revise;
 pub mod walk;
 
 use std::alloc::AllocError;

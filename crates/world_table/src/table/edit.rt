@@ -1,12 +1,14 @@
 //! Many changes of one table.
-ghost use Rattle.std.specs.Prelude.{◌≡◌, ◌+◌, ◌*◌, ◌^◌, ◌<◌, ◌≤◌, IfOk, OnOk, OnErr};
+ghost use Rattle.std.specs.Prelude.{◌≡◌, ◌+◌, ◌*◌, ◌^◌, ◌<◌, ◌≤◌, true, false, IfOk, OnOk, OnErr};
 ghost use Rattle.std.specs.Ordering.{nat_cmp};
 ghost use Rattle.std.specs.FinMap.{put};
 ghost use Rattle.std.specs.Arc.{arc_value};
 ghost use Rattle.world_table.specs.Entries.{without};
+ghost use Rattle.world_table.specs.Revised.{Revises};
 
 use super::Table;
 use crate::place::blocks::BlockBuilder;
+use crate::revision::Revision;
 use std::alloc::AllocError;
 use std::sync::Arc;
 
@@ -70,5 +72,18 @@ impl<R: Drop, const LEVELS: u32> Table<R, LEVELS> {
         self.count -= 1;
         self.blocks = self.blocks.saturating_add(builder.count);
         Ok(())
+    }
+
+    /// Changes the record at a key where it lies, and answers whether it did: it does not where there is no record, nor where another
+    /// table shares it. No block is built, and no memory is taken but by the change.
+    pub fn revise<E: Revision<R>>(&mut self, key: u64, revision: &E) -> Result<bool, AllocError>
+        requires { key < 2 ^ (5 * LEVELS) }
+        ensures done { IfOk result (λ b. b ≡ true → Revises (E.makes revision.now) key self.old.entries self.new.entries) }
+        ensures left { IfOk result (λ b. b ≡ false → self.new ≡ self.old) }
+        ensures err { OnErr result (self.new ≡ self.old) }
+        ensures blocks { self.new.blocks ≡ self.old.blocks }
+    {
+        let done = self.root.revise(key, revision)?;
+        Ok(done)
     }
 }

@@ -1,4 +1,4 @@
-use Rattle.std.proofs.Common.{◌≡◌, ◌<◌, pos, arith, rules}
+use Rattle.std.proofs.Common.{◌≡◌, pos, arith, rules}
 use Rattle.world.proofs.Maps.{key_of_there}
 use Rattle.world.proofs.records.put_record.Goals as goal
 

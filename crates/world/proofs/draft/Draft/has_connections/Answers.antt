@@ -1,8 +1,8 @@
-use Rattle.std.proofs.Common.{◌≡◌, ◌<◌, ◌≤◌, ◌∙◌, ℕ, sym, ap, arith, rules, w32}
+use Rattle.std.proofs.Common.{◌<◌, ◌≤◌, ◌∙◌, ℕ, sym, ap, arith, rules, w32}
 use Rattle.std.proofs.lemmas.Int.{to_z-of_z}
 use Rattle.std.specs.List.{AllByRecursion}
 use Rattle.spec_world.specs.World.{World, Link}
-use Rattle.spec_world.specs.Listings.{connections_of, connected}
+use Rattle.spec_world.specs.Listings.{connections_of}
 use Rattle.world.proofs.Listed.{links_of, within}
 use Rattle.world.proofs.draft.Draft.has_connections.Goals as goal
 

@@ -1,4 +1,4 @@
-use Rattle.std.proofs.Common.{◌≡◌, ◌∙◌, ap, sym, map, filter, ℤ, List, IsTrue, subst, rules, w32, to_z, of_z}
+use Rattle.std.proofs.Common.{◌≡◌, ◌∙◌, ap, map, filter, ℤ, List, IsTrue, subst, rules, w32, to_z, of_z}
 use Rattle.spec_world.specs.Links.{reads_on}
 use Rattle.spec_world.specs.Listings.{readers_on}
 use Rattle.world.proofs.draft.Draft.has_readers.Goals as goal

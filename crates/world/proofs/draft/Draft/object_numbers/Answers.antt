@@ -1,4 +1,4 @@
-use Rattle.std.proofs.Common.{◌≡◌, ◌<◌, ◌≤◌, ◌∙◌, ℕ, ap, arith, rules, map}
+use Rattle.std.proofs.Common.{◌<◌, ◌≤◌, ◌∙◌, ℕ, ap, arith, rules, map}
 use Rattle.std.specs.List.{AllByRecursion}
 use Rattle.spec_world.specs.World.{World, Object}
 use Rattle.world.proofs.Listed.{all_numbers, within}

@@ -1,0 +1,145 @@
+//! What was read, each question once.
+ghost use Rattle.std.specs.Prelude.{◌≡◌, ◌++◌, ◌∷◌, [], map, IsTrue, Contains, OnOk, OnErr};
+ghost use Rattle.view.specs.Meanings.{question_of, answer_of};
+ghost use Rattle.view.specs.ReadMeaning.{read_of};
+
+use crate::questions::{mark_of, same_question};
+use std::alloc::{AllocError, Global};
+use std::marker::Model;
+use view::question::{Answer, Question};
+use view::reads::{Read, Reads};
+
+// How many places there are at first.
+const FIRST: usize = 64;
+
+// How many places a question may have.
+const TRIES: usize = 4;
+
+// No read has this index.
+const VACANT: usize = usize::MAX;
+
+/// What was read. A question that was asked before is mostly found again: a place names a read that may be the one of a question, and its
+/// question is compared.
+#[derive(Drop)]
+pub(crate) struct Asked {
+    reads: Reads,
+    places: Vec<usize>,
+    alloc: Global,
+}
+
+impl Model for Asked {
+    ghost use Rattle.std.specs.Prelude.{List};
+    ghost use Rattle.std.specs.Coded.{coded_list};
+    ghost use Rattle.spec_world.specs.Questions.{Read as Meant};
+    ghost use Rattle.view.specs.QuestionCode.{read_code};
+
+    ghost Value = { List Meant };
+
+    ghost coded = { coded_list read_code };
+
+    ghost view = { λ a. a.reads };
+}
+
+impl Asked {
+    /// Nothing read.
+    pub(crate) fn new(alloc: Global) -> Asked
+        ensures { result ≡ [] }
+    {
+        Asked {
+            reads: Reads::new(alloc),
+            places: Vec::new(alloc),
+            alloc,
+        }
+    }
+
+    /// The reads, in their order.
+    pub(crate) fn into_reads(self) -> Reads
+        ensures { result ≡ self }
+    {
+        let Asked {
+            reads,
+            places: _,
+            alloc: _,
+        } = self;
+        reads
+    }
+
+    /// Whether a question is found among those that were asked. It takes no memory.
+    pub(crate) fn has(&self, question: &Question) -> bool
+        ensures { IsTrue result → Contains (map (λ r. r.question) self.now) (question_of question.now) }
+    {
+        let mark = mark_of(question);
+        for step in 0..TRIES {
+            if self.has_at(place_of(self.places.len(), mark, step), question) {
+                return true;
+            }
+        }
+        false
+    }
+
+    // Whether the read that a place names is the one of a question.
+    fn has_at(&self, place: usize, question: &Question) -> bool
+        ensures { IsTrue result → Contains (map (λ r. r.question) self.now) (question_of question.now) }
+    {
+        match self.places.get(place) {
+            Some(index) => is_at(self.reads.as_slice(), *index, question),
+            None => false,
+        }
+    }
+
+    /// One more read.
+    pub(crate) fn push(&mut self, question: Question, answer: Answer) -> Result<(), AllocError>
+        ensures ok { OnOk result (self.new ≡ self.old ++ record { question = question_of question; answer = answer_of answer } ∷ []) }
+        ensures err { OnErr result (self.new ≡ self.old) }
+    {
+        let index = self.reads.as_slice().len();
+        if index >= self.places.len() / 2 {
+            self.grow()?;
+        }
+        let mark = mark_of(&question);
+        self.reads.push(question, answer)?;
+        settle(&mut self.places, mark, index);
+        Ok(())
+    }
+
+    // More places, for all that was read.
+    #[inline(never)]
+    fn grow(&mut self) -> Result<(), AllocError>
+        ensures { self.new ≡ self.old }
+    {
+        let count = self.places.len().saturating_mul(2).max(FIRST);
+        let mut places = vec![in self.alloc; VACANT; count]?;
+        for (index, read) in self.reads.as_slice().iter().enumerate() {
+            settle(&mut places, mark_of(&read.question), index);
+        }
+        self.places = places;
+        Ok(())
+    }
+}
+
+// Whether the read of an index is the one of a question.
+fn is_at(reads: &[Read], index: usize, question: &Question) -> bool
+    ensures { IsTrue result → Contains (map (λ r. r.question) (map read_of reads.now)) (question_of question.now) }
+{
+    index < reads.len() && same_question(&reads[index].question, question)
+}
+
+// The place of a mark at a try, where the count of places is a power of two.
+fn place_of(count: usize, mark: u64, step: usize) -> usize {
+    ((mark >> 32) as usize).wrapping_add(step) & count.wrapping_sub(1)
+}
+
+// A place of a mark names an index: one that names none, or else the first.
+fn settle(places: &mut Vec<usize>, mark: u64, index: usize) {
+    for step in 0..TRIES {
+        let place = place_of(places.len(), mark, step);
+        if place < places.len() && places[place] == VACANT {
+            places[place] = index;
+            return;
+        }
+    }
+    let place = place_of(places.len(), mark, 0);
+    if place < places.len() {
+        places[place] = index;
+    }
+}

@@ -1,0 +1,18 @@
+use Rattle.world_table.proofs.Revising.{revised_kept, block_revises}
+use Rattle.world_table.proofs.Rows.{child_branch, is_row_set}
+use Rattle.world_table.proofs.place.Place.+revise.Goals as goal
+
+pub invariant_of-self-in-Block : goal.invariant_of-self-in-Block
+invariant_of-self-in-Block g t c =
+    let sound = rw c.in-Block.is at c.self.invariant in
+    let row = rw (← c.in-Some.ensures.value) at sound.1 in
+    let child = child_branch _ _ _ _ row c.index_of-at.ensures.within c.index_mut.ensures.value in
+    let kept = revised_kept (g.E.Revision.makes c.args.revision.now) _ c.args.key c.in_ok-done.done _ c.revise.new.self child c.revise.ensures.height c.in_ok-done.ensures.done c.in_ok-done.ensures.left in
+    (sound.0, is_row_set _ _ _ _ row kept)
+
+pub returns-in-Block-clause-done : goal.returns-in-Block-clause-done
+returns-in-Block-clause-done g t c =
+    let sound = rw c.in-Block.is at c.self.invariant in
+    let row = rw (← c.in-Some.ensures.value) at sound.1 in
+    let whole = rw (← c.in-Some.ensures.value) at (rw c.in-Block.is at c.self.view_is) in
+    λ yes. block_revises (g.E.Revision.makes c.args.revision.now) _ _ _ _ _ _ _ row c.index_of-at.ensures.value c.index_of-at.ensures.within c.index_mut.ensures.value whole (c.in_ok-done.ensures.done yes)

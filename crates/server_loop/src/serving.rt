@@ -7,7 +7,7 @@ use crate::playing::{End, Plan, Reached};
 use crate::saving::Saver;
 use crate::turn::{Edge, run_turn};
 use connections::door::Door;
-use connections::links::{Links, MOST_LINKS};
+use connections::links::Links;
 use speculate::gate::Gate;
 use std::alloc::Global;
 use std::io::Write;
@@ -106,11 +106,9 @@ fn start<R: Threads + Wait + Clock + Copy + Send + 'static>(
 }
 
 // Ends the links; where a task asked for the end, once they had time for their last lines.
-fn end_links<R: Threads + Clock + Copy>(rt: R, mut links: Links, end: End) {
+fn end_links<R: Threads + Wait + Clock + Copy>(rt: R, mut links: Links, end: End) {
     if end == End::Asked {
-        'number: for number in 1..=MOST_LINKS as u32 {
-            let _ = links.release(&rt, number);
-        }
+        links.close(&rt);
         thread::sleep(&rt, Duration::from_millis(LAST_LINES));
     }
     links.end(&rt);

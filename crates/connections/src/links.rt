@@ -133,21 +133,37 @@ impl Links {
         })
     }
 
-    /// Takes a link out, whose number is free from then on. It writes what it was told, and ends. Where too many links do so already, the oldest of them is
-    /// cut.
+    /// Takes a link out, if there is one of this number, which is free from then on. It writes what it was told, and ends. Where too many links do so
+    /// already, the oldest of them is cut.
     pub fn release<R: Threads + Wait>(&mut self, rt: &R, number: u32) -> Result<(), AllocError> {
-        if self.ending.len() >= MOST_ENDING {
-            end(rt, self.ending.remove(0));
-        }
-        self.ending.reserve(1)?;
-        if number == 0 || number as usize > MOST_LINKS {
+        if self.link(number).is_none() {
             return Ok(());
         }
-        if let Some(mut link) = self.places[number as usize - 1].take() {
+        self.make_room(rt);
+        self.ending.reserve(1)?;
+        if let Some(mut link) = self.take(number) {
             link.close(rt);
             self.ending.push_reserved(link);
         }
         Ok(())
+    }
+
+    // The open link of a number, whose place is free then.
+    fn take(&mut self, number: u32) -> Option<Link>
+        ensures { self.new.ending ≡ self.old.ending }
+    {
+        let at = (number as usize).checked_sub(1)?;
+        self.places.get_mut(at)?.take()
+    }
+
+    // Has one link more write what it was told: where too many do, those that have are waited for, or else the oldest is cut.
+    fn make_room<R: Threads>(&mut self, rt: &R) {
+        if self.ending.len() >= MOST_ENDING {
+            self.sweep(rt);
+        }
+        if self.ending.len() >= MOST_ENDING {
+            end(rt, self.ending.remove(0));
+        }
     }
 
     /// Tells no link a line any more: each writes what it was told, and ends.

@@ -309,6 +309,28 @@ def a_task_between_links():
         second.wants("a newer link", "later")
 
 
+def many_tasks_that_wait():
+    """Of more tasks than are looked at between two lists each goes on that is resumed, and none that is killed; those that are due go on meanwhile."""
+    server = Server(program, "fixture")
+    with Client(server, "#4") as link:
+        for name, code in (
+            ("sleepers", ("for i in [1..60]", "fork t (0)", "v = suspend();", "#3.n = #3.n + v;", "endfork", "#3.tasks = {@#3.tasks, t};", "endfor")),
+            ("later", ("for i in [1..60]", "fork (1)", "#3.n = #3.n + 1000;", "endfork", "endfor")),
+            ("wake", ("for i in [1..length(#3.tasks)]", "if (i % 3)", "resume(#3.tasks[i], 1);", "else", "kill_task(#3.tasks[i]);", "endif", "endfor")),
+        ):
+            lines = ", ".join(f'"{it}"' for it in code)
+            link.says("a verb", f';{{add_verb(#3, {{#2, "xd", "{name}"}}, {{"any", "any", "any"}}), set_verb_code(#3, "{name}", {{{lines}}}), notify(player, "made")}}', "made")
+        link.says("a property", ';{add_property(#3, "tasks", {}, {#2, "rwc"}), notify(player, "made")}', "made")
+        for _ in range(20):
+            link.sends("sleepers")
+        link.wants_value("the tasks", "length(#3.tasks)", "1200")
+        waits_for("tasks that wait", lambda: tasks_of(link).count(", -1, ") == 1200)
+        link.says("tasks that are due later", "later\r\nlooks", UNKNOWN)
+        link.says("tasks that are resumed and killed", "wake\r\nlooks", UNKNOWN)
+        waits_for("tasks that go on", lambda: tasks_of(link) == "{}")
+        link.wants_value("what they did", "#3.n", str(800 + 60_000))
+
+
 def programming():
     """A program is a link's own, and ends with it."""
     server = Server(program, "fixture")
@@ -366,6 +388,7 @@ def a_login_that_fails():
 ROWS = [
     a_data_byte_255, options, what_is_kept_of_a_line, long_lines, many_lines_at_once, last_lines, a_slow_reader, one_that_never_reads,
     one_that_is_told_and_never_reads, a_half_closed_link, links_do_not_mix, a_line_between_players,
-    a_second_login, an_older_link_that_waits, a_read_of_a_closed_link, a_task_between_links, programming, cut_at_every_byte, a_login_that_fails,
+    a_second_login, an_older_link_that_waits, a_read_of_a_closed_link, a_task_between_links, many_tasks_that_wait,
+    programming, cut_at_every_byte, a_login_that_fails,
 ]
 sys.exit(play_rows("tests/sockets.py", ROWS))

@@ -1,6 +1,6 @@
 //! One turn of the loop.
+use crate::agenda::Agenda;
 use crate::draft::Draft;
-use crate::due::add_due;
 use crate::gather::gather;
 use crate::pace::Pace;
 use crate::playing::{
@@ -44,6 +44,7 @@ pub fn run_turn<G: Gate, R: Threads + Wait + Copy + Send + Sync + 'static, C: Cl
     plan: Plan,
     world: World,
     pace: &mut Pace,
+    agenda: &mut Agenda,
     edge: &mut Edge,
 ) -> Reached {
     let next = match next_number(&world) {
@@ -60,15 +61,18 @@ pub fn run_turn<G: Gate, R: Threads + Wait + Copy + Send + Sync + 'static, C: Cl
         ..
     } = edge;
     let is_watching = links.watch(second(clock));
-    let Ok(next_due) = add_due(alloc, &mut draft, &world) else {
+    if agenda.look(&world).is_err() || agenda.add_due(&mut draft, &world).is_err() {
         return Reached::end(world, false, End::Memory(0));
-    };
+    }
     if gather(rt, alloc, &mut draft, door, links, bell).is_err() {
         return Reached::end(world, false, End::Memory(0));
     }
     links.sweep(&rt);
     if draft.steps.is_empty() {
-        wait(&rt, bell, patience(next_due, draft.moment(), is_watching));
+        if agenda.is_current() {
+            let next_due = agenda.next_moment();
+            wait(&rt, bell, patience(next_due, draft.moment(), is_watching));
+        }
         return Reached {
             world,
             asks: false,
@@ -89,6 +93,9 @@ pub fn run_turn<G: Gate, R: Threads + Wait + Copy + Send + Sync + 'static, C: Cl
         pace.learn(outcomes.as_slice());
     }
     let asks = asks_checkpoint(outcomes.as_slice());
+    if agenda.learn(outcomes.as_slice()).is_err() {
+        return Reached::end(world, asks, End::Memory(0));
+    }
     if tell_all(&rt, links, outcomes).is_err() {
         return Reached::end(world, asks, End::Memory(0));
     }

@@ -70,7 +70,7 @@ class Server:
             self.begin([program, *words, "--port", str(self.port)])
             line = f"moo-server: listening on 127.0.0.1:{self.port}"
             within(lambda: self.told() or self.has_ended())
-            if self.told() == [line]:
+            if self.told()[:1] == [line]:
                 return
             self.stop()
             # Somebody else was faster.

@@ -79,12 +79,118 @@ def long_lines():
         link.says("a long line that is told", "measure " + 4000 * "y", 16 * 4000 * "y")
 
 
+def makes_lines(link, name, told="tostr(i)", last="return;"):
+    """Makes a verb that tells as many lines as its first word says (a step tells 4,096 at most), and then does something more."""
+    link.says("a verb", f';{{add_verb(#3, {{#2, "xd", "{name}"}}, {{"any", "any", "any"}}), notify(player, "made")}}', "made")
+    link.says("its code", f';{{set_verb_code(#3, "{name}", {{"for i in [1..toint(args[1])]", "notify(player, {told});", "endfor", "{last}"}}), notify(player, "coded")}}', "coded")
+
+
+def numbered(count):
+    return [str(it) for it in range(1, count + 1)]
+
+
 def many_lines_at_once():
-    """A list tells a thousand lines to one link that reads them."""
+    """However many lines a list tells, a link that reads them gets them all, in order, and goes on."""
     with Client(Server(program, "fixture"), "#4") as link:
-        link.says("a verb", ';{add_verb(#3, {#2, "xd", "lines"}, {"any", "any", "any"}), set_verb_code(#3, "lines", {"for i in [1..toint(argstr)]", "notify(player, tostr(i));", "endfor"})}')
-        for _ in range(3):
-            link.says("a thousand lines", "lines 1000", *[str(it) for it in range(1, 1001)])
+        makes_lines(link, "lines")
+        for count in (1000, 1024, 1025, 2049, 4000):
+            link.says(f"{count} lines", f"lines {count}", *numbered(count))
+        # One list takes the first of these together; the others wait until what it told is on its way.
+        link.sends(20 * b"lines 4000\r\n" + tells("behind them") + b"\r\n")
+        link.wants("20 times 4,000 lines", *(20 * numbered(4000)), "behind them")
+        link.says("a line afterwards", "looks", UNKNOWN)
+
+
+def last_lines():
+    """All that was told reaches a link before it ends: where its client has half-closed it, where its player is booted and where the server ends."""
+    server = Server(program, "fixture")
+    with Client(server, "#4") as link:
+        makes_lines(link, "lines")
+        makes_lines(link, "leave", last="boot_player(player);")
+        makes_lines(link, "finish", last="shutdown();")
+        link.sends(20 * b"lines 4000\r\n")
+        link.half_closes()
+        link.wants_end("a link that was half-closed", *(20 * numbered(4000)))
+    for name in ("leave", "finish"):
+        with Client(server, "#4") as link:
+            link.sends(3 * b"lines 4000\r\n" + f"{name} 4000\r\n".encode())
+            link.wants_end(name, *(4 * numbered(4000)))
+    server.wants_end("a server that ends", 0)
+
+
+def a_slow_reader():
+    """A link that reads slowly gets all that its own lines tell, and all that others tell it meanwhile, and no other link waits for it."""
+    server = Server(program, "fixture")
+    with Client(server, "#4") as slow, Client(server, "#5") as other:
+        makes_lines(slow, "lines", told="argstr")
+        long = 1000 * "x"
+        slow.sends(4 * f"lines 4000 {long}\r\n".encode())
+        got, begun = b"", time.monotonic()
+        for at in range(300):
+            other.says("another link", f';{{notify(#4, "{at}"), notify(player, "{at}")}}', str(at))
+            got += slow.socket.recv(50_000)
+        slow.half_closes()
+        lines = (got + slow.all()).decode().split("\r\n")
+        wants("its own lines", [it for it in lines if len(it) > 100], 4 * 4000 * [f"4000 {long}"])
+        wants("lines of another", [it for it in lines if len(it) < 100], [*[str(at) for at in range(300)], ""])
+        if time.monotonic() - begun > 60:
+            raise Fault("a slow reader is served too slowly")
+
+
+def one_that_never_reads():
+    """A link that does not read what it is told is cut alone, with its threads, in little memory; its number is free again."""
+    server = Server(program, "fixture")
+
+    def status(name):
+        with open(f"/proc/{server.process.pid}/status") as lines:
+            return int(next(it for it in lines if it.startswith(name + ":")).split()[1])
+
+    with Client(server, "#5") as other:
+        makes_lines(other, "lines", told="argstr")
+        long = 1000 * "x"
+        for name, sent in (("one who asks for many lines", 3 * f"lines 4000 {long}\r\n".encode()), ("one who asks for lines without an end", None)):
+            before = status("Threads")
+            with Client(server, "#4") as link:
+                end = time.monotonic() + 30
+                greatest, longest = 0, 0.0
+                if sent is not None:
+                    link.sends(sent)
+                while status("Threads") > before:
+                    if sent is None:
+                        try:
+                            link.socket.settimeout(0.01)
+                            link.sends(1000 * b"looks\r\n")
+                        except OSError:
+                            pass
+                    asked = time.monotonic()
+                    other.says("another link", "looks", UNKNOWN)
+                    longest = max(longest, time.monotonic() - asked)
+                    greatest = max(greatest, status("VmRSS"))
+                    if time.monotonic() > end:
+                        raise Fault(f"{name}: it is not cut")
+                if longest > 3:
+                    raise Fault(f"{name}: another link waited {longest:.1f} s")
+                if greatest > 60_000:
+                    raise Fault(f"{name}: {greatest} kB are resident")
+        with Client(server, "#4") as link:
+            link.says("a link afterwards", "looks", UNKNOWN)
+
+
+def one_that_is_told_and_never_reads():
+    """A link that only listens, and does not read, is cut when others have told it enough."""
+    server = Server(program, "fixture")
+    with Client(server, "#4") as link, Client(server, "#5") as other:
+        other.says("a verb", ';{add_verb(#3, {#2, "xd", "lines"}, {"any", "any", "any"}), set_verb_code(#3, "lines", {"for i in [1..1000]", "notify(#4, argstr);", "endfor"}), notify(player, "made")}', "made")
+        long = 4000 * "x"
+        for at in range(60):
+            other.says("the one who tells", f"lines {long}\r\nlooks", UNKNOWN)
+        waits_for("the end of the link", lambda: connected(other) == "{#5}")
+        link.all()
+
+
+def connected(link):
+    link.sends(";notify(player, toliteral(connected_players()))")
+    return link.line()
 
 
 def a_half_closed_link():
@@ -203,6 +309,28 @@ def a_task_between_links():
         second.wants("a newer link", "later")
 
 
+def many_tasks_that_wait():
+    """Of more tasks than are looked at between two lists each goes on that is resumed, and none that is killed; those that are due go on meanwhile."""
+    server = Server(program, "fixture")
+    with Client(server, "#4") as link:
+        for name, code in (
+            ("sleepers", ("for i in [1..60]", "fork t (0)", "v = suspend();", "#3.n = #3.n + v;", "endfork", "#3.tasks = {@#3.tasks, t};", "endfor")),
+            ("later", ("for i in [1..60]", "fork (1)", "#3.n = #3.n + 1000;", "endfork", "endfor")),
+            ("wake", ("for i in [1..length(#3.tasks)]", "if (i % 3)", "resume(#3.tasks[i], 1);", "else", "kill_task(#3.tasks[i]);", "endif", "endfor")),
+        ):
+            lines = ", ".join(f'"{it}"' for it in code)
+            link.says("a verb", f';{{add_verb(#3, {{#2, "xd", "{name}"}}, {{"any", "any", "any"}}), set_verb_code(#3, "{name}", {{{lines}}}), notify(player, "made")}}', "made")
+        link.says("a property", ';{add_property(#3, "tasks", {}, {#2, "rwc"}), notify(player, "made")}', "made")
+        for _ in range(20):
+            link.sends("sleepers")
+        link.wants_value("the tasks", "length(#3.tasks)", "1200")
+        waits_for("tasks that wait", lambda: tasks_of(link).count(", -1, ") == 1200)
+        link.says("tasks that are due later", "later\r\nlooks", UNKNOWN)
+        link.says("tasks that are resumed and killed", "wake\r\nlooks", UNKNOWN)
+        waits_for("tasks that go on", lambda: tasks_of(link) == "{}")
+        link.wants_value("what they did", "#3.n", str(800 + 60_000))
+
+
 def programming():
     """A program is a link's own, and ends with it."""
     server = Server(program, "fixture")
@@ -258,7 +386,9 @@ def a_login_that_fails():
 
 
 ROWS = [
-    a_data_byte_255, options, what_is_kept_of_a_line, long_lines, many_lines_at_once, a_half_closed_link, links_do_not_mix, a_line_between_players,
-    a_second_login, an_older_link_that_waits, a_read_of_a_closed_link, a_task_between_links, programming, cut_at_every_byte, a_login_that_fails,
+    a_data_byte_255, options, what_is_kept_of_a_line, long_lines, many_lines_at_once, last_lines, a_slow_reader, one_that_never_reads,
+    one_that_is_told_and_never_reads, a_half_closed_link, links_do_not_mix, a_line_between_players,
+    a_second_login, an_older_link_that_waits, a_read_of_a_closed_link, a_task_between_links, many_tasks_that_wait,
+    programming, cut_at_every_byte, a_login_that_fails,
 ]
 sys.exit(play_rows("tests/sockets.py", ROWS))

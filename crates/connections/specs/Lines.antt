@@ -1,5 +1,5 @@
 -- What went into a ring of lines and what came out of it.
-use Rattle.std.specs.Prelude.{List, String}
+use Rattle.std.specs.Prelude.{◌≡◌, ◌++◌, ◌∷◌, [], List, String}
 use Rattle.std.specs.Global.{Global}
 use Rattle.rtrb.specs.Ends.{SameRing}
 use Rattle.rtrb.specs.Ring.{sent, received, known_items, all_sent, IsPair, IsFinishedOf, SameConsumer, SameProducer, Finishes}
@@ -44,3 +44,17 @@ Ends a s = Finishes a.producer s.finished
 -- what was sent is of this sender's ring
 abbrev pub FromSender : LineSender → Sent → Type 0
 FromSender a s = SameRing a.producer.end s.finished.end
+
+-- ---- a line that is told: the ends of the ring and the lines beyond it, before and after
+
+-- it went into the ring, and nothing waits beyond
+abbrev pub IsSent : LineSender → LineSender → List (String Global) → List (String Global) → String Global → Type 0
+IsSent a b xs ys line = (lines_sent b ≡ lines_sent a ++ line ∷ []) × (xs ≡ []) × (ys ≡ [])
+
+-- it waits beyond the ring, behind the others
+abbrev pub IsKept : LineSender → LineSender → List (String Global) → List (String Global) → String Global → Type 0
+IsKept a b xs ys line = (lines_sent b ≡ lines_sent a) × (ys ≡ xs ++ line ∷ [])
+
+-- there was no memory for it
+abbrev pub IsLost : LineSender → LineSender → List (String Global) → List (String Global) → Type 0
+IsLost a b xs ys = (lines_sent b ≡ lines_sent a) × (ys ≡ xs)

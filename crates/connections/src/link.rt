@@ -1,24 +1,28 @@
 //! One link: a socket with its two threads and its two rings.
 ghost use Rattle.std.specs.Prelude.{◌≡◌, ◌++◌, ◌∷◌, [], ◌⊎◌, ◌≢◌, IfSome, IfOk, IfErr};
 ghost use Rattle.std.specs.Option.{ForSome};
-ghost use Rattle.connections.specs.Lines.{lines_sent, IsRing, IsSentOf, SameTaker, FromSender};
+ghost use Rattle.connections.specs.Lines.{lines_sent, IsRing, IsSentOf, IsSent, IsKept, IsLost, SameTaker, FromSender};
 
 use crate::lines::{LineSender, LineTaker, Sent, lines};
 use crate::reading::read_link;
 use crate::shared::Shared;
 use crate::writing::write_link;
 use std::alloc::Global;
+use std::collections::VecDeque;
 use std::net::TcpStream;
 use std::snapshot::Snapshot;
 use std::sync::{Arc, Wait};
-use std::thread;
 use std::thread::{JoinHandle, Parker, Promise, PromisedHandle, Threads};
+use std::{mem, thread};
 
 /// The most lines that wait between a socket and the loop.
 pub const INPUT_LINES: usize = 64;
 
-/// The most lines that wait between the loop and a socket.
+/// The most lines of the ring between the loop and a socket.
 pub const OUTPUT_LINES: usize = 1024;
+
+/// How many seconds a link may write nothing while lines wait behind its ring.
+const PATIENCE: u64 = 3;
 
 /// Why a socket got no link.
 #[derive(Clone, Copy, PartialEq, Eq, Debug)]
@@ -57,9 +61,13 @@ pub(crate) struct Link {
     // Until it has been waited for.
     reading: Option<PromisedHandle<Option<Sent>, OfTaker>>,
     output: LineSender,
+    // The lines told since the last flush for which the ring had no room.
+    beyond: VecDeque<String>,
     writing: JoinHandle<()>,
     // Whether lines were told since the writing thread was woken.
     has_news: bool,
+    // The second from which on lines have waited behind the ring and nothing was written.
+    stuck_since: Option<u64>,
     ghost of_input: { ForSome reading (λ thread. SameTaker thread.promise.0.value input) },
 }
 
@@ -77,7 +85,7 @@ impl Link {
         let Ok(theirs) = socket.try_clone() else {
             return Err((Refusal::Thread, socket));
         };
-        let Ok(shared) = Arc::new(alloc, Shared::new(theirs)) else {
+        let Ok(shared) = Arc::new(alloc, Shared::new(alloc, theirs)) else {
             return Err((Refusal::Memory, socket));
         };
         let (Ok(inward), Ok(outward)) = (lines(alloc, INPUT_LINES), lines(alloc, OUTPUT_LINES))
@@ -96,8 +104,10 @@ impl Link {
                 input,
                 reading: Some(reading),
                 output,
+                beyond: VecDeque::new(alloc),
                 writing,
                 has_news: false,
+                stuck_since: None,
             }),
             Err(refusal) => {
                 shared.cut();
@@ -107,8 +117,11 @@ impl Link {
         }
     }
 
-    /// What has come next.
+    /// What has come next. Nothing comes while lines wait behind the ring: whoever tells itself more than it reads waits.
     pub fn next<R: Threads>(&mut self, rt: &R) -> Input {
+        if self.is_behind() {
+            return Input::Nothing;
+        }
         if self.shared.is_done() {
             self.settle(rt);
         }
@@ -136,26 +149,94 @@ impl Link {
         self.shared.is_done()
     }
 
-    /// Tells a line. A link on which too many wait to be written is cut.
+    /// Tells a line. Where the ring has no room for it, it waits behind the others. Where there is no memory for that, the link is cut.
     pub fn tell(&mut self, line: String)
-        ensures { (lines_sent self.new.output ≡ lines_sent self.old.output ++ line ∷ []) ⊎ (lines_sent self.new.output ≡ lines_sent self.old.output) }
+        ensures { IsSent self.old.output self.new.output self.old.beyond.items self.new.beyond.items line ⊎ (IsKept self.old.output self.new.output self.old.beyond.items self.new.beyond.items line ⊎ IsLost self.old.output self.new.output self.old.beyond.items self.new.beyond.items) }
     {
+        if !self.beyond.is_empty() || self.shared.is_behind() {
+            self.keep(line);
+            return;
+        }
         match self.output.send(line) {
             Ok(()) => self.has_news = true,
-            Err(_) => self.shared.cut(),
+            Err(line) => {
+                // There is enough to write meanwhile.
+                self.shared.told.unpark();
+                self.keep(line);
+            }
         }
     }
 
-    /// Wakes the writing thread if there is something for it.
-    pub fn flush(&mut self) {
+    // Keeps a line for which the ring has no room.
+    fn keep(&mut self, line: String)
+        ensures { IsKept self.old.output self.new.output self.old.beyond.items self.new.beyond.items line ⊎ IsLost self.old.output self.new.output self.old.beyond.items self.new.beyond.items }
+    {
+        if self.beyond.push_back(line).is_err() {
+            self.shared.cut();
+        }
+    }
+
+    /// Hands what was told to the writing thread, and wakes it if there is something for it. A link on which too much waits to be written is cut.
+    pub fn flush<R: Wait>(&mut self, rt: &R)
+        ensures { (lines_sent self.new.output ≡ lines_sent self.old.output) × (self.new.beyond.items ≡ []) }
+    {
+        if !self.beyond.is_empty() {
+            self.hand_over(rt);
+        }
+        self.wake();
+    }
+
+    // Wakes the writing thread if there is something for it.
+    fn wake(&mut self)
+        ensures { (lines_sent self.new.output ≡ lines_sent self.old.output) × (self.new.beyond.items ≡ self.old.beyond.items) }
+    {
         if self.has_news {
             self.has_news = false;
             self.shared.told.unpark();
         }
     }
 
+    // Has the lines for which the ring had no room wait behind it.
+    fn hand_over<R: Wait>(&mut self, rt: &R)
+        ensures { (lines_sent self.new.output ≡ lines_sent self.old.output) × (self.new.beyond.items ≡ []) }
+    {
+        let none = VecDeque::new(*self.beyond.allocator());
+        let lines = mem::replace(&mut self.beyond, none);
+        if self.shared.is_cut() {
+            return;
+        }
+        if !self.shared.put_behind(rt, lines) {
+            self.shared.cut();
+        }
+        self.has_news = true;
+    }
+
+    /// Whether lines wait behind the ring, and may still be written.
+    fn is_behind(&self) -> bool {
+        self.shared.is_behind() && !self.shared.is_cut()
+    }
+
+    /// Whether lines wait behind the ring at this second. A link on which nothing has been written meanwhile for too long is cut.
+    pub fn watch(&mut self, second: u64) -> bool {
+        if !self.is_behind() {
+            self.stuck_since = None;
+            return false;
+        }
+        let has_written = self.shared.has_written();
+        match self.stuck_since {
+            Some(since) if !has_written => {
+                if second.saturating_sub(since) >= PATIENCE {
+                    self.shared.cut();
+                }
+            }
+            _ => self.stuck_since = Some(second),
+        }
+        true
+    }
+
     /// Tells no line any more: what was told is written, and then the link is cut.
-    pub fn close(&self) {
+    pub fn close<R: Wait>(&mut self, rt: &R) {
+        self.flush(rt);
         self.shared.close();
     }
 

@@ -86,20 +86,36 @@ impl Links {
         }
     }
 
-    /// Tells a link a line. A link on which too many wait to be written is cut.
+    /// Tells a link a line.
     pub fn tell(&mut self, number: u32, line: String) {
         if let Some(link) = self.link(number) {
             link.tell(line);
         }
     }
 
-    /// Has the lines written that were told.
-    pub fn flush(&mut self) {
+    /// Has the lines written that were told: all those of a list, however many they are. A link that has not written what earlier lists told it, and was
+    /// told a thousand lines since, is cut.
+    pub fn flush<R: Wait>(&mut self, rt: &R) {
         'number: for number in 1..=MOST_LINKS as u32 {
             if let Some(link) = self.link(number) {
-                link.flush();
+                link.flush(rt);
             }
         }
+    }
+
+    /// Whether a link has more lines to write than its ring holds at this second, so that it is to be watched. One that has written none of them for seconds
+    /// is cut. Nothing comes from such a link; the bell rings when its lines are in the ring.
+    pub fn watch(&mut self, second: u64) -> bool {
+        let mut some = false;
+        'number: for number in 1..=MOST_LINKS as u32 {
+            if let Some(link) = self.link(number) {
+                some = link.watch(second) || some;
+            }
+        }
+        'ending: for link in self.ending.iter_mut() {
+            some = link.watch(second) || some;
+        }
+        some
     }
 
     /// Whether every number is in use.
@@ -117,21 +133,46 @@ impl Links {
         })
     }
 
-    /// Takes a link out, whose number is free from then on. It writes what it was told, and ends. Where too many links do so already, the oldest of them is
-    /// cut.
-    pub fn release<R: Threads>(&mut self, rt: &R, number: u32) -> Result<(), AllocError> {
-        if self.ending.len() >= MOST_ENDING {
-            end(rt, self.ending.remove(0));
-        }
-        self.ending.reserve(1)?;
-        if number == 0 || number as usize > MOST_LINKS {
+    /// Takes a link out, if there is one of this number, which is free from then on. It writes what it was told, and ends. Where too many links do so
+    /// already, the oldest of them is cut.
+    pub fn release<R: Threads + Wait>(&mut self, rt: &R, number: u32) -> Result<(), AllocError> {
+        if self.link(number).is_none() {
             return Ok(());
         }
-        if let Some(link) = self.places[number as usize - 1].take() {
-            link.close();
+        self.make_room(rt);
+        self.ending.reserve(1)?;
+        if let Some(mut link) = self.take(number) {
+            link.close(rt);
             self.ending.push_reserved(link);
         }
         Ok(())
+    }
+
+    // The open link of a number, whose place is free then.
+    fn take(&mut self, number: u32) -> Option<Link>
+        ensures { self.new.ending ≡ self.old.ending }
+    {
+        let at = (number as usize).checked_sub(1)?;
+        self.places.get_mut(at)?.take()
+    }
+
+    // Has one link more write what it was told: where too many do, those that have are waited for, or else the oldest is cut.
+    fn make_room<R: Threads>(&mut self, rt: &R) {
+        if self.ending.len() >= MOST_ENDING {
+            self.sweep(rt);
+        }
+        if self.ending.len() >= MOST_ENDING {
+            end(rt, self.ending.remove(0));
+        }
+    }
+
+    /// Tells no link a line any more: each writes what it was told, and ends.
+    pub fn close<R: Wait>(&mut self, rt: &R) {
+        'number: for number in 1..=MOST_LINKS as u32 {
+            if let Some(link) = self.link(number) {
+                link.close(rt);
+            }
+        }
     }
 
     /// Waits for the threads of the links that have written all that they were told.

@@ -1,9 +1,12 @@
 //! What the server's loop and the two threads of a link share.
+use crate::backlog::Backlog;
+use std::alloc::Global;
+use std::collections::VecDeque;
 use std::io;
 use std::io::Write;
 use std::net::{Shutdown, TcpStream};
 use std::sync::atomic::{AtomicBool, Ordering};
-use std::sync::{Mutex, Wait};
+use std::sync::{Mutex, MutexGuard, Wait};
 use std::thread::Parker;
 
 /// A socket, and what tells the threads on it to go on or to end. A flag is set before the thread that waits for it is woken.
@@ -16,6 +19,12 @@ pub(crate) struct Shared {
     pub told: Parker,
     // Held while bytes are written.
     turn: Mutex<()>,
+    // The lines for which the ring had no room.
+    backlog: Mutex<Backlog>,
+    // Whether there are such lines. None is put into the ring meanwhile.
+    behind: AtomicBool,
+    // The thread that writes has written since the loop asked.
+    written: AtomicBool,
     // The thread that reads is about to end.
     done: AtomicBool,
     // The thread that writes is about to end.
@@ -27,12 +36,15 @@ pub(crate) struct Shared {
 }
 
 impl Shared {
-    pub fn new(socket: TcpStream) -> Shared {
+    pub fn new(alloc: Global, socket: TcpStream) -> Shared {
         Shared {
             socket,
             room: Parker::new(),
             told: Parker::new(),
             turn: Mutex::new(()),
+            backlog: Mutex::new(Backlog::new(alloc)),
+            behind: AtomicBool::new(false),
+            written: AtomicBool::new(false),
             done: AtomicBool::new(false),
             gone: AtomicBool::new(false),
             closing: AtomicBool::new(false),
@@ -58,7 +70,39 @@ impl Shared {
         self.gone.store(true, Ordering::SeqCst);
     }
 
-    /// Whether no line is told any more but those that are in the ring.
+    /// Whether lines wait behind the ring. The loop alone adds some, and the thread that writes takes them when the ring is empty.
+    pub fn is_behind(&self) -> bool {
+        self.behind.load(Ordering::SeqCst)
+    }
+
+    /// Has lines wait behind the ring and those that wait there. Whether they may.
+    pub fn put_behind<R: Wait>(&self, rt: &R, lines: VecDeque<String>) -> bool {
+        let mut backlog = self.backlog.lock(rt);
+        let may_wait = backlog.add(lines);
+        self.behind.store(true, Ordering::SeqCst);
+        may_wait
+    }
+
+    /// The lines that wait behind the ring.
+    pub fn backlog<R: Wait>(&self, rt: &R) -> MutexGuard<'_, Backlog> {
+        self.backlog.lock(rt)
+    }
+
+    /// No line waits behind the ring any more. The backlog is locked.
+    pub fn set_caught_up(&self) {
+        self.behind.store(false, Ordering::SeqCst);
+    }
+
+    /// Whether something was written since this was asked.
+    pub fn has_written(&self) -> bool {
+        self.written.swap(false, Ordering::SeqCst)
+    }
+
+    pub fn set_written(&self) {
+        self.written.store(true, Ordering::SeqCst);
+    }
+
+    /// Whether no line is told any more but those that wait.
     pub fn is_closing(&self) -> bool {
         self.closing.load(Ordering::SeqCst)
     }

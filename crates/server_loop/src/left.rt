@@ -6,8 +6,6 @@ use std::alloc::{AllocError, Global};
 use std::rt::Clock;
 use std::sync::Wait;
 use std::thread::Threads;
-use task_step::step::GREATEST_CONNECTION;
-use view::question::{Answer, Question};
 use world::worlds::World;
 
 /// Closes every link of a world: none of them has a socket. Ends where a task asks for it meanwhile.
@@ -60,23 +58,15 @@ fn closing(
     Ok(draft)
 }
 
-// Their numbers.
+// Their numbers, in order.
 fn left_links(alloc: Global, world: &World) -> Result<Vec<u32>, AllocError> {
+    let records = world.snapshot()?.share()?;
+    let numbers = records.link_numbers()?;
     let mut left = Vec::new(alloc);
-    'number: for number in 1..=GREATEST_CONNECTION {
-        if has_link(world, number)? {
+    'number: for number in numbers.as_slice() {
+        if let Ok(number) = u32::try_from(*number) {
             left.push(number)?;
         }
     }
     Ok(left)
-}
-
-fn has_link(world: &World, number: u32) -> Result<bool, AllocError> {
-    let Ok(connection) = i32::try_from(number) else {
-        return Ok(false);
-    };
-    Ok(matches!(
-        world.ask(&Question::Link(connection))?,
-        Answer::Link(Some(_))
-    ))
 }

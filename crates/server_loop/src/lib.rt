@@ -1,8 +1,8 @@
 //! The loop of `moo-server`: what its links send and the tasks that are due become lists of steps, which are run, and what they tell goes out.
 #![tactic(auto)]
 
+mod agenda;
 mod draft;
-mod due;
 mod gather;
 mod left;
 mod pace;

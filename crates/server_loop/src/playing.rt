@@ -130,6 +130,14 @@ pub fn next_number(world: &World) -> Result<u32, End> {
     Ok(next as u32)
 }
 
+/// The seconds since an arbitrary start, which never go back, or 0 where the clock cannot be read.
+pub fn second<C: Clock>(clock: &C) -> u64 {
+    match clock.monotonic() {
+        Ok(since) => since.as_secs(),
+        Err(_) => 0,
+    }
+}
+
 /// The seconds since 1970, or 0 where the clock cannot be read.
 pub fn moment<C: Clock>(clock: &C) -> u32 {
     match clock.since_1970() {

@@ -1,13 +1,14 @@
 //! The loop.
 ghost use Rattle.std.specs.Prelude.{◌≡◌, ◌⊎◌};
 
+use crate::agenda::Agenda;
 use crate::left::close_left;
 use crate::pace::Pace;
 use crate::playing::{End, Plan, Reached};
 use crate::saving::Saver;
 use crate::turn::{Edge, run_turn};
 use connections::door::Door;
-use connections::links::{Links, MOST_LINKS};
+use connections::links::Links;
 use speculate::gate::Gate;
 use std::alloc::Global;
 use std::io::Write;
@@ -106,11 +107,9 @@ fn start<R: Threads + Wait + Clock + Copy + Send + 'static>(
 }
 
 // Ends the links; where a task asked for the end, once they had time for their last lines.
-fn end_links<R: Threads + Clock + Copy>(rt: R, mut links: Links, end: End) {
+fn end_links<R: Threads + Wait + Clock + Copy>(rt: R, mut links: Links, end: End) {
     if end == End::Asked {
-        'number: for number in 1..=MOST_LINKS as u32 {
-            let _ = links.release(&rt, number);
-        }
+        links.close(&rt);
         thread::sleep(&rt, Duration::from_millis(LAST_LINES));
     }
     links.end(&rt);
@@ -134,6 +133,9 @@ fn run_turns<
 ) -> (World, End) {
     let mut pace = Pace::new();
     let mut reached = close_left(&rt, alloc, gate, clock, plan, world);
+    let Ok(mut agenda) = Agenda::new(alloc, &reached.world) else {
+        return (reached.world, End::Memory(0));
+    };
     'turn: for _ in rt.forever() {
         let Reached { world, asks, end } = reached;
         if let Some(end) = end {
@@ -142,7 +144,17 @@ fn run_turns<
         if let Some(saver) = &mut edge.saver {
             saver.tend(&rt, &world, asks, errors);
         }
-        reached = run_turn(rt, alloc, gate, clock, plan, world, &mut pace, edge);
+        reached = run_turn(
+            rt,
+            alloc,
+            gate,
+            clock,
+            plan,
+            world,
+            &mut pace,
+            &mut agenda,
+            edge,
+        );
     }
     unreachable!()
 }

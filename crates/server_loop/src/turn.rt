@@ -1,9 +1,11 @@
 //! One turn of the loop.
+use crate::agenda::Agenda;
 use crate::draft::Draft;
-use crate::due::add_due;
 use crate::gather::gather;
 use crate::pace::Pace;
-use crate::playing::{End, Plan, Played, Reached, asks_checkpoint, moment, next_number, play};
+use crate::playing::{
+    End, Plan, Played, Reached, asks_checkpoint, moment, next_number, play, second,
+};
 use crate::saving::Saver;
 use connections::door::Door;
 use connections::links::Links;
@@ -18,6 +20,9 @@ use world::worlds::World;
 
 /// The longest wait for the next task, in seconds.
 const LONGEST_WAIT: u32 = 60;
+
+/// The longest wait while a link is watched, in seconds.
+const WATCH: u32 = 1;
 
 /// Where a server's bytes come from and go to.
 #[derive(Drop)]
@@ -39,6 +44,7 @@ pub fn run_turn<G: Gate, R: Threads + Wait + Copy + Send + Sync + 'static, C: Cl
     plan: Plan,
     world: World,
     pace: &mut Pace,
+    agenda: &mut Agenda,
     edge: &mut Edge,
 ) -> Reached {
     let next = match next_number(&world) {
@@ -54,15 +60,19 @@ pub fn run_turn<G: Gate, R: Threads + Wait + Copy + Send + Sync + 'static, C: Cl
         bell,
         ..
     } = edge;
-    let Ok(next_due) = add_due(alloc, &mut draft, &world) else {
+    let is_watching = links.watch(second(clock));
+    if agenda.look(&world).is_err() || agenda.add_due(&mut draft, &world).is_err() {
         return Reached::end(world, false, End::Memory(0));
-    };
+    }
     if gather(rt, alloc, &mut draft, door, links, bell).is_err() {
         return Reached::end(world, false, End::Memory(0));
     }
     links.sweep(&rt);
     if draft.steps.is_empty() {
-        wait(&rt, bell, next_due, draft.moment());
+        if agenda.is_current() {
+            let next_due = agenda.next_moment();
+            wait(&rt, bell, patience(next_due, draft.moment(), is_watching));
+        }
         return Reached {
             world,
             asks: false,
@@ -83,6 +93,9 @@ pub fn run_turn<G: Gate, R: Threads + Wait + Copy + Send + Sync + 'static, C: Cl
         pace.learn(outcomes.as_slice());
     }
     let asks = asks_checkpoint(outcomes.as_slice());
+    if agenda.learn(outcomes.as_slice()).is_err() {
+        return Reached::end(world, asks, End::Memory(0));
+    }
     if tell_all(&rt, links, outcomes).is_err() {
         return Reached::end(world, asks, End::Memory(0));
     }
@@ -97,19 +110,30 @@ pub fn run_turn<G: Gate, R: Threads + Wait + Copy + Send + Sync + 'static, C: Cl
     }
 }
 
-// Until something comes, or a task may be due.
-fn wait<R: Wait>(rt: &R, bell: &Parker, next_due: Option<u32>, now: u32) {
-    match next_due {
+// How many seconds there may be nothing to do, if it is not for good: until a task may be due, or a link is to be looked at.
+fn patience(next_due: Option<u32>, now: u32, is_watching: bool) -> Option<u32> {
+    let seconds = match next_due {
+        None if is_watching => WATCH,
+        None => return None,
+        Some(due) => due.saturating_sub(now).min(LONGEST_WAIT),
+    };
+    if is_watching {
+        Some(seconds.min(WATCH))
+    } else {
+        Some(seconds)
+    }
+}
+
+// Until something comes, or these seconds are over.
+fn wait<R: Wait>(rt: &R, bell: &Parker, seconds: Option<u32>) {
+    match seconds {
         None => bell.park(rt),
-        Some(due) => {
-            let seconds = due.saturating_sub(now).min(LONGEST_WAIT);
-            bell.park_timeout(rt, Duration::from_secs(u64::from(seconds)));
-        }
+        Some(seconds) => bell.park_timeout(rt, Duration::from_secs(u64::from(seconds))),
     }
 }
 
 // Tells each line to its link, in order, and takes out the links that the steps closed.
-fn tell_all<R: Threads>(
+fn tell_all<R: Threads + Wait>(
     rt: &R,
     links: &mut Links,
     outcomes: Vec<Outcome>,
@@ -123,6 +147,6 @@ fn tell_all<R: Threads>(
             links.release(rt, number)?;
         }
     }
-    links.flush();
+    links.flush(rt);
     Ok(())
 }

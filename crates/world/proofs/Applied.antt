@@ -2,11 +2,12 @@
 use Rattle.std.proofs.Common.{◌≡◌, ℤ, Option, Some, None, Ok, Err, IsTrue, is_some, refl, sym, ◌∙◌, ap, option_map}
 use Rattle.std.specs.Prelude.{Result, IfOk, MatchOption}
 use Rattle.spec_value.specs.Datum.{Datum, Text, fold_case}
-use Rattle.spec_value.specs.Table.{named, with_name}
+use Rattle.spec_value.specs.Table.{Numbered, with, named, with_name}
 use Rattle.spec_world.specs.World.{World, Object, Slot, object_at, with_object}
 use Rattle.spec_world.specs.Inherit.{slot_of, put_slot, with_slot}
 use Rattle.spec_world.specs.Families.{change_at, change_object}
 use Rattle.spec_world.specs.Questions.{apply, new_value, put_value}
+use Rattle.world.specs.Revised.{RevisesRecord, revalued, with_content}
 
 -- one object changes, if it is there
 pub no_object_there : (w : World) (o : ℤ) (f : Object → Object) → None ≡ object_at w o → change_object w o f ≡ w
@@ -17,10 +18,6 @@ object_there w o f x e = ap (change_at w o f) (sym e)
 
 pub is_there : (w : World) (o : ℤ) (x : Object) → Some x ≡ object_at w o → IsTrue (is_some (object_at w o))
 is_there w o x e = ap is_some (sym e)
-
--- an object with another value in a slot, where it has that slot
-abbrev pub revalued : Object → Text → Datum → Option Object
-revalued x p v = option_map (λ s. record x { slots = with_name x.slots (fold_case p) (record s { content = Some v }) }) (named x.slots (fold_case p))
 
 -- nothing changes on an object that is not there
 pub no_object_changes : (w : World) (o : ℤ) (p : Text) (v : Datum) → object_at w o ≡ None → apply (new_value o p v) w ≡ w
@@ -60,3 +57,26 @@ pub changed_one : {E : Type 0} (w : World) (o : ℤ) (p : Text) (v : Datum) (x :
     → IfOk r (λ y. MatchOption y (apply (new_value o p v) w ≡ w) (λ z. IsTrue (is_some (object_at w o)) × (apply (new_value o p v) w ≡ with_object w o z)))
 changed_one w o p v x (Ok y) is e = one_change w o p v x y is e
 changed_one w o p v x (Err e) is h = tt
+
+-- ---- an object that was changed where it lies
+
+abbrev with_slot_named : Object → Text → Slot → Object
+with_slot_named x p s = record x { slots = with_name x.slots (fold_case p) s }
+
+filled_mapped : (x : Object) (p : Text) (v : Datum) (s : Option Slot)
+    → option_map (with_slot_named x p) (option_map (with_content v) s) ≡ option_map (λ u. with_slot_named x p (with_content v u)) s
+filled_mapped x p v None = refl
+filled_mapped x p v (Some u) = refl
+
+-- with the slot that has another value it is the object that has it
+pub refilled : (x : Object) (p : Text) (v : Datum) (t : Slot) → Some t ≡ option_map (with_content v) (named x.slots (fold_case p)) → Some (with_slot_named x p t) ≡ revalued x p v
+refilled x p v t is = ap (option_map (with_slot_named x p)) is ∙ filled_mapped x p v (named x.slots (fold_case p))
+
+pub value_revised : (w : World) (o : ℤ) (p : Text) (v : Datum) (after : Numbered Object) → RevisesRecord (λ x y. Some y ≡ revalued x p v) o w.objects after
+    → record w { objects = after } ≡ apply (new_value o p v) w
+value_revised w o p v after r = ap (λ (os : Numbered Object). record w { objects = os }) r.records ∙ sym (object_changes w o p v r.before r.after r.found r.made)
+
+pub part_revised : (w : World) (o : ℤ) (f : Object → Object) (after : Numbered Object) → RevisesRecord (λ x y. y ≡ f x) o w.objects after
+    → record w { objects = after } ≡ change_object w o f
+part_revised w o f after r =
+    ap (λ (os : Numbered Object). record w { objects = os }) (r.records ∙ ap (with w.objects o) r.made) ∙ sym (object_there w o f r.before (sym r.found))

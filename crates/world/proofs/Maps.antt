@@ -11,7 +11,9 @@ use Rattle.std.specs.FinMap.Entries.{by_order}
 use Rattle.spec_value.specs.Table.{at, with, without}
 use Rattle.spec_world.specs.Questions.{is_number, put_record}
 use Rattle.world_table.specs.Entries.{without as without_key}
+use Rattle.world_table.specs.Revised.{Revises}
 use Rattle.world.specs.Numbered.{keyed, numbered, signed_key, signed}
+use Rattle.world.specs.Revised.{RevisesRecord}
 
 order_of : {A B : Type 0} (f : A → B) (r : Ordering) (x y z : A) → by_order r (f x) (f y) (f z) ≡ f (by_order r x y z)
 order_of f Less x y z = refl
@@ -58,6 +60,18 @@ with_positive es k x = with_key pos positive_cmp es k x
 
 pub without_positive : {X : Type 0} (es : List (ℕ × X)) (k : ℕ) → without (numbered es) (pos k) ≡ numbered (without_key k es)
 without_positive es k = without_at pos positive_cmp es k
+
+-- a record that was changed where it lies
+pub record_revised : {X : Type 0} (Makes : X → X → Type 0) (n : ℤ) (k : ℕ) (old new : List (ℕ × X)) → n ≡ pos k → Revises Makes k old new
+    → RevisesRecord Makes n (numbered old) (numbered new)
+record_revised Makes n k old new is r =
+    subst (λ (m : ℤ). RevisesRecord Makes m (numbered old) (numbered new)) (sym is) (record {
+      before = r.before;
+      after = r.after;
+      found = at_positive old k ∙ r.found;
+      made = r.made;
+      records = ap numbered r.entries ∙ sym (with_positive old k r.after);
+    })
 
 pub without_negative : {X : Type 0} (es : List (ℕ × X)) (k : ℕ) → without (numbered es) (negsuc k) ≡ numbered es
 without_negative [] k = refl

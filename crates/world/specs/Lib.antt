@@ -7,3 +7,4 @@ pub mod Forks
 pub mod Objects
 pub mod Picked
 pub mod Tasks
+pub mod Revised

@@ -1,5 +1,5 @@
 //! A world between two changes.
-ghost use Rattle.std.specs.Prelude.{◌≡◌, ◌↔◌, ◌<◌, ℕ, ℤ, pos, negsuc, false, [], max, IfOk, OnOk, OnErr, IsTrue, is_some, map, option_map, MatchOption};
+ghost use Rattle.std.specs.Prelude.{◌≡◌, ◌↔◌, ◌<◌, ℕ, ℤ, pos, negsuc, true, false, [], max, IfOk, OnOk, OnErr, IsTrue, is_some, map, option_map, MatchOption};
 ghost use Rattle.spec_value.specs.Table.{at, with};
 ghost use Rattle.spec_world.specs.World.{object_at, with_object};
 ghost use Rattle.spec_world.specs.Listings.{waiting_ids, readers_on, connections_of, connected};
@@ -8,7 +8,8 @@ ghost use Rattle.view.specs.Meanings.{question_of, answer_of, part_of, change_of
 ghost use Rattle.world.specs.Numbered.{numbered};
 
 use crate::choice::{AllNumbers, LinksOf, LoggedIn, gather, is_gathered};
-use crate::records::{put_record, record_at, same_records, set_record};
+use crate::edits::{NewPart, NewValue};
+use crate::records::{put_record, record_at, revise_record, same_records, set_record};
 use crate::tasks::Tasks;
 use moo_task::task::Task;
 use moo_value::text::Text;
@@ -452,6 +453,9 @@ impl Draft {
         ensures ok { OnOk result (self.new ≡ apply (new_part number (part_of part)) self.old) }
         ensures err { OnErr result (self.new ≡ self.old) }
     {
+        if self.revise_part(number, &part)? {
+            return Ok(());
+        }
         let Some(object) = self.object(number) else {
             return Ok(());
         };
@@ -460,15 +464,47 @@ impl Draft {
         put_record(&mut self.objects, number, changed)
     }
 
+    // Another part of an object that no other draft shares, and whether there is such a one.
+    fn revise_part(&mut self, number: i32, part: &Part) -> Result<bool, AllocError>
+        ensures done { IfOk result (λ b. b ≡ true → self.new ≡ apply (new_part number (part_of part.now)) self.old) }
+        ensures left { IfOk result (λ b. b ≡ false → self.new ≡ self.old) }
+        ensures err { OnErr result (self.new ≡ self.old) }
+    {
+        let revision = NewPart {
+            alloc: self.alloc,
+            part,
+        };
+        let done = revise_record(&mut self.objects, number, &revision)?;
+        Ok(done)
+    }
+
     // Another value in a slot, if there is one.
     fn put_value(&mut self, number: i32, name: &Text, value: Value) -> Result<(), AllocError>
         ensures ok { OnOk result (self.new ≡ apply (new_value number name.now value) self.old) }
         ensures err { OnErr result (self.new ≡ self.old) }
     {
+        if self.revise_value(number, name, &value)? {
+            return Ok(());
+        }
         let Some(changed) = self.with_value(number, name, value)? else {
             return Ok(());
         };
         put_record(&mut self.objects, number, changed)
+    }
+
+    // Another value in a slot of an object that no other draft shares, and whether there is such a slot.
+    fn revise_value(&mut self, number: i32, name: &Text, value: &Value) -> Result<bool, AllocError>
+        ensures done { IfOk result (λ b. b ≡ true → self.new ≡ apply (new_value number name.now value.now) self.old) }
+        ensures left { IfOk result (λ b. b ≡ false → self.new ≡ self.old) }
+        ensures err { OnErr result (self.new ≡ self.old) }
+    {
+        let revision = NewValue {
+            alloc: self.alloc,
+            name,
+            value,
+        };
+        let done = revise_record(&mut self.objects, number, &revision)?;
+        Ok(done)
     }
 
     // The object with another value in a slot, if there is one.

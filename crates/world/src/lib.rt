@@ -11,6 +11,7 @@ mod asked;
 mod choice;
 pub mod count;
 pub mod draft;
+mod edits;
 pub mod fork;
 pub mod keeping;
 pub mod live;

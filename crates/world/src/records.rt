@@ -1,15 +1,17 @@
 //! Tables of records, by the numbers of objects and links.
-ghost use Rattle.std.specs.Prelude.{◌≡◌, ◌↔◌, ◌<◌, ◌^◌, ℕ, ℤ, pos, negsuc, OnOk, OnErr, IsTrue, is_some, None, option_map, MatchOption};
+ghost use Rattle.std.specs.Prelude.{◌≡◌, ◌↔◌, ◌<◌, ◌^◌, ℕ, ℤ, pos, negsuc, true, false, IfOk, OnOk, OnErr, IsTrue, is_some, None, option_map, MatchOption};
 ghost use Rattle.std.specs.List.{AllByRecursion};
 ghost use Rattle.spec_value.specs.Table.{at, with};
 ghost use Rattle.spec_world.specs.Questions.{put_record as changed_record};
 ghost use Rattle.world.specs.Numbered.{numbered};
+ghost use Rattle.world.specs.Revised.{RevisesRecord};
 
 use moo_task::task::Task;
 use std::alloc::AllocError;
 use view::link::Link;
 use view::object::Object;
 use world_table::Table;
+use world_table::revision::Revision;
 
 /// The greatest number that an object or a link may have.
 const LAST_NUMBER: u64 = 999_999;
@@ -58,6 +60,26 @@ pub(crate) fn set_record<R: Drop>(
         (Some(key), None) => records.remove(key),
         (_, _) => Ok(()),
     }
+}
+
+/// Changes the record of a number where it lies, and answers whether it did: it does not where there is none, nor where other records share it.
+pub(crate) fn revise_record<R: Drop, E: Revision<R>>(
+    records: &mut Table<R, 4>,
+    number: i32,
+    revision: &E,
+) -> Result<bool, AllocError>
+    ensures done { IfOk result (λ b. b ≡ true → RevisesRecord (E.makes revision.now) number (numbered records.old.entries) (numbered records.new.entries)) }
+    ensures left { IfOk result (λ b. b ≡ false → records.new ≡ records.old) }
+    ensures err { OnErr result (records.new ≡ records.old) }
+{
+    let Some(key) = key_of(number) else {
+        return Ok(false);
+    };
+    if key > LAST_NUMBER {
+        return Ok(false);
+    }
+    let done = records.revise(key, revision)?;
+    Ok(done)
 }
 
 fn key_of(number: i32) -> Option<u64>

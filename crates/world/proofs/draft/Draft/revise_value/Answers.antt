@@ -1,0 +1,21 @@
+use Rattle.std.proofs.Common.{◌∙◌, ap, w32}
+use Rattle.std.proofs.lemmas.Int.{to_z-of_z}
+use Rattle.spec_world.specs.World.{World}
+use Rattle.spec_world.specs.Questions.{apply, new_value}
+use Rattle.world.specs.Numbered.{numbered}
+use Rattle.world.proofs.Applied.{value_revised}
+use Rattle.world.proofs.draft.Draft.revise_value.Goals as goal
+
+pub returns-clause-done : goal.returns-clause-done
+returns-clause-done c = λ yes.
+    let told = rw (to_z-of_z w32 c.args.number c.ranges.number) at (c.in_ok-done.ensures.done yes) in
+    let before : World = record {
+      objects = numbered c.self.inside.objects.entries;
+      tasks = c.self.inside.tasks;
+      links = numbered c.self.inside.links.entries;
+      greatest = c.self.inside.greatest;
+      next = c.self.inside.next;
+      ending = c.self.inside.ending;
+    } in
+    value_revised before c.args.number c.args.name.now c.args.value.now (numbered c.revise_record.new.records.entries) told
+    ∙ ap (λ (w : World). apply (new_value c.args.number c.args.name.now c.args.value.now) w) c.self.view_is

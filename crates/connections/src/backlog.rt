@@ -1,5 +1,5 @@
 //! Lines that wait behind a full ring.
-ghost use Rattle.std.specs.Prelude.{◌≡◌, ◌++◌, [], IsTrue, option_to_list};
+ghost use Rattle.std.specs.Prelude.{◌≡◌, ◌↔◌, ◌++◌, ◌∷◌, [], IsTrue, MatchOption};
 
 use std::alloc::Global;
 use std::collections::VecDeque;
@@ -45,14 +45,15 @@ impl Backlog {
 
     /// Takes the next line.
     pub fn take(&mut self) -> Option<String>
-        ensures { self.old.lines.items ≡ option_to_list result ++ self.new.lines.items }
+        ensures { MatchOption result ((self.old.lines.items ≡ []) × (self.new.lines.items ≡ [])) (λ line. self.old.lines.items ≡ line ∷ self.new.lines.items) }
     {
         self.lines.pop_front()
     }
 
     /// Whether none waits. Then their memory is given back.
     pub fn is_done(&mut self) -> bool
-        ensures { self.new.lines.items ≡ self.old.lines.items }
+        ensures none { IsTrue result ↔ self.old.lines.items ≡ [] }
+        ensures stay { self.new.lines.items ≡ self.old.lines.items }
     {
         if !self.lines.is_empty() {
             return false;

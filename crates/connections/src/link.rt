@@ -1,5 +1,5 @@
 //! One link: a socket with its two threads and its two rings.
-ghost use Rattle.std.specs.Prelude.{◌≡◌, ◌++◌, ◌∷◌, [], ◌⊎◌, ◌≢◌, IfSome, IfOk, IfErr};
+ghost use Rattle.std.specs.Prelude.{◌≡◌, ◌++◌, ◌∷◌, [], ◌⊎◌, ◌≢◌, IfSome, IfOk, IfErr, OnOk, OnErr};
 ghost use Rattle.std.specs.Option.{ForSome};
 ghost use Rattle.connections.specs.Lines.{lines_sent, IsRing, IsSentOf, IsSent, IsKept, IsLost, SameTaker, FromSender};
 
@@ -7,7 +7,7 @@ use crate::lines::{LineSender, LineTaker, Sent, lines};
 use crate::reading::read_link;
 use crate::shared::Shared;
 use crate::writing::write_link;
-use std::alloc::Global;
+use std::alloc::{AllocError, Global};
 use std::collections::VecDeque;
 use std::net::TcpStream;
 use std::snapshot::Snapshot;
@@ -153,27 +153,39 @@ impl Link {
     pub fn tell(&mut self, line: String)
         ensures { IsSent self.old.output self.new.output self.old.beyond.items self.new.beyond.items line ⊎ (IsKept self.old.output self.new.output self.old.beyond.items self.new.beyond.items line ⊎ IsLost self.old.output self.new.output self.old.beyond.items self.new.beyond.items) }
     {
+        if self.queue(line).is_err() {
+            self.shared.cut();
+        }
+    }
+
+    // Puts a line into the ring, or behind it.
+    fn queue(&mut self, line: String) -> Result<(), AllocError>
+        ensures ok { OnOk result (IsSent self.old.output self.new.output self.old.beyond.items self.new.beyond.items line ⊎ IsKept self.old.output self.new.output self.old.beyond.items self.new.beyond.items line) }
+        ensures err { OnErr result (IsLost self.old.output self.new.output self.old.beyond.items self.new.beyond.items) }
+    {
         if !self.beyond.is_empty() || self.shared.is_behind() {
-            self.keep(line);
-            return;
+            return self.keep(line);
         }
         match self.output.send(line) {
-            Ok(()) => self.has_news = true,
+            Ok(()) => {
+                self.has_news = true;
+                Ok(())
+            }
             Err(line) => {
                 // There is enough to write meanwhile.
                 self.shared.told.unpark();
-                self.keep(line);
+                self.keep(line)
             }
         }
     }
 
     // Keeps a line for which the ring has no room.
-    fn keep(&mut self, line: String)
-        ensures { IsKept self.old.output self.new.output self.old.beyond.items self.new.beyond.items line ⊎ IsLost self.old.output self.new.output self.old.beyond.items self.new.beyond.items }
+    fn keep(&mut self, line: String) -> Result<(), AllocError>
+        ensures ok { OnOk result (IsKept self.old.output self.new.output self.old.beyond.items self.new.beyond.items line) }
+        ensures err { OnErr result (IsLost self.old.output self.new.output self.old.beyond.items self.new.beyond.items) }
     {
-        if self.beyond.push_back(line).is_err() {
-            self.shared.cut();
-        }
+        self.beyond.push_back(line)?;
+        Ok(())
     }
 
     /// Hands what was told to the writing thread, and wakes it if there is something for it. A link on which too much waits to be written is cut.

@@ -93,10 +93,8 @@ pub fn run_turn<G: Gate, R: Threads + Wait + Copy + Send + Sync + 'static, C: Cl
         pace.learn(outcomes.as_slice());
     }
     let asks = asks_checkpoint(outcomes.as_slice());
-    if agenda.learn(outcomes.as_slice()).is_err() {
-        return Reached::end(world, asks, End::Memory(0));
-    }
-    if tell_all(&rt, links, outcomes).is_err() {
+    let learned = agenda.learn(outcomes.as_slice());
+    if tell_all(&rt, links, outcomes).is_err() || learned.is_err() {
         return Reached::end(world, asks, End::Memory(0));
     }
     'closed: for number in &draft.closed {

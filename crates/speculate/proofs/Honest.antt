@@ -16,7 +16,7 @@ use Rattle.speculate.specs.declared.held.Mark.TheVariants.{Kept, Rerun, Lost}
 use Rattle.speculate.specs.Right.{Guessed, IsRight, after_guess}
 use Rattle.speculate.specs.BoardState.{BoardState, FitsStep, runs, IsHonest, opened_on, with_held}
 use Rattle.speculate.specs.Progress.{Committed, Commits, with_commit, Advances, ready, rest, IsUndone, StaysPut, AdvancesInPart, AllHeld}
-use Rattle.speculate.proofs.Places.{fits_at, fits_set, fits_any, fits_empty, fits_length, ready_more, ready_all}
+use Rattle.speculate.proofs.Places.{fits_at, fits_set, fits_any, fits_empty, fits_length, ready_more, ready_all, set_back, set_get}
 use Rattle.speculate.proofs.Plays.{play_more, range_at}
 use Rattle.view.proofs.SoundKeeps.{sound_step}
 
@@ -213,3 +213,19 @@ commit_at b at s h w o m os ms hs n here s_at h_at done os_is ms_is hs_is n_is =
   committed = done;
   after = rw (os_is, ms_is, hs_is, n_is, here) refl;
 }
+
+-- ---- a guess that was found on the world as it is
+
+-- it is committed where the next position holds nothing, as though it had been there
+pub found_keeps : (b : BoardState) (at : ℕ) (s : Step) (g : Guessed) (w : Counted) (os : List Outcome) (ms : List Mark)
+    → IsHonest b → at ≡ length b.outcomes → slice_get b.steps at ≡ Some s → slice_get b.held at ≡ Some Empty → g.step ≡ s → IsRight g → Agrees b.world.plain g.reads
+    → w ≡ record { plain = after_guess g b.world.plain; opened = b.world.opened } → os ≡ b.outcomes ++ g.outcome ∷ [] → ms ≡ b.marks ++ Kept ∷ []
+    → IsHonest record { base = b.base; steps = b.steps; world = w; outcomes = os; marks = ms; held = b.held; undone = b.undone }
+found_keeps b at s g w os ms honest here s_at free same right agrees w_is os_is ms_is =
+    let h : BoardState = with_held b at (Holds g) in
+    let held : IsHonest h = holding_keeps b at s (Holds g) honest s_at (same, right) in
+    let hs : List Held = slice_set h.held at Empty in
+    let c = commit_at h at s (Holds g) w g.outcome Kept os ms hs b.undone here s_at (set_get b.held at (Holds g) Empty free) (inl (agrees, w_is, refl, refl)) os_is ms_is refl refl in
+    let after : BoardState = record { base = b.base; steps = b.steps; world = w; outcomes = os; marks = ms; held = hs; undone = b.undone } in
+    let P : List Held → Type 0 = λ x. IsHonest record { base = b.base; steps = b.steps; world = w; outcomes = os; marks = ms; held = x; undone = b.undone } in
+    subst P (set_back b.held at Empty (Holds g) free) (commits_keeps h after held c)

@@ -1,5 +1,5 @@
 //! The board of a list: one world, and what each position that is not committed yet holds.
-ghost use Rattle.std.specs.Prelude.{◌≡◌, ◌≤◌, ◌<◌, ◌↔◌, ◌⊎◌, ◌≢◌, [], true, false, IsTrue, IsErrOf, IfOk, IfErr, OnOk, OnErr, length, replicate, Some, slice_get};
+ghost use Rattle.std.specs.Prelude.{◌≡◌, ◌≤◌, ◌<◌, ◌↔◌, ◌⊎◌, ◌≢◌, [], true, false, IsTrue, IsErrOf, IfOk, IfErr, IfSome, OnOk, OnErr, length, replicate, Some, slice_get};
 ghost use Rattle.spec_world.specs.Step.{RunsOn, AllInRange};
 ghost use Rattle.speculate.specs.BoardState.{IsHonest, IsFree, opened_on, with_held};
 ghost use Rattle.speculate.specs.Progress.{Commits, Advances, AdvancesInPart, IsNextHeld, StaysPut, SameRun, ready, rest, AllHeld};
@@ -270,6 +270,42 @@ impl Board {
     {
         self.settle(position, guess);
         let _ = self.advance(alloc);
+    }
+
+    // Commits the next position, which holds nothing, by a guess for it that was found on the world as it is. Any other is handed back.
+    fn commit_found(&mut self, position: usize, guess: Guess) -> Result<(), Guess>
+        requires { guess.before ≡ self.old.world.plain }
+        ensures same { (self.new.base ≡ self.old.base) × (self.new.steps ≡ self.old.steps) }
+    {
+        if position != self.outcomes.len() || !self.is_free(position) {
+            return Err(guess);
+        }
+        if !self.is_for(position, &guess) {
+            return Err(guess);
+        }
+        if self.outcomes.reserve(1).is_err() || self.marks.reserve(1).is_err() {
+            return Err(guess);
+        }
+        guess.know();
+        let outcome = guess.take_over(&mut self.world);
+        self.outcomes.push_reserved(outcome);
+        self.marks.push_reserved(Mark::Kept);
+        Ok(())
+    }
+
+    /// As `hand_in`, of a guess that was found on the world as it is: the world then is what it became there.
+    pub(crate) fn hand_in_found(&mut self, alloc: Global, position: usize, guess: Option<Guess>)
+        requires { IfSome guess (λ g. g.before ≡ self.old.world.plain) }
+        ensures { (self.new.base ≡ self.old.base) × (self.new.steps ≡ self.old.steps) }
+    {
+        let rest = match guess {
+            Some(guess) => match self.commit_found(position, guess) {
+                Ok(()) => return,
+                Err(guess) => Some(guess),
+            },
+            None => None,
+        };
+        self.hand_in(alloc, position, rest);
     }
 
     /// Loses each position that is not committed yet and holds nothing.

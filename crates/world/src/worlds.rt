@@ -148,8 +148,8 @@ impl World {
         self.replace(draft);
     }
 
-    /// Other records for the world.
-    pub(crate) fn replace(&mut self, draft: Draft)
+    /// Other records for the world, which make it sound.
+    pub fn replace(&mut self, draft: Draft)
         requires { IsSound draft }
         ensures plain { self.new.plain ≡ draft }
         ensures opened { self.new.opened ≡ self.old.opened }

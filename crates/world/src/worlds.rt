@@ -3,6 +3,7 @@ ghost use Rattle.std.specs.Prelude.{◌≡◌, ◌↔◌, ◌+◌, ◌≤◌, �
 ghost use Rattle.spec_world.specs.Questions.{ask, Agrees, apply_all};
 ghost use Rattle.view.specs.Meanings.{question_of, answer_of};
 ghost use Rattle.view.specs.Sound.{IsSound};
+ghost use Rattle.world.specs.Besides.{AgreesBesides};
 
 use crate::count::Count;
 use crate::draft::Draft;
@@ -97,6 +98,13 @@ impl World {
         ensures { IsTrue result ↔ Agrees self.now.plain reads.now }
     {
         self.draft.agrees(reads)
+    }
+
+    /// Whether each question that was asked, but for those about verbs, has the answer that was read. It takes no memory.
+    pub fn agrees_besides(&self, reads: &Reads) -> bool
+        ensures { IsTrue result ↔ AgreesBesides self.now.plain reads.now }
+    {
+        self.draft.agrees_besides(reads)
     }
 
     /// The number that the next step has.

@@ -52,14 +52,8 @@ pub(crate) fn commit(
             if guess.agrees_at(world, is_steady(seen, since, count)) {
                 keep(world, guess, seen)
             } else {
-                run(
-                    alloc,
-                    world,
-                    undone,
-                    Held::Holds(guess, seen),
-                    step,
-                    Mark::Rerun,
-                )
+                let held = Held::Holds(guess, seen);
+                run(alloc, world, undone, held, step, Mark::Rerun)
             }
         }
     }

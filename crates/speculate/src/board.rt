@@ -384,6 +384,7 @@ impl Board {
             marks,
             held: _,
             undone: _,
+            since: _,
         } = self;
         Report {
             world,

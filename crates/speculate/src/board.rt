@@ -4,7 +4,7 @@ ghost use Rattle.spec_world.specs.Step.{RunsOn, AllInRange};
 ghost use Rattle.speculate.specs.BoardState.{IsHonest, IsFree, opened_on, with_held, world_after};
 ghost use Rattle.speculate.specs.Progress.{Commits, Advances, AdvancesInPart, IsNextHeld, StaysPut, SameRun, ready, rest, AllHeld};
 
-use crate::commit::{Done, commit, take_over};
+use crate::commit::{Done, commit};
 use crate::guesses::Guess;
 use crate::held::{Held, Mark, put_back, take_out};
 use crate::report::Report;
@@ -319,7 +319,7 @@ impl Board {
             return false;
         }
         guess.know();
-        match take_over(&mut self.world, guess, &self.steps[at]) {
+        match guess.take_over(&mut self.world) {
             Some(outcome) => {
                 self.outcomes.push_reserved(outcome);
                 self.marks.push_reserved(Mark::Kept);

@@ -1,5 +1,5 @@
 //! The commit of one position.
-ghost use Rattle.std.specs.Prelude.{◌≡◌, ◌≢◌, false, IsTrue, IfOk, IfErr, MatchOption};
+ghost use Rattle.std.specs.Prelude.{◌≡◌, ◌≢◌, false, IsTrue, IfOk, IfErr};
 ghost use Rattle.spec_world.specs.Questions.{Agrees};
 ghost use Rattle.spec_world.specs.Step.{in_range};
 ghost use Rattle.view.specs.Sound.{IsSound};
@@ -67,19 +67,6 @@ fn is_steady(seen: Option<usize>, since: usize, count: usize) -> bool
         Some(seen) => since <= seen && seen <= count,
         None => false,
     }
-}
-
-/// Commits a guess for the step that was found on the world as it is: the world then is what it became there. After want of memory the world is as it was.
-pub(crate) fn take_over(world: &mut World, guess: Guess, step: &Step) -> Option<Outcome>
-    requires range { IsTrue (in_range step.now) }
-    requires step { guess.step ≡ step.now }
-    requires before { guess.before ≡ world.old.plain }
-    ensures { MatchOption result (world.new ≡ world.old) (λ o. (world.new ≡ record { plain = after_guess guess world.old.plain; opened = world.old.opened }) × (o ≡ guess.outcome)) }
-{
-    let _step = step;
-    world.know();
-    guess.know();
-    guess.take_over(world)
 }
 
 // A guess that agrees is kept.

@@ -6,3 +6,4 @@ pub mod Recorded
 pub mod Rests
 pub mod Seen
 pub mod Stays
+pub mod Verbs

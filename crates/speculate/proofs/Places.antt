@@ -1,5 +1,5 @@
 -- What positions hold.
-use Rattle.std.proofs.Common.{◌≡◌, ℕ, zero, suc, ◌<◌, ◌≤◌, List, [], ◌∷◌, length, drop, replicate, Some, None, slice_get, slice_set, refl, ap, subst, arith}
+use Rattle.std.proofs.Common.{◌≡◌, ℕ, zero, suc, ◌<◌, ◌≤◌, List, [], ◌∷◌, All, length, drop, replicate, Some, None, slice_get, slice_set, refl, ap, subst, arith}
 use Rattle.spec_world.specs.Step.{Step}
 use Rattle.speculate.specs.declared.held.Held.{Held}
 use Rattle.speculate.specs.declared.held.Held.TheVariants.{Empty, Loss, Holds}
@@ -68,14 +68,14 @@ pub ready_more : (hs : List Held) (k : ℕ) (h e : Held) → slice_get hs k ≡ 
 ready_more [] k h e is some = cc
 ready_more (Empty ∷ hs) zero h e is some = absurd (some cc)
 ready_more (Loss ∷ hs) zero h e is some = refl
-ready_more (Holds g ∷ hs) zero h e is some = refl
+ready_more (Holds g seen ∷ hs) zero h e is some = refl
 ready_more (y ∷ hs) (suc k) h e is some = ready_more hs k h e is some
 
 pub ready_all : (hs : List Held) → AllHeld hs → ready hs ≡ length hs
 ready_all [] all = refl
 ready_all (Empty ∷ hs) all = absurd (all.0 refl)
 ready_all (Loss ∷ hs) all = ap suc (ready_all hs all.1)
-ready_all (Holds g ∷ hs) all = ap suc (ready_all hs all.1)
+ready_all (Holds g seen ∷ hs) all = ap suc (ready_all hs all.1)
 
 pub held_all : (hs : List Held) (k : ℕ) → ((i : ℕ) → k ≤ i → i < length hs → slice_get hs i ≡ Some Empty → ⊥) → AllHeld (drop k hs)
 held_all [] zero full = tt
@@ -90,11 +90,23 @@ set_not_empty [] k is = cc
 set_not_empty (h ∷ hs) zero is = cc
 set_not_empty (h ∷ hs) (suc k) is = set_not_empty hs k is
 
+-- what holds of each place holds of what one holds
+pub held_at : (P : Held → Type 0) (hs : List Held) (k : ℕ) (h : Held) → All P hs → slice_get hs k ≡ Some h → P h
+held_at P [] k h all is = cc
+held_at P (y ∷ hs) zero h all is =
+    let e : y ≡ h = cc in subst P e all.0
+held_at P (y ∷ hs) (suc k) h all is = held_at P hs k h all.1 is
+
 pub set_back : (hs : List Held) (k : ℕ) (h e : Held) → slice_get hs k ≡ Some h → slice_set (slice_set hs k e) k h ≡ hs
 set_back [] k h e is = cc
 set_back (y ∷ hs) zero h e is =
     let f : h ≡ y = cc in rw f refl
 set_back (y ∷ hs) (suc k) h e is = ap (λ (t : List Held). y ∷ t) (set_back hs k h e is)
+
+pub set_get : (hs : List Held) (k : ℕ) (h e : Held) → slice_get hs k ≡ Some e → slice_get (slice_set hs k h) k ≡ Some h
+set_get [] k h e is = cc
+set_get (y ∷ hs) zero h e is = refl
+set_get (y ∷ hs) (suc k) h e is = set_get hs k h e is
 
 pub length_set : (hs : List Held) (k : ℕ) (h : Held) → length (slice_set hs k h) ≡ length hs
 length_set [] k h = refl

@@ -16,7 +16,7 @@ nothing_yet home = record { home = home; reads = []; changes = [] }
 -- it gives a right guess
 pub right_guess : (home : World) (s : Step) (new : Trace) (o : Outcome)
     → Goes IsStart world_now (nothing_yet home) new (λ before after. StepsTo (play1 before s) after o)
-    → IsRight record { step = s; reads = new.reads; changes = new.changes; outcome = o }
+    → IsRight record { step = s; reads = new.reads; changes = new.changes; outcome = o; before = home }
 right_guess home s new o goes w sound agrees =
     let g = goes w (sound, agrees) in
     λ i. (sym g.1.0 i, g.1.1 i)
@@ -25,7 +25,7 @@ right_guess home s new o goes w sound agrees =
 pub right_at : (home : World) (s s' : Step) (old new : Trace) (rs : List Read) (cs : List Change) (o : Outcome)
     → old ≡ nothing_yet home → s' ≡ s → rs ≡ new.reads → cs ≡ new.changes
     → Goes IsStart world_now old new (λ before after. StepsTo (play1 before s) after o)
-    → IsRight record { step = s'; reads = rs; changes = cs; outcome = o }
+    → IsRight record { step = s'; reads = rs; changes = cs; outcome = o; before = home }
 right_at home s s' old new rs cs o empty same reads changes goes =
     let G : Trace → Type 0 = λ t. Goes IsStart world_now t new (λ before after. StepsTo (play1 before s) after o) in
     rw (same, reads, changes) (right_guess home s new o (subst G empty goes))

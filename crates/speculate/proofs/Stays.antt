@@ -1,5 +1,5 @@
 -- Over every schedule.
-use Rattle.std.proofs.Common.{List, [], ◌∷◌, inl, inr, refl, sym, subst}
+use Rattle.std.proofs.Common.{None, List, [], ◌∷◌, inl, inr, refl, sym, subst}
 use Rattle.speculate.specs.declared.held.Held.TheVariants.{Loss, Holds}
 use Rattle.speculate.specs.BoardState.{BoardState, IsHonest, with_held}
 use Rattle.speculate.specs.Progress.{ready, rest}
@@ -17,7 +17,7 @@ happens_keeps (Claim seat) s s' honest fair h =
     elim h [ inl a ↦ subst IsHonestOn (sym a.3) honest | inr a ↦ subst IsHonestOn (sym a) honest ]
 happens_keeps (Post i g) s s' honest fair h =
     elim h [
-      | inl a ↦ subst IsHonestOn (sym a.2) (holding_keeps s.board i g.step (Holds g) honest a.1 (refl, fair))
+      | inl a ↦ subst IsHonestOn (sym a.2) (holding_keeps s.board i g.step (Holds g None) honest a.1 (refl, fair) tt)
       | inr a ↦ subst IsHonestOn (sym a) honest
     ]
 happens_keeps (Lose i) s s' honest fair h =

@@ -13,7 +13,7 @@ use Rattle.speculate.specs.declared.held.Mark.{Mark}
 
 abbrev pub board_code : Coded BoardState
 board_code =
-    code_by (Counted × (List Step × (Counted × (List Outcome × (List Mark × (List Held × ℕ))))))
-    (coded× counted_code (coded× (coded_list step_code) (coded× counted_code (coded× (coded_list outcome_code) (coded× (coded_list mark.the_row.coded) (coded× (coded_list held.the_row.coded) coded_ℕ))))))
-    (λ b. (b.base, (b.steps, (b.world, (b.outcomes, (b.marks, (b.held, b.undone)))))))
-    (λ p. record { base = p.0; steps = p.1.0; world = p.1.1.0; outcomes = p.1.1.1.0; marks = p.1.1.1.1.0; held = p.1.1.1.1.1.0; undone = p.1.1.1.1.1.1 }) (λ _. refl)
+    code_by (Counted × (List Step × (Counted × (List Outcome × (List Mark × (List Held × (ℕ × ℕ)))))))
+    (coded× counted_code (coded× (coded_list step_code) (coded× counted_code (coded× (coded_list outcome_code) (coded× (coded_list mark.the_row.coded) (coded× (coded_list held.the_row.coded) (coded× coded_ℕ coded_ℕ)))))))
+    (λ b. (b.base, (b.steps, (b.world, (b.outcomes, (b.marks, (b.held, (b.undone, b.since))))))))
+    (λ p. record { base = p.0; steps = p.1.0; world = p.1.1.0; outcomes = p.1.1.1.0; marks = p.1.1.1.1.0; held = p.1.1.1.1.1.0; undone = p.1.1.1.1.1.1.0; since = p.1.1.1.1.1.1.1 }) (λ _. refl)

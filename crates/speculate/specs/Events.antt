@@ -1,5 +1,5 @@
 -- What may happen to the positions and the board of a list, in any order.
-use Rattle.std.specs.Prelude.{◌≡◌, ℕ, suc, ◌≤◌, ◌<◌, ◌⊎◌, List, [], ◌∷◌, ◌++◌, length, Some, slice_get, slice_set}
+use Rattle.std.specs.Prelude.{◌≡◌, ℕ, suc, ◌≤◌, ◌<◌, ◌⊎◌, List, [], ◌∷◌, ◌++◌, length, Some, None, slice_get, slice_set}
 use Rattle.spec_world.specs.Step.{Step, RunsOn, AllInRange}
 use Rattle.world.specs.Counted.{Counted}
 use Rattle.view.specs.Sound.{IsSound}
@@ -35,7 +35,7 @@ IsAdvanced b b' = Advances (ready (rest b)) b b' ⊎ AdvancesInPart b b'
 abbrev pub Happens : Event → Scene → Scene → Type 0
 Happens (Claim seat) s s' = Claims s seat s' ⊎ (s' ≡ s)
 Happens (Post i g) s s' =
-    (IsFree s.board i × (slice_get s.board.steps i ≡ Some g.step) × (s' ≡ record s { board = with_held s.board i (Holds g) })) ⊎ (s' ≡ s)
+    (IsFree s.board i × (slice_get s.board.steps i ≡ Some g.step) × (s' ≡ record s { board = with_held s.board i (Holds g None) })) ⊎ (s' ≡ s)
 Happens (Lose i) s s' = (IsFree s.board i × (s' ≡ record s { board = with_held s.board i Loss })) ⊎ (s' ≡ s)
 Happens Advance s s' = (b : BoardState) × IsAdvanced s.board b × (s' ≡ record s { board = b })
 

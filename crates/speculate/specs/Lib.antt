@@ -3,3 +3,4 @@ pub mod BoardState
 pub mod Events
 pub mod Progress
 pub mod Right
+pub mod Verbs

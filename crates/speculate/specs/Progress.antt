@@ -7,6 +7,7 @@ use Rattle.spec_moo.specs.Steps.{play1}
 use Rattle.world.specs.Counted.{Counted}
 use Rattle.speculate.specs.Right.{after_guess}
 use Rattle.speculate.specs.BoardState.{BoardState}
+use Rattle.speculate.specs.Verbs.{SameVerbs}
 use Rattle.speculate.specs.declared.held.Held.{Held}
 use Rattle.speculate.specs.declared.held.Held.TheVariants.{Empty, Loss, Holds}
 use Rattle.speculate.specs.declared.held.Mark.{Mark}
@@ -21,12 +22,17 @@ Ran w s w' o = (play1 w.plain s ≡ (w'.plain, o)) × (w'.opened ≡ w.opened + 
 abbrev pub Committed : Counted → Step → Held → Counted → Outcome → Mark → Type 0
 Committed w s Empty w' o m = ⊥
 Committed w s Loss w' o m = Ran w s w' o × (m ≡ Lost)
-Committed w s (Holds g) w' o m =
+Committed w s (Holds g seen) w' o m =
     (Agrees w.plain g.reads × (w' ≡ record { plain = after_guess g w.plain; opened = w.opened }) × (o ≡ g.outcome) × (m ≡ Kept))
     ⊎ ((Agrees w.plain g.reads → ⊥) × Ran w s w' o × (m ≡ Rerun))
 
-abbrev pub with_commit : BoardState → Counted → Outcome → Mark → BoardState
-with_commit b w o m = record b { world = w; outcomes = b.outcomes ++ o ∷ []; marks = b.marks ++ m ∷ []; held = slice_set b.held (length b.outcomes) Empty }
+abbrev pub with_commit : BoardState → Counted → Outcome → Mark → ℕ → BoardState
+with_commit b w o m since =
+    record b { world = w; outcomes = b.outcomes ++ o ∷ []; marks = b.marks ++ m ∷ []; held = slice_set b.held (length b.outcomes) Empty; since = since }
+
+-- no verb has changed since as many steps as before, or since this one
+abbrev pub IsSince : BoardState → Counted → ℕ → Type 0
+IsSince b w since = ((since ≡ b.since) × SameVerbs b.world.plain w.plain) ⊎ (since ≡ suc (length b.outcomes))
 
 -- the next position is committed
 pub record Commits (b b' : BoardState) : Type 0 where
@@ -37,8 +43,10 @@ pub record Commits (b b' : BoardState) : Type 0 where
   pub mark : Mark
   pub step_is : slice_get b.steps (length b.outcomes) ≡ Some step
   pub held_is : slice_get b.held (length b.outcomes) ≡ Some held
+  pub since : ℕ
   pub committed : Committed b.world step held world outcome mark
-  pub after : b' ≡ with_commit b world outcome mark
+  pub since_is : IsSince b world since
+  pub after : b' ≡ with_commit b world outcome mark since
 
 -- the next k positions are committed, in their order
 abbrev pub Advances : ℕ → BoardState → BoardState → Type 0
@@ -50,7 +58,7 @@ abbrev pub ready : List Held → ℕ
 ready [] = 0
 ready (Empty ∷ hs) = 0
 ready (Loss ∷ hs) = suc (ready hs)
-ready (Holds g ∷ hs) = suc (ready hs)
+ready (Holds g seen ∷ hs) = suc (ready hs)
 
 -- the places that are not committed yet
 abbrev pub rest : BoardState → List Held

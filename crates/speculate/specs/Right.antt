@@ -7,17 +7,19 @@ use Rattle.spec_world.specs.Step.{Step}
 use Rattle.spec_world.specs.Outcome.{Outcome}
 use Rattle.spec_moo.specs.Steps.{play1}
 use Rattle.spec_world.specs.StepCode.{step_code, outcome_code}
+use Rattle.spec_world.specs.WorldCode.{world_code}
 use Rattle.view.specs.QuestionCode.{read_code, change_code}
 use Rattle.view.specs.Sound.{IsSound}
 
--- a step, what it read, what it is to change, and its outcome
+-- a step, what it read, what it is to change, and its outcome; and the world on which that was found
 pub record Guessed : Type 0 where
   pub step : Step
   pub reads : List Read
   pub changes : List Change
   pub outcome : Outcome
+  pub before : World
 
--- the world with the changes
+-- a world with the changes
 abbrev pub after_guess : Guessed → World → World
 after_guess g w = apply_all g.changes w
 
@@ -27,5 +29,6 @@ IsRight g = (w : World) → IsSound w → Agrees w g.reads → play1 w g.step �
 
 abbrev pub guessed_code : Coded Guessed
 guessed_code =
-    code_by (Step × (List Read × (List Change × Outcome))) (coded× step_code (coded× (coded_list read_code) (coded× (coded_list change_code) outcome_code)))
-    (λ g. (g.step, (g.reads, (g.changes, g.outcome)))) (λ p. record { step = p.0; reads = p.1.0; changes = p.1.1.0; outcome = p.1.1.1 }) (λ _. refl)
+    code_by (Step × (List Read × (List Change × (Outcome × World))))
+    (coded× step_code (coded× (coded_list read_code) (coded× (coded_list change_code) (coded× outcome_code world_code))))
+    (λ g. (g.step, (g.reads, (g.changes, (g.outcome, g.before))))) (λ p. record { step = p.0; reads = p.1.0; changes = p.1.1.0; outcome = p.1.1.1.0; before = p.1.1.1.1 }) (λ _. refl)

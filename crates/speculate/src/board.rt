@@ -1,10 +1,10 @@
 //! The board of a list: one world, and what each position that is not committed yet holds.
-ghost use Rattle.std.specs.Prelude.{◌≡◌, ◌≤◌, ◌<◌, ◌↔◌, ◌⊎◌, ◌≢◌, [], true, false, IsTrue, IsErrOf, IfOk, IfErr, OnOk, OnErr, length, replicate, Some, slice_get};
+ghost use Rattle.std.specs.Prelude.{◌≡◌, ◌≤◌, ◌<◌, ◌↔◌, ◌⊎◌, ◌≢◌, [], true, false, IsTrue, IsErrOf, IfOk, IfErr, IfSome, OnOk, OnErr, length, replicate, suc, ◌+◌, ◌^◌, if◌then◌else◌, Some, None, slice_get};
 ghost use Rattle.spec_world.specs.Step.{RunsOn, AllInRange};
-ghost use Rattle.speculate.specs.BoardState.{IsHonest, IsFree, opened_on, with_held};
+ghost use Rattle.speculate.specs.BoardState.{IsHonest, IsFree, opened_on, with_held, world_after};
 ghost use Rattle.speculate.specs.Progress.{Commits, Advances, AdvancesInPart, IsNextHeld, StaysPut, SameRun, ready, rest, AllHeld};
 
-use crate::commit::commit;
+use crate::commit::{Done, commit};
 use crate::guesses::Guess;
 use crate::held::{Held, Mark, put_back, take_out};
 use crate::report::Report;
@@ -28,6 +28,8 @@ pub struct Board {
     marks: Vec<Mark>,
     held: Vec<Held>,
     undone: Count,
+    // No verb has changed since so many steps were committed.
+    since: usize,
 }
 
 impl Model for Board {
@@ -46,6 +48,7 @@ impl Model for Board {
       marks = b.marks.items;
       held = b.held.items;
       undone = b.undone;
+      since = b.since;
     } };
 
     ghost invariant = { λ b. IsHonest record {
@@ -56,6 +59,7 @@ impl Model for Board {
       marks = b.marks.items;
       held = b.held.items;
       undone = b.undone;
+      since = b.since;
     } };
 }
 
@@ -93,6 +97,7 @@ impl Board {
                 marks,
                 held,
                 undone: Count::zero(),
+                since: 0,
             }),
             Err(_) => Err((Refusal::Memory, world)),
         }
@@ -138,7 +143,7 @@ impl Board {
 
     /// A guess for the step at a position that holds nothing yet. A refused one is handed back, and the board is as it was.
     pub fn post(&mut self, position: usize, guess: Guess) -> Result<(), (Refused, Guess)>
-        ensures ok { OnOk result (IsFree self.old position × (slice_get self.old.steps position ≡ Some guess.step) × (self.new ≡ with_held self.old position (Held.Holds guess))) }
+        ensures ok { OnOk result (IsFree self.old position × (slice_get self.old.steps position ≡ Some guess.step) × (self.new ≡ with_held self.old position (Held.Holds guess None))) }
         ensures err { IfErr result (λ e. (self.new ≡ self.old) × (e.1 ≡ guess)) }
         ensures position { IfErr result (λ e. e.0 ≡ Refused.Position ↔ length self.old.steps ≤ position) }
         ensures taken { IfErr result (λ e. e.0 ≡ Refused.Taken ↔ (position < length self.old.steps) × (¬ IsFree self.old position)) }
@@ -154,7 +159,7 @@ impl Board {
             return Err((Refused::Step, guess));
         }
         guess.know();
-        self.held[position] = Held::Holds(guess);
+        self.held[position] = Held::Holds(guess, None);
         Ok(())
     }
 
@@ -209,10 +214,18 @@ impl Board {
             &mut self.undone,
             held,
             &self.steps[at],
+            self.since,
+            at,
         ) {
-            Ok((outcome, mark)) => {
+            Ok(done) => {
+                let Done {
+                    outcome,
+                    mark,
+                    leaves_verbs,
+                } = done;
                 self.outcomes.push_reserved(outcome);
                 self.marks.push_reserved(mark);
+                self.since = since_after(leaves_verbs, self.since, at);
                 Ok(())
             }
             Err(held) => {
@@ -250,12 +263,29 @@ impl Board {
         Ok(self.count() - from)
     }
 
-    // Posts a guess, or loses the position where there is none or it is refused.
-    fn settle(&mut self, position: usize, guess: Option<Guess>)
+    // Posts a guess that was found on the world after so many steps. One that is refused is let go.
+    fn post_seen(&mut self, position: usize, guess: Guess, seen: usize) -> bool
+        requires { guess.before ≡ world_after self.old.base.plain self.old.steps seen }
         ensures { (self.new.base ≡ self.old.base) × (self.new.steps ≡ self.old.steps) }
     {
-        let posted = match guess {
-            Some(guess) => self.post(position, guess).is_ok(),
+        if !self.is_free(position) {
+            return false;
+        }
+        if !self.is_for(position, &guess) {
+            return false;
+        }
+        guess.know();
+        self.held[position] = Held::Holds(guess, Some(seen));
+        true
+    }
+
+    // Posts a guess, or loses the position where there is none or it is refused.
+    fn settle(&mut self, position: usize, found: Option<(Guess, usize)>)
+        requires { IfSome found (λ f. f.0.before ≡ world_after self.old.base.plain self.old.steps f.1) }
+        ensures { (self.new.base ≡ self.old.base) × (self.new.steps ≡ self.old.steps) }
+    {
+        let posted = match found {
+            Some((guess, seen)) => self.post_seen(position, guess, seen),
             None => false,
         };
         if !posted {
@@ -263,13 +293,56 @@ impl Board {
         }
     }
 
-    /// Posts a guess, or loses the position where there is none or it is refused. Then it commits as far as each position holds something; want of
-    /// memory is no answer, since what is left is committed at the end.
-    pub(crate) fn hand_in(&mut self, alloc: Global, position: usize, guess: Option<Guess>)
+    /// Posts a guess with the number of steps that were committed when it was made, or loses the position where there is none or it is refused. Then it
+    /// commits as far as each position holds something; want of memory is no answer, since what is left is committed at the end.
+    pub(crate) fn hand_in(&mut self, alloc: Global, position: usize, found: Option<(Guess, usize)>)
+        requires { IfSome found (λ f. f.0.before ≡ world_after self.old.base.plain self.old.steps f.1) }
         ensures { (self.new.base ≡ self.old.base) × (self.new.steps ≡ self.old.steps) }
     {
-        self.settle(position, guess);
+        self.settle(position, found);
         let _ = self.advance(alloc);
+    }
+
+    // Commits the next position, which holds nothing, by a guess for it that was found on the world as it is. Any other is let go.
+    fn commit_found(&mut self, position: usize, guess: Guess) -> bool
+        requires { guess.before ≡ self.old.world.plain }
+        ensures { (self.new.base ≡ self.old.base) × (self.new.steps ≡ self.old.steps) }
+    {
+        let at = self.count();
+        if position != at || !self.is_free(at) {
+            return false;
+        }
+        if !self.is_for(at, &guess) {
+            return false;
+        }
+        if self.outcomes.reserve(1).is_err() || self.marks.reserve(1).is_err() {
+            return false;
+        }
+        guess.know();
+        match guess.take_over(&mut self.world) {
+            Some(outcome) => {
+                self.outcomes.push_reserved(outcome);
+                self.marks.push_reserved(Mark::Kept);
+                self.since = at + 1;
+                true
+            }
+            None => false,
+        }
+    }
+
+    /// Commits the next position by a guess that was found on the world as it is: the world then is what it became there. Where that cannot be, the
+    /// position is lost.
+    pub(crate) fn hand_in_found(&mut self, alloc: Global, position: usize, guess: Option<Guess>)
+        requires { IfSome guess (λ g. g.before ≡ self.old.world.plain) }
+        ensures { (self.new.base ≡ self.old.base) × (self.new.steps ≡ self.old.steps) }
+    {
+        let is_done = match guess {
+            Some(guess) => self.commit_found(position, guess),
+            None => false,
+        };
+        if !is_done {
+            self.hand_in(alloc, position, None);
+        }
     }
 
     /// Loses each position that is not committed yet and holds nothing.
@@ -311,6 +384,7 @@ impl Board {
             marks,
             held: _,
             undone: _,
+            since: _,
         } = self;
         Report {
             world,
@@ -339,4 +413,12 @@ fn empties(alloc: Global, count: usize) -> Result<Vec<Held>, AllocError>
         held.push(Held::Empty)?;
     }
     Ok(held)
+}
+
+// Since how many steps no verb has changed, once the step at a position is committed.
+fn since_after(leaves_verbs: bool, since: usize, at: usize) -> usize
+    requires { at + 1 < 2 ^ 64 }
+    ensures { result ≡ (if leaves_verbs then since else suc at) }
+{
+    if leaves_verbs { since } else { at + 1 }
 }

@@ -1,11 +1,12 @@
 //! The commit of one position.
-ghost use Rattle.std.specs.Prelude.{◌≡◌, ◌≢◌, IsTrue, IfOk, IfErr};
+ghost use Rattle.std.specs.Prelude.{◌≡◌, ◌≢◌, false, IsTrue, IfOk, IfErr};
 ghost use Rattle.spec_world.specs.Questions.{Agrees};
 ghost use Rattle.spec_world.specs.Step.{in_range};
 ghost use Rattle.view.specs.Sound.{IsSound};
 ghost use Rattle.speculate.specs.BoardState.{FitsStep};
 ghost use Rattle.speculate.specs.Right.{after_guess};
 ghost use Rattle.speculate.specs.Progress.{Ran, Committed, IsUndone};
+ghost use Rattle.speculate.specs.Verbs.{SameVerbs, IsWithin, KnowsVerbs};
 
 use crate::guesses::Guess;
 use crate::held::{Held, Mark};
@@ -16,45 +17,74 @@ use task_step::step::Step;
 use world::count::Count;
 use world::worlds::World;
 
-/// Commits a step on the world, as its position says. After want of memory the world is as it was, what was held is given back, and a run that was
-/// undone is counted.
+/// A step that is committed: its outcome, how it came, and whether it is known to have left all verbs as they were.
+#[derive(Drop)]
+pub(crate) struct Done {
+    pub(crate) outcome: Outcome,
+    pub(crate) mark: Mark,
+    pub(crate) leaves_verbs: bool,
+}
+
+/// Commits a step on the world, as its position says, where so many steps are committed, and no verb has changed since so many of them. After want of
+/// memory the world is as it was, what was held is given back, and a run that was undone is counted.
 pub(crate) fn commit(
     alloc: Global,
     world: &mut World,
     undone: &mut Count,
     held: Held,
     step: &Step,
-) -> Result<(Outcome, Mark), Held>
+    since: usize,
+    count: usize,
+) -> Result<Done, Held>
     requires range { IsTrue (in_range step.now) }
     requires fits { FitsStep step.now held }
     requires some { held ≢ Held.Empty }
-    ensures ok { IfOk result (λ r. Committed world.old step.now held world.new r.0 r.1 × (undone.new ≡ undone.old)) }
+    requires steady { KnowsVerbs held since count world.old.plain }
+    ensures ok { IfOk result (λ d. Committed world.old step.now held world.new d.outcome d.mark × (undone.new ≡ undone.old)) }
+    ensures verbs { IfOk result (λ d. IsTrue d.leaves_verbs → SameVerbs world.old.plain world.new.plain) }
     ensures err { IfErr result (λ h. (h ≡ held) × IsUndone world.old undone.old world.new undone.new) }
 {
     match held {
         Held::Empty => unreachable!(),
         Held::Loss => run(alloc, world, undone, Held::Loss, step, Mark::Lost),
-        Held::Holds(guess) => {
+        Held::Holds(guess, seen) => {
             world.know();
-            if guess.agrees(world) {
-                keep(world, guess)
+            if guess.agrees_at(world, is_steady(seen, since, count)) {
+                keep(world, guess, seen)
             } else {
-                run(alloc, world, undone, Held::Holds(guess), step, Mark::Rerun)
+                let held = Held::Holds(guess, seen);
+                run(alloc, world, undone, held, step, Mark::Rerun)
             }
         }
     }
 }
 
+// Whether no verb has changed since the steps that were committed when a guess was made.
+fn is_steady(seen: Option<usize>, since: usize, count: usize) -> bool
+    ensures { IsTrue result → IsWithin seen since count }
+{
+    match seen {
+        Some(seen) => since <= seen && seen <= count,
+        None => false,
+    }
+}
+
 // A guess that agrees is kept.
-fn keep(world: &mut World, guess: Guess) -> Result<(Outcome, Mark), Held>
+fn keep(world: &mut World, guess: Guess, seen: Option<usize>) -> Result<Done, Held>
     requires agrees { Agrees world.old.plain guess.reads }
     requires sound { IsSound (after_guess guess world.old.plain) }
-    ensures ok { IfOk result (λ r. (world.new ≡ record { plain = after_guess guess world.old.plain; opened = world.old.opened }) × (r.0 ≡ guess.outcome) × (r.1 ≡ Mark.Kept)) }
-    ensures err { IfErr result (λ h. (h ≡ Held.Holds guess) × (world.new ≡ world.old)) }
+    ensures ok { IfOk result (λ d. (world.new ≡ record { plain = after_guess guess world.old.plain; opened = world.old.opened }) × (d.outcome ≡ guess.outcome) × (d.mark ≡ Mark.Kept)) }
+    ensures verbs { IfOk result (λ d. IsTrue d.leaves_verbs → SameVerbs world.old.plain world.new.plain) }
+    ensures err { IfErr result (λ h. (h ≡ Held.Holds guess seen) × (world.new ≡ world.old)) }
 {
+    let leaves_verbs = guess.leaves_verbs();
     match guess.keep(world) {
-        Ok(outcome) => Ok((outcome, Mark::Kept)),
-        Err(guess) => Err(Held::Holds(guess)),
+        Ok(outcome) => Ok(Done {
+            outcome,
+            mark: Mark::Kept,
+            leaves_verbs,
+        }),
+        Err(guess) => Err(Held::Holds(guess, seen)),
     }
 }
 
@@ -66,13 +96,17 @@ fn run(
     held: Held,
     step: &Step,
     mark: Mark,
-) -> Result<(Outcome, Mark), Held>
+) -> Result<Done, Held>
     requires { IsTrue (in_range step.now) }
-    ensures ok { IfOk result (λ r. Ran world.old step.now world.new r.0 × (r.1 ≡ mark) × (undone.new ≡ undone.old)) }
+    ensures ok { IfOk result (λ d. Ran world.old step.now world.new d.outcome × (d.mark ≡ mark) × (d.leaves_verbs ≡ false) × (undone.new ≡ undone.old)) }
     ensures err { IfErr result (λ h. (h ≡ held) × IsUndone world.old undone.old world.new undone.new) }
 {
     match play_step(alloc, world, step) {
-        Ok(outcome) => Ok((outcome, mark)),
+        Ok(outcome) => Ok(Done {
+            outcome,
+            mark,
+            leaves_verbs: false,
+        }),
         Err(_) => {
             undone.tick();
             Err(held)

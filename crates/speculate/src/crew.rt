@@ -3,12 +3,13 @@ ghost use Rattle.std.specs.Prelude.{◌≡◌, ◌≤◌, ◌<◌, ◌+◌, All,
 ghost use Rattle.round_claims.specs.Claimed.{fresh_seat};
 ghost use Rattle.spec_world.specs.Step.{AllInRange};
 ghost use Rattle.spec_moo.specs.Steps.{play};
-ghost use Rattle.speculate.specs.BoardState.{runs};
+ghost use Rattle.speculate.specs.BoardState.{runs, world_after};
 ghost use denote.Param.Send.{IsSend, IsSync};
 
 use crate::board::Board;
 use crate::finish::conclude;
 use crate::gate::{Gate, guess_at};
+use crate::guesses::Guess;
 use crate::report::Report;
 use crate::shared::{Run, SharedBoard};
 use round_claims::{ClaimSeat, Claims};
@@ -111,10 +112,25 @@ fn work<J: Run, G: Gate, R: Wait>(
 {
     'claim: while let Some(ticket) = claims.claim(&mut seat) {
         let at = ticket.position();
-        let guess = match shared.snapshot(rt) {
-            Ok(snapshot) => guess_at(alloc, gate, &snapshot, steps, at),
-            Err(_) => None,
-        };
-        shared.hand_in(rt, alloc, at, guess);
+        let found = guess_shared(rt, alloc, gate, shared, steps, at);
+        shared.hand_in(rt, alloc, at, found);
     }
+}
+
+// A guess on the world after the steps that are committed, and how many these are.
+fn guess_shared<J: Run, G: Gate, R: Wait>(
+    rt: &R,
+    alloc: Global,
+    gate: &G,
+    shared: &SharedBoard<J>,
+    steps: &[Step],
+    at: usize,
+) -> Option<(Guess, usize)>
+    requires range { AllInRange steps.now }
+    requires at { at < length steps.now }
+    ensures { IfSome result (λ f. f.0.before ≡ world_after J.base.plain J.steps f.1) }
+{
+    let (snapshot, count) = shared.snapshot(rt).ok()?;
+    let guess = guess_at(alloc, gate, &snapshot, steps, at)?;
+    Some((guess.without_records(), count))
 }

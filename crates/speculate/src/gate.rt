@@ -1,5 +1,5 @@
 //! The gate through which guesses are made.
-ghost use Rattle.std.specs.Prelude.{◌<◌, IsTrue, length};
+ghost use Rattle.std.specs.Prelude.{◌≡◌, ◌<◌, IsTrue, IfOk, IfSome, length};
 ghost use Rattle.spec_world.specs.Step.{AllInRange, in_range};
 
 use crate::guesses::Guess;
@@ -19,7 +19,8 @@ pub trait Gate: Sync {
         snapshot: &Snapshot,
         step: &Step,
     ) -> Result<Guess, AllocError>
-        requires { IsTrue (in_range step.now) };
+        requires { IsTrue (in_range step.now) }
+        ensures { IfOk result (λ g. g.before ≡ snapshot.now) };
 }
 
 /// The gate that only guesses.
@@ -48,6 +49,7 @@ pub(crate) fn guess_at<G: Gate>(
 ) -> Option<Guess>
     requires range { AllInRange steps.now }
     requires at { at < length steps.now }
+    ensures { IfSome result (λ g. g.before ≡ snapshot.now) }
 {
     gate.guess(alloc, at, snapshot, &steps[at]).ok()
 }

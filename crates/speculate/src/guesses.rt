@@ -1,14 +1,21 @@
 //! Guesses.
-ghost use Rattle.std.specs.Prelude.{◌≡◌, ◌↔◌, IsTrue, IfOk, IfErr};
+ghost use Rattle.std.specs.Prelude.{◌≡◌, ◌↔◌, map, IsTrue, IfOk, IfErr, MatchOption};
+ghost use Rattle.spec_world.specs.World.{World as Plain};
 ghost use Rattle.spec_world.specs.Questions.{Agrees};
 ghost use Rattle.view.specs.Sound.{IsSound};
+ghost use Rattle.view.specs.Meanings.{change_of};
 ghost use Rattle.speculate.specs.Right.{IsRight, after_guess};
+ghost use Rattle.speculate.specs.Verbs.{SameVerbs, leaves_verbs as leaves_verbs_of, all_leave_verbs as all_leave};
 
 use std::marker::Model;
+use std::snapshot::Snapshot as Remembered;
 use task_step::outcome::Outcome;
 use task_step::step::Step;
+use view::change::Change;
+use view::part::Part;
 use view::reads::{Changes, Reads};
-use world::worlds::World;
+use world::draft::Draft;
+use world::worlds::{Snapshot, World};
 
 /// What a step reads, changes and answers, found on a snapshot. It is so on each world that gives the answers that were read.
 #[derive(Drop)]
@@ -17,26 +24,43 @@ pub struct Guess {
     pub(crate) reads: Reads,
     pub(crate) changes: Changes,
     pub(crate) outcome: Outcome,
+    // The world on which it was found, and its records with the changes, if they are kept.
+    pub(crate) before: Remembered<Snapshot>,
+    pub(crate) after: Option<Draft>,
 }
 
 impl Model for Guess {
+    ghost use Rattle.std.specs.Prelude.{◌≡◌, IfSome};
+    ghost use Rattle.spec_world.specs.Questions.{Agrees, apply_all};
     ghost use Rattle.speculate.specs.Right.{Guessed, guessed_code, IsRight};
 
     ghost Value = { Guessed };
 
     ghost coded = { guessed_code };
 
-    ghost view = { λ g. record { step = g.step; reads = g.reads; changes = g.changes; outcome = g.outcome } };
+    ghost view = { λ g. record { step = g.step; reads = g.reads; changes = g.changes; outcome = g.outcome; before = g.before.value } };
 
-    ghost invariant = { λ g. IsRight record { step = g.step; reads = g.reads; changes = g.changes; outcome = g.outcome } };
+    ghost invariant = { λ g. IsRight record { step = g.step; reads = g.reads; changes = g.changes; outcome = g.outcome; before = g.before.value }
+        × Agrees g.before.value g.reads × IfSome g.after (λ d. d ≡ apply_all g.changes g.before.value) };
 }
 
 impl Guess {
-    /// A guess is right.
+    /// A guess is right, and the world on which it was found agrees with it.
     pub fn know(&self)
-        ensures { IsRight self.now }
+        ensures right { IsRight self.now }
+        ensures agrees { Agrees self.now.before self.now.reads }
     {
         let _step = &self.step;
+    }
+
+    /// The same guess without the records that came on its snapshot.
+    pub(crate) fn without_records(self) -> Guess
+        ensures { result ≡ self }
+    {
+        Guess {
+            after: None,
+            ..self
+        }
     }
 
     /// Whether it is a guess for this step.
@@ -51,6 +75,28 @@ impl Guess {
         ensures { IsTrue result ↔ Agrees world.now.plain self.now.reads }
     {
         world.agrees(&self.reads)
+    }
+
+    /// The same, where the verbs may be known to be those of the world on which it was found: programs need not be compared then. Else they are compared
+    /// last.
+    #[tactic(auto, using(crate::proofs::Verbs::agrees_by_rest, crate::proofs::Verbs::rest_agrees))]
+    pub(crate) fn agrees_at(&self, world: &World, has_same_verbs: bool) -> bool
+        requires { IsTrue has_same_verbs → SameVerbs self.now.before world.now.plain }
+        ensures { IsTrue result ↔ Agrees world.now.plain self.now.reads }
+    {
+        self.know();
+        if !world.agrees_besides(&self.reads) {
+            return false;
+        }
+        has_same_verbs || world.agrees(&self.reads)
+    }
+
+    /// Whether none of its changes is to verbs.
+    #[tactic(auto, using(crate::proofs::Verbs::verbs_stay))]
+    pub(crate) fn leaves_verbs(&self) -> bool
+        ensures { IsTrue result → (w : Plain) → SameVerbs w (after_guess self.now w) }
+    {
+        all_leave_verbs(self.changes.as_slice())
     }
 
     /// The world has the changes, and the guess's outcome is the step's. After want of memory nothing has changed.
@@ -68,8 +114,56 @@ impl Guess {
             reads: _,
             changes: _,
             outcome,
+            before: _,
+            after: _,
         } = self;
         world.commit(prepared);
         Ok(outcome)
+    }
+
+    /// The world, on which the guess was found, becomes what it became there. After want of memory nothing has changed.
+    pub(crate) fn take_over(self, world: &mut World) -> Option<Outcome>
+        requires before { self.before ≡ world.old.plain }
+        requires sound { IsSound (after_guess self world.old.plain) }
+        ensures { MatchOption result (world.new ≡ world.old) (λ o. (world.new ≡ record { plain = after_guess self world.old.plain; opened = world.old.opened }) × (o ≡ self.outcome)) }
+    {
+        let Guess {
+            step: _,
+            reads: _,
+            changes,
+            outcome,
+            before: _,
+            after,
+        } = self;
+        match after {
+            Some(draft) => world.replace(draft),
+            None => {
+                let prepared = world.prepare(&changes).ok()?;
+                world.commit(prepared);
+            }
+        }
+        Some(outcome)
+    }
+}
+
+// Whether no change is to verbs.
+fn all_leave_verbs(changes: &[Change]) -> bool
+    ensures { IsTrue result → IsTrue (all_leave (map change_of changes.now)) }
+{
+    for change in changes {
+        if !leaves_verbs(change) {
+            return false;
+        }
+    }
+    true
+}
+
+fn leaves_verbs(change: &Change) -> bool
+    ensures { result ≡ leaves_verbs_of (change_of change.now) }
+{
+    match change {
+        Change::Part(_, Part::Verbs(_)) => false,
+        Change::Object(_, _) => false,
+        _ => true,
     }
 }

@@ -6,6 +6,7 @@ ghost use Rattle.speculate.specs.Right.{IsRight};
 
 use crate::guesses::Guess;
 use std::alloc::{AllocError, Global};
+use std::snapshot::Snapshot as Remembered;
 use task_run::step::run_step;
 use task_step::step::Step;
 use world::tracked::Tracked;
@@ -17,14 +18,17 @@ pub fn guess(alloc: Global, snapshot: &Snapshot, step: &Step) -> Result<Guess, A
     ensures step { IfOk result (λ g. g.step ≡ step.now) }
     ensures right { IfOk result (λ g. IsRight g) }
     ensures agrees { IfOk result (λ g. Agrees snapshot.now g.reads) }
+    ensures before { IfOk result (λ g. g.before ≡ snapshot.now) }
 {
     let mut view = Tracked::over(alloc, snapshot);
     let outcome = run_step(alloc, &mut view, step)?;
-    let (reads, changes) = view.finish();
+    let (reads, changes, after) = view.finish();
     Ok(Guess {
         step: step.clone()?,
         reads,
         changes,
         outcome,
+        before: Remembered::of(snapshot),
+        after,
     })
 }

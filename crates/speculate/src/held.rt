@@ -11,8 +11,8 @@ pub enum Held {
     Empty,
     /// That no guess comes.
     Loss,
-    /// A guess.
-    Holds(Guess),
+    /// A guess, and how many steps were committed when it was made, if that is known.
+    Holds(Guess, Option<usize>),
 }
 
 impl Held {

@@ -42,5 +42,5 @@ fn step_here<G: Gate>(alloc: Global, gate: &G, board: &mut Board, steps: &[Step]
         Ok(snapshot) => guess_at(alloc, gate, &snapshot, steps, at),
         Err(_) => None,
     };
-    board.hand_in(alloc, at, guess);
+    board.hand_in_found(alloc, at, guess);
 }

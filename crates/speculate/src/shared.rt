@@ -1,8 +1,9 @@
 //! The board of one list, under a lock.
-ghost use Rattle.std.specs.Prelude.{◌≡◌};
+ghost use Rattle.std.specs.Prelude.{◌≡◌, IfOk, IfSome};
 ghost use Rattle.std.specs.Coded.{Coded-set, coded_list};
 ghost use Rattle.spec_world.specs.StepCode.{step_code};
 ghost use Rattle.world.specs.Counted.{counted_code};
+ghost use Rattle.speculate.specs.BoardState.{world_after};
 
 use crate::board::Board;
 use crate::guesses::Guess;
@@ -59,14 +60,28 @@ impl<J: Run> SharedBoard<J> {
         }
     }
 
-    /// The world after the steps that are committed.
-    pub fn snapshot<R: Wait>(&self, rt: &R) -> Result<Snapshot, AllocError> {
-        self.board.lock(rt).board.snapshot()
+    /// The world after the steps that are committed, and how many these are.
+    pub fn snapshot<R: Wait>(&self, rt: &R) -> Result<(Snapshot, usize), AllocError>
+        ensures { IfOk result (λ s. s.0 ≡ world_after J.base.plain J.steps s.1) }
+    {
+        let tied = self.board.lock(rt);
+        let count = tied.board.count();
+        let snapshot = tied.board.snapshot()?;
+        Ok((snapshot, count))
     }
 
-    /// Posts a guess, or loses the position where there is none or it is refused. Then it commits as far as each position holds something.
-    pub fn hand_in<R: Wait>(&self, rt: &R, alloc: Global, position: usize, guess: Option<Guess>) {
-        self.board.lock(rt).board.hand_in(alloc, position, guess);
+    /// Posts a guess, with the number of steps that were committed when it was made, or loses the position where there is none or it is refused. Then it
+    /// commits as far as each position holds something.
+    pub fn hand_in<R: Wait>(
+        &self,
+        rt: &R,
+        alloc: Global,
+        position: usize,
+        found: Option<(Guess, usize)>,
+    )
+        requires { IfSome found (λ f. f.0.before ≡ world_after J.base.plain J.steps f.1) }
+    {
+        self.board.lock(rt).board.hand_in(alloc, position, found);
     }
 
     /// The board, when no worker has it any more.

@@ -39,7 +39,7 @@ tasks_sync =
     let readers = table_sync i32-field.row number_send number_sync in
     search (sendable, crosses, found, readers) depth 60
 
-draft_send : IsSend draft.the_row
+pub draft_send : IsSend draft.the_row
 draft_send =
     let objects = table_send object.the_row object_send object_sync in
     let links = table_send link.the_row link_send link_sync in

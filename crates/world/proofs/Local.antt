@@ -37,7 +37,7 @@ slot_put : (x : Object) (p r : Text) (t : Slot) → named (with_name x.slots p t
 slot_put x p r t = find-put (slice_cmp nat_cmp) nat_list_cmp_total r p t x.slots
 
 -- a facet that the change of one object leaves alone
-facet_stays : {A : Type 0} (f : Object → A) (w : World) (o q : ℤ) (x y : Object) → object_at w o ≡ Some x → f y ≡ f x
+pub facet_stays : {A : Type 0} (f : Object → A) (w : World) (o q : ℤ) (x y : Object) → object_at w o ≡ Some x → f y ≡ f x
     → option_map f (object_at (with_object w o y) q) ≡ option_map f (object_at w q)
 facet_stays f w o q x y is same = ap (option_map f) (object_put w o q y) ∙ go (same_number q o) refl
   where

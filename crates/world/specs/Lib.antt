@@ -1,3 +1,4 @@
+pub mod Besides
 pub mod Trace
 pub mod Counted
 pub mod Counts

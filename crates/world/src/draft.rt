@@ -1,10 +1,11 @@
 //! A world between two changes.
-ghost use Rattle.std.specs.Prelude.{◌≡◌, ◌↔◌, ◌<◌, ℕ, ℤ, pos, negsuc, true, false, [], max, IfOk, OnOk, OnErr, IsTrue, is_some, map, option_map, MatchOption};
+ghost use Rattle.std.specs.Prelude.{◌≡◌, ◌↔◌, ◌<◌, ℕ, ℤ, pos, negsuc, true, false, [], max, IfOk, OnOk, OnErr, IsTrue, is_some, map, option_map, IsFalse, MatchOption};
 ghost use Rattle.spec_value.specs.Table.{at, with};
 ghost use Rattle.spec_world.specs.World.{object_at, with_object};
 ghost use Rattle.spec_world.specs.Listings.{waiting_ids, readers_on, connections_of, connected};
 ghost use Rattle.spec_world.specs.Questions.{header_at, children_at, contents_at, defines_at, slot_on, verbs_at, the_waiting, the_readers, the_connections, the_connected, ask, Agrees, apply, apply_all, new_part, new_value, new_next};
 ghost use Rattle.view.specs.Meanings.{question_of, answer_of, part_of, change_of};
+ghost use Rattle.world.specs.Besides.{is_about_verbs, AgreesBesides};
 ghost use Rattle.world.specs.Numbered.{numbered};
 
 use crate::choice::{AllNumbers, LinksOf, LoggedIn, gather, is_gathered};
@@ -403,6 +404,28 @@ impl Draft {
     {
         for read in reads.as_slice() {
             if !self.answers(&read.question, &read.answer) {
+                return false;
+            }
+        }
+        true
+    }
+
+    // Whether the question is about verbs, or has this answer.
+    fn answers_besides(&self, question: &Question, answer: &Answer) -> bool
+        ensures { IsTrue result ↔ (IsFalse (is_about_verbs (question_of question.now)) → ask self.now (question_of question.now) ≡ answer_of answer.now) }
+    {
+        match question {
+            Question::Verbs(_) => true,
+            _ => self.answers(question, answer),
+        }
+    }
+
+    /// Whether each question that was asked, but for those about verbs, has the answer that was read. It takes no memory.
+    pub(crate) fn agrees_besides(&self, reads: &Reads) -> bool
+        ensures { IsTrue result ↔ AgreesBesides self.now reads.now }
+    {
+        for read in reads.as_slice() {
+            if !self.answers_besides(&read.question, &read.answer) {
                 return false;
             }
         }

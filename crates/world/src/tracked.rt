@@ -60,20 +60,21 @@ impl<'s> Tracked<'s> {
         }
     }
 
-    /// What was read, and what is to change.
-    pub fn finish(self) -> (Reads, Changes)
+    /// What was read, what is to change, and the records with the changes, where there are any.
+    pub fn finish(self) -> (Reads, Changes, Option<Draft>)
         ensures reads { result.0 ≡ self.entry.reads }
         ensures changes { result.1 ≡ self.entry.changes }
+        ensures fork { unwrap_or result.2 self.entry.home ≡ apply_all self.entry.changes self.entry.home }
         ensures agrees { Agrees self.entry.home self.entry.reads }
     {
         let Tracked {
             snapshot: _,
-            fork: _,
+            fork,
             reads,
             changes,
             alloc: _,
         } = self;
-        (reads.into_reads(), changes)
+        (reads.into_reads(), changes, fork)
     }
 
     // The answer now.

@@ -3,6 +3,7 @@ ghost use Rattle.std.specs.Prelude.{◌≡◌, ◌↔◌, ◌+◌, ◌≤◌, �
 ghost use Rattle.spec_world.specs.Questions.{ask, Agrees, apply_all};
 ghost use Rattle.view.specs.Meanings.{question_of, answer_of};
 ghost use Rattle.view.specs.Sound.{IsSound};
+ghost use Rattle.world.specs.Besides.{AgreesBesides};
 
 use crate::count::Count;
 use crate::draft::Draft;
@@ -99,6 +100,13 @@ impl World {
         self.draft.agrees(reads)
     }
 
+    /// Whether each question that was asked, but for those about verbs, has the answer that was read. It takes no memory.
+    pub fn agrees_besides(&self, reads: &Reads) -> bool
+        ensures { IsTrue result ↔ AgreesBesides self.now.plain reads.now }
+    {
+        self.draft.agrees_besides(reads)
+    }
+
     /// The number that the next step has.
     pub fn next(&self) -> u64
         ensures { result ≡ self.now.plain.next }
@@ -148,8 +156,8 @@ impl World {
         self.replace(draft);
     }
 
-    /// Other records for the world.
-    pub(crate) fn replace(&mut self, draft: Draft)
+    /// Other records for the world, which make it sound.
+    pub fn replace(&mut self, draft: Draft)
         requires { IsSound draft }
         ensures plain { self.new.plain ≡ draft }
         ensures opened { self.new.opened ≡ self.old.opened }

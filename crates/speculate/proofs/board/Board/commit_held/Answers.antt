@@ -12,13 +12,13 @@ use Rattle.speculate.proofs.board.Board.commit_held.Goals as goal
 pub returns-then-is_err-clause-err : goal.returns-then-is_err-clause-err
 returns-then-is_err-clause-err c =
     let b : BoardState = seen c.self.inside in
-    let b' : BoardState = record { base = b.base; steps = b.steps; world = b.world; outcomes = c.reserve.new.self.items; marks = b.marks; held = b.held; undone = b.undone } in
+    let b' : BoardState = record { base = b.base; steps = b.steps; world = b.world; outcomes = c.reserve.new.self.items; marks = b.marks; held = b.held; undone = b.undone; since = b.since } in
     subst (λ (x : BoardState). StaysPut x b') c.self.view_is (stays_at b b.world b.undone c.reserve.new.self.items b.marks b.held (refl, inl (refl, refl)) c.reserve.ensures.items refl refl)
 
 pub returns-then-is_err-2-clause-err : goal.returns-then-is_err-2-clause-err
 returns-then-is_err-2-clause-err c =
     let b : BoardState = seen c.self.inside in
-    let b' : BoardState = record { base = b.base; steps = b.steps; world = b.world; outcomes = c.reserve.new.self.items; marks = c.reserve-2.new.self.items; held = b.held; undone = b.undone } in
+    let b' : BoardState = record { base = b.base; steps = b.steps; world = b.world; outcomes = c.reserve.new.self.items; marks = c.reserve-2.new.self.items; held = b.held; undone = b.undone; since = b.since } in
     subst (λ (x : BoardState). StaysPut x b') c.self.view_is
     (stays_at b b.world b.undone c.reserve.new.self.items c.reserve-2.new.self.items b.held (refl, inl (refl, refl)) c.reserve.ensures.items c.reserve-2.ensures.items refl)
 
@@ -48,14 +48,14 @@ commit-requires-clause-fits c =
     let at : slice_get c.self.inside.steps.items c.len-at.result ≡ Some c.index.result.now = slice_get_read c.self.inside.steps.items (length c.self.inside.steps.items) c.len-at.result c.index.result.now refl (omega arith) c.index.ensures in
     fits_at c.self.inside.steps.items c.self.inside.held.items c.len-at.result c.index.result.now c.take_out-held.result c.self.invariant.held at c.take_out-held.ensures.value
 
-made : (c : goal.After-push_reserved-in-Ok) → Commits (seen c.self.inside) record { base = c.self.inside.base.value; steps = c.self.inside.steps.items; world = c.commit.new.world; outcomes = c.push_reserved.new.self.items; marks = c.push_reserved-in-Ok.new.self.items; held = c.take_out-held.new.held.items; undone = c.commit.new.undone }
+made : (c : goal.After-push_reserved-in-Ok) → Commits (seen c.self.inside) record { base = c.self.inside.base.value; steps = c.self.inside.steps.items; world = c.commit.new.world; outcomes = c.push_reserved.new.self.items; marks = c.push_reserved-in-Ok.new.self.items; held = c.take_out-held.new.held.items; undone = c.commit.new.undone; since = c.self.inside.since }
 made c =
     let w = slice_get_within c.self.inside.held.items c.len-at.result c.take_out-held.result c.take_out-held.ensures.value in
     let e = fits_length c.self.inside.steps.items c.self.inside.held.items c.self.invariant.held in
     let at : slice_get c.self.inside.steps.items c.len-at.result ≡ Some c.index.result.now = slice_get_read c.self.inside.steps.items (length c.self.inside.steps.items) c.len-at.result c.index.result.now refl (omega arith) c.index.ensures in
-    let os : c.push_reserved.new.self.items ≡ c.self.inside.outcomes.items ++ c.in-Ok.outcome ∷ [] = rw (← c.reserve.ensures.items) c.push_reserved.ensures.items in
-    let ms : c.push_reserved-in-Ok.new.self.items ≡ c.self.inside.marks.items ++ c.in-Ok.mark ∷ [] = rw (← c.reserve-2.ensures.items) c.push_reserved-in-Ok.ensures.items in
-    commit_at (seen c.self.inside) c.len-at.result c.index.result.now c.take_out-held.result c.commit.new.world c.in-Ok.outcome c.in-Ok.mark
+    let os : c.push_reserved.new.self.items ≡ c.self.inside.outcomes.items ++ c.in-Ok.done.outcome ∷ [] = rw (← c.reserve.ensures.items) c.push_reserved.ensures.items in
+    let ms : c.push_reserved-in-Ok.new.self.items ≡ c.self.inside.marks.items ++ c.in-Ok.done.mark ∷ [] = rw (← c.reserve-2.ensures.items) c.push_reserved-in-Ok.ensures.items in
+    commit_at (seen c.self.inside) c.len-at.result c.index.result.now c.take_out-held.result c.commit.new.world c.in-Ok.done.outcome c.in-Ok.done.mark
     c.push_reserved.new.self.items c.push_reserved-in-Ok.new.self.items c.take_out-held.new.held.items c.commit.new.undone
     (omega arith) at c.take_out-held.ensures.value c.in-Ok.ensures.ok.0 os ms c.take_out-held.ensures.rest c.in-Ok.ensures.ok.1
 
@@ -64,7 +64,7 @@ invariant_of-self-in-Ok c = commits_keeps (seen c.self.inside) _ c.self.invarian
 
 pub returns-in-Ok-clause-ok : goal.returns-in-Ok-clause-ok
 returns-in-Ok-clause-ok c =
-    let P : BoardState → Type 0 = λ v. Commits v record { base = c.self.inside.base.value; steps = c.self.inside.steps.items; world = c.commit.new.world; outcomes = c.push_reserved.new.self.items; marks = c.push_reserved-in-Ok.new.self.items; held = c.take_out-held.new.held.items; undone = c.commit.new.undone } in
+    let P : BoardState → Type 0 = λ v. Commits v record { base = c.self.inside.base.value; steps = c.self.inside.steps.items; world = c.commit.new.world; outcomes = c.push_reserved.new.self.items; marks = c.push_reserved-in-Ok.new.self.items; held = c.take_out-held.new.held.items; undone = c.commit.new.undone; since = c.self.inside.since } in
     subst P c.self.view_is (made c)
 
 pub put_back-requires : goal.put_back-requires
@@ -72,7 +72,7 @@ put_back-requires c =
     let w = slice_get_within c.self.inside.held.items c.len-at.result c.take_out-held.result c.take_out-held.ensures.value in
     rw c.take_out-held.ensures.rest (omega (arith, length_set c.self.inside.held.items c.len-at.result Empty))
 
-left : (c : goal.After-put_back) → StaysPut (seen c.self.inside) record { base = c.self.inside.base.value; steps = c.self.inside.steps.items; world = c.commit.new.world; outcomes = c.reserve.new.self.items; marks = c.reserve-2.new.self.items; held = c.put_back.new.held.items; undone = c.commit.new.undone }
+left : (c : goal.After-put_back) → StaysPut (seen c.self.inside) record { base = c.self.inside.base.value; steps = c.self.inside.steps.items; world = c.commit.new.world; outcomes = c.reserve.new.self.items; marks = c.reserve-2.new.self.items; held = c.put_back.new.held.items; undone = c.commit.new.undone; since = c.self.inside.since }
 left c =
     stays_at (seen c.self.inside) c.commit.new.world c.commit.new.undone c.reserve.new.self.items c.reserve-2.new.self.items c.put_back.new.held.items
     c.in-Err.ensures.err.1 c.reserve.ensures.items c.reserve-2.ensures.items
@@ -84,5 +84,5 @@ invariant_of-self-in-Err c = stays_keep (seen c.self.inside) _ c.self.invariant 
 
 pub returns-in-Err-clause-err : goal.returns-in-Err-clause-err
 returns-in-Err-clause-err c =
-    let P : BoardState → Type 0 = λ v. StaysPut v record { base = c.self.inside.base.value; steps = c.self.inside.steps.items; world = c.commit.new.world; outcomes = c.reserve.new.self.items; marks = c.reserve-2.new.self.items; held = c.put_back.new.held.items; undone = c.commit.new.undone } in
+    let P : BoardState → Type 0 = λ v. StaysPut v record { base = c.self.inside.base.value; steps = c.self.inside.steps.items; world = c.commit.new.world; outcomes = c.reserve.new.self.items; marks = c.reserve-2.new.self.items; held = c.put_back.new.held.items; undone = c.commit.new.undone; since = c.self.inside.since } in
     subst P c.self.view_is (left c)

@@ -1,4 +1,4 @@
-use Rattle.std.proofs.Common.{◌≡◌, Some, slice_get, refl, sym, subst, arith}
+use Rattle.std.proofs.Common.{◌≡◌, None, Some, slice_get, refl, sym, subst, arith}
 use Rattle.speculate.specs.declared.held.Held.TheVariants.{Empty, Holds}
 use Rattle.speculate.specs.BoardState.{BoardState}
 use Rattle.speculate.proofs.Honest.{holding_keeps}
@@ -10,7 +10,7 @@ pub invariant_of-self : goal.invariant_of-self
 invariant_of-self c =
     let at : slice_get c.args.self.now.steps c.args.position ≡ Some c.args.guess.step = c.if-not-is_for.ensures.0 refl in
     let P : BoardState → Type 0 = λ v. slice_get v.steps c.args.position ≡ Some c.args.guess.step in
-    holding_keeps (seen c.self.inside) c.args.position c.args.guess.step (Holds c.args.guess) c.self.invariant (subst P (sym c.self.view_is) at) (refl, c.know.ensures)
+    holding_keeps (seen c.self.inside) c.args.position c.args.guess.step (Holds c.args.guess None) c.self.invariant (subst P (sym c.self.view_is) at) (refl, c.know.ensures.right) tt
 
 pub returns-then-position-len-clause-step : goal.returns-then-position-len-clause-step
 returns-then-position-len-clause-step c =

@@ -1,0 +1,30 @@
+//! Laws of permissions.
+ghost use Rattle.spec_rights.specs.Chains.{NativesPermit, StagesPermit, TurnsPermit, SegmentsPermit};
+
+/// A call of a built-in function, and a later stage of one, changes what the table allows to the programmer of the verb that calls it.
+pub fn natives()
+    ensures calls { NativesPermit }
+    ensures stages { StagesPermit }
+{}
+
+/// A turn and a segment of a task are such changes one after another, each by a programmer with a right to run.
+pub fn tasks()
+    ensures turns { TurnsPermit }
+    ensures segments { SegmentsPermit }
+{}
+
+ghost use Rattle.spec_rights.specs.Chains.{StepsPermit, ListsPermit};
+
+/// So are a step and a list of steps.
+pub fn steps()
+    ensures steps { StepsPermit }
+    ensures lists { ListsPermit }
+{}
+
+ghost use Rattle.spec_rights.specs.LeftAlone.{NoWizardsArise, StrangersLeaveAlone};
+
+/// Where no verb and no waiting task is a wizard's, nobody becomes one, and all owners and flags stay; an object that strangers alone run beside stays as it was.
+pub fn strangers()
+    ensures wizards { NoWizardsArise }
+    ensures alone { StrangersLeaveAlone }
+{}

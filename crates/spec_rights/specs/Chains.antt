@@ -53,8 +53,8 @@ In [] g = ⊥
 In (h ∷ gs) g = (g ≡ h) ⊎ In gs g
 
 -- held at the beginning, or given since
-abbrev pub Holds : (Right → Type 0) → List Right → Right → Type 0
-Holds first gs g = first g ⊎ In gs g
+abbrev pub Holds : (Right → Bool) → List Right → Right → Type 0
+Holds first gs g = IsTrue (first g) ⊎ In gs g
 
 abbrev pub EntryHolds : (Right → Type 0) → Entry → Type 0
 EntryHolds rights (frame_entry f) = rights (to_run_as f.call.programmer)
@@ -86,8 +86,8 @@ IsTyping w who =
 
 -- from a world on: a programmer with a right to run changes what the table allows; a player who has a link types the program of a verb, by the table too;
 -- a wizard's verb may go on as another programmer, or give a verb to another owner; and a built-in begins that may move or recycle an object
-pub data Chain (first : Right → Type 0) (w : World) : List Right → World → Type 0 where
-  begins : Chain first w [] w
+pub data Chain (first : Right → Bool) (w : World) : List Right → World → Type 0 where
+  starts : Chain first w [] w
   serves : (gs : List Right) (u v : World) → Chain first w gs u → SameObjects u v → Chain first w gs v
   changes : (gs : List Right) (u v : World) (who : ℤ) → Chain first w gs u → Holds first gs (to_run_as who)
       → Permitted (λ o. Holds first gs (to_take o)) u who v → Chain first w gs v
@@ -110,23 +110,23 @@ world_after (halts s why) = s.world
 
 abbrev pub TurnsPermit : Type 0
 TurnsPermit =
-    (first : Right → Type 0) (k : ℕ) (s : Scene) (p : Pending) → SceneAgrees k s → AllHold first s.world → PendingHolds first p
+    (first : Right → Bool) (k : ℕ) (s : Scene) (p : Pending) → SceneAgrees k s → AllHold (Holds first []) s.world → PendingHolds (Holds first []) p
     → (gs : List Right) × Chain first s.world gs (world_after (turn s p))
 
 -- with any number of ticks
 abbrev pub SegmentsPermit : Type 0
 SegmentsPermit =
-    (first : Right → Type 0) (k t : ℕ) (s : Scene) (p : Pending) → SceneAgrees k s → IsUnderWay p → AllHold first s.world → PendingHolds first p
+    (first : Right → Bool) (k t : ℕ) (s : Scene) (p : Pending) → SceneAgrees k s → IsUnderWay p → AllHold (Holds first []) s.world → PendingHolds (Holds first []) p
     → (gs : List Right) × Chain first s.world gs (segment t s p).scene.world
 
 -- ---- steps and lists of steps
 
 abbrev pub StepsPermit : Type 0
 StepsPermit =
-    (first : Right → Type 0) (w : World) (s : Step) → Agrees w → IsTrue (in_range s) → AllHold first w
+    (first : Right → Bool) (w : World) (s : Step) → Agrees w → IsTrue (in_range s) → AllHold (Holds first []) w
     → (gs : List Right) × (Chain first w gs (play1 w s).0 × AllHold (Holds first gs) (play1 w s).0)
 
 abbrev pub ListsPermit : Type 0
 ListsPermit =
-    (first : Right → Type 0) (w : World) (ss : List Step) → Agrees w → IsTrue (list_all in_range ss) → AllHold first w
+    (first : Right → Bool) (w : World) (ss : List Step) → Agrees w → IsTrue (list_all in_range ss) → AllHold (Holds first []) w
     → (gs : List Right) × (Chain first w gs (play w ss).0 × AllHold (Holds first gs) (play w ss).0)

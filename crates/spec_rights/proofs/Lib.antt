@@ -1,1 +1,3 @@
 pub mod Rearranging
+pub mod Changes
+pub mod Recycled

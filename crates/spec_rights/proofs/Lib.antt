@@ -1,3 +1,4 @@
 pub mod Rearranging
 pub mod Changes
 pub mod Recycled
+pub mod Doing

@@ -2,3 +2,8 @@ pub mod Rearranging
 pub mod Changes
 pub mod Recycled
 pub mod Doing
+pub mod Rows
+pub mod Extending
+pub mod Turns
+pub mod Segments
+pub mod Steps

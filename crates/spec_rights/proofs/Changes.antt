@@ -17,7 +17,7 @@ use Rattle.spec_world.specs.Permissions as act
 use Rattle.spec_world.specs.Permissions.{Act, write_slot, write_name, write_bits, write_standing, change_members, change_owner, write_verb, program_verb, have_child, administer, on_slot, in_place, is_wizard, may}
 use Rattle.spec_world.proofs.Trees.{same_or_not, some_same, either, first_of, second_of}
 use Rattle.spec_world.proofs.SlotTables.{named_with}
-use Rattle.spec_world.proofs.Households.{household, at_each, at_put, at_without}
+use Rattle.spec_world.proofs.Households.{household, at_each, at_put, change_greatest}
 use Rattle.spec_world.proofs.ObjectChanges.{at_change}
 use Rattle.spec_world.proofs.NewObjects.{free}
 use Rattle.spec_moo.specs.Properties.{BuiltInProperty, own_name, own_owner, own_location, own_contents, programmer_flag, wizard_flag, r_bit, w_bit, f_bit, writing, with_built_in}
@@ -66,10 +66,10 @@ module _ (begun : ℤ → Type 0) (w : World) (who : ℤ) where
   -- ---- an object for each that was there
 
   pub each_for_each : (u : World) (f : ℤ → Object → Object) → ((q : ℤ) → object_at u q ≡ option_map (f q) (object_at w q))
-      → ((q : ℤ) (x : Object) → object_at w q ≡ Some x → ObjectKept begun w who u q x (f q x)) → (u.ending ≡ w.ending) ⊎ Allows w who administer
+      → ((q : ℤ) (x : Object) → object_at w q ≡ Some x → ObjectKept begun w who u q x (f q x)) → u.greatest ≡ w.greatest → (u.ending ≡ w.ending) ⊎ Allows w who administer
       → Permitted begun w who u
-  each_for_each u f there each ends =
-      record { kept = keeps; gone = stays; new = none; ending = ends }
+  each_for_each u f there each great ends =
+      record { kept = keeps; gone = stays; new = none; greatest = inl great; ending = ends }
     where
       keeps : (o : ℤ) (x y : Object) → object_at w o ≡ Some x → object_at u o ≡ Some y → ObjectKept begun w who u o x y
       keeps o x y e d =
@@ -83,8 +83,8 @@ module _ (begun : ℤ → Type 0) (w : World) (who : ℤ) where
       none o y e d = let clash : None ≡ Some y = sym (ap (option_map (f o)) e) ∙ sym (there o) ∙ d in absurd (cc (clash))
 
   -- links, the queue and the ending flag aside
-  pub nothing_changed : (u : World) → u.objects ≡ w.objects → (u.ending ≡ w.ending) ⊎ Allows w who administer → Permitted begun w who u
-  nothing_changed u e ends = each_for_each u (λ q x. x) (λ q. ap (λ es. object_at (record w { objects = es }) q) e ∙ itself (object_at w q)) (λ q x d. same_object u q x) ends
+  pub nothing_changed : (u : World) → u.objects ≡ w.objects → u.greatest ≡ w.greatest → (u.ending ≡ w.ending) ⊎ Allows w who administer → Permitted begun w who u
+  nothing_changed u e great ends = each_for_each u (λ q x. x) (λ q. ap (λ es. object_at (record w { objects = es }) q) e ∙ itself (object_at w q)) (λ q x d. same_object u q x) great ends
     where
       itself : (m : Option Object) → m ≡ option_map (λ x. x) m
       itself None = refl
@@ -96,7 +96,7 @@ module _ (begun : ℤ → Type 0) (w : World) (who : ℤ) where
   one_changed v o f (same, g, ends) each =
       each_for_each (change_object v o f) (λ q y. cond (int_eq q o) (f y) y)
       (λ q. at_change v o q f ∙ ap (λ es. option_map (λ y. cond (int_eq q o) (f y) y) (object_at (record w { objects = es }) q)) same) (λ q x e. go q x e (int_eq q o) refl)
-      (inl (change_ending v o f ∙ ends))
+      (change_greatest v o f ∙ g) (inl (change_ending v o f ∙ ends))
     where
       go : (q : ℤ) (x : Object) → object_at w q ≡ Some x → (b : Bool) → int_eq q o ≡ b → ObjectKept begun w who (change_object v o f) q x (cond b (f x) x)
       go q x e false s = same_object (change_object v o f) q x
@@ -206,7 +206,7 @@ module _ (begun : ℤ → Type 0) (w : World) (who : ℤ) where
               owner (inr i) = inr (may_write o p q folded i.0, i.1)
 
       go : (m : Option Object) → object_at w o ≡ m → Permitted begun w who (put_slot w o p t m)
-      go None e = nothing_changed w refl (inl refl)
+      go None e = nothing_changed w refl refl (inl refl)
       go (Some x) e =
           subst (λ z. Permitted begun w who z) (ap (λ m. Rattle.spec_world.specs.Families.change_at w o with_it m) e)
           (one_changed w o with_it (refl, refl, refl) (λ y d. record {
@@ -259,7 +259,7 @@ module _ (begun : ℤ → Type 0) (w : World) (who : ℤ) where
     unfolding property_added
     property_comes p s =
         each_for_each (change_each w f) f (λ q. at_each w q f)
-        (λ q x e. by_line (change_each w f) (λ z. defining z p s) (λ z. with_own_slot z p (Rattle.spec_world.specs.Families.heir_slot z.header.owner s)) (λ z. refl) (λ z. refl) (λ z. refl) (λ z. refl) (λ z. refl) q x e) (inl refl)
+        (λ q x e. by_line (change_each w f) (λ z. defining z p s) (λ z. with_own_slot z p (Rattle.spec_world.specs.Families.heir_slot z.header.owner s)) (λ z. refl) (λ z. refl) (λ z. refl) (λ z. refl) (λ z. refl) q x e) refl (inl refl)
       where
         f : ℤ → Object → Object
         f = λ d x. if int_eq d o then defining x p s else (if is_below w o d then with_own_slot x p (Rattle.spec_world.specs.Families.heir_slot x.header.owner s) else x)
@@ -268,7 +268,7 @@ module _ (begun : ℤ → Type 0) (w : World) (who : ℤ) where
     unfolding property_deleted
     property_goes p =
         each_for_each (change_each w f) f (λ q. at_each w q f)
-        (λ q x e. by_line (change_each w f) (λ z. lose_slot (not_defining z p) p) (λ z. lose_slot z p) (λ z. refl) (λ z. refl) (λ z. refl) (λ z. refl) (λ z. refl) q x e) (inl refl)
+        (λ q x e. by_line (change_each w f) (λ z. lose_slot (not_defining z p) p) (λ z. lose_slot z p) (λ z. refl) (λ z. refl) (λ z. refl) (λ z. refl) (λ z. refl) q x e) refl (inl refl)
       where
         f : ℤ → Object → Object
         f = λ d x. if int_eq d o then lose_slot (not_defining x p) p else (if is_below w o d then lose_slot x p else x)
@@ -348,7 +348,7 @@ module _ (begun : ℤ → Type 0) (w : World) (who : ℤ) where
       → Allows w who (have_child p) → Allows w who (change_owner who owner) → Permitted begun w who (created w p owner)
   unfolding created
   object_made h p owner room at_p allowed own =
-      record { kept = keeps; gone = stays; new = made; ending = inl (change_ending (with_object (record w { greatest = next_object w }) (next_object w) (child_of w p owner)) p _) }
+      record { kept = keeps; gone = stays; new = made; greatest = inr (change_greatest (with_object (record w { greatest = next_object w }) (next_object w) (child_of w p owner)) p _); ending = inl (change_ending (with_object (record w { greatest = next_object w }) (next_object w) (child_of w p owner)) p _) }
     where
       u : World
       u = created w p owner
@@ -449,7 +449,7 @@ module _ (begun : ℤ → Type 0) (w : World) (who : ℤ) where
   arranged_permitted : (hung placed : ℤ → ℤ → Type 0) (heir : ℤ → Type 0) (u : World) → Arranged hung placed heir w u
       → ((o : ℤ) (x y : Object) → object_at w o ≡ Some x → Rearranged hung placed heir o x y → ObjectKept begun w who u o x y) → Permitted begun w who u
   arranged_permitted hung placed heir u a each =
-      record { kept = keeps; gone = stays; new = none; ending = inl a.ending }
+      record { kept = keeps; gone = stays; new = none; greatest = inl a.greatest; ending = inl a.ending }
     where
       keeps : (o : ℤ) (x y : Object) → object_at w o ≡ Some x → object_at u o ≡ Some y → ObjectKept begun w who u o x y
       keeps o x y e d =

@@ -136,10 +136,10 @@ module _ (begun : ℤ → Type 0) (w : World) (who : ℤ) where
   NativeDoes (becomes s o) = Does s.world × ((o ≡ who) ⊎ (is_wizard s.world who ≡ true))
 
   pub nothing_done : Does w
-  nothing_done = record { permitted = nothing_changed begun w who w refl (inl refl); tasks = λ es h. h }
+  nothing_done = record { permitted = nothing_changed begun w who w refl refl (inl refl); tasks = λ es h. h }
 
   pub same_done : (u : World) → SameObjects w u → TasksFrom w.tasks u.tasks → Does u
-  same_done u same tasks = record { permitted = nothing_changed begun w who u same.0 (inl same.2); tasks = tasks }
+  same_done u same tasks = record { permitted = nothing_changed begun w who u same.0 same.1 (inl same.2); tasks = tasks }
 
   pub done : (u : World) → Permitted begun w who u → u.tasks ≡ w.tasks → Does u
   done u p same = record { permitted = p; tasks = λ es h. subst (λ ts. Among ts es) same h }

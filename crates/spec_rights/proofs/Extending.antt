@@ -76,7 +76,7 @@ module _ (begun more : ℤ → Type 0) (each : (o : ℤ) → begun o → more o)
 
   pub permitted_more : (u : World) → Permitted begun w who u → Permitted more w who u
   permitted_more u k =
-      record { kept = λ o x y e d. object_more u o x y (k.kept o x y e d); gone = λ o x e d. taken_more o (k.gone o x e d); new = k.new; ending = k.ending }
+      record { kept = λ o x y e d. object_more u o x y (k.kept o x y e d); gone = λ o x e d. taken_more o (k.gone o x e d); new = k.new; greatest = k.greatest; ending = k.ending }
 
 -- ---- whose verbs there are after a change
 

@@ -7,3 +7,6 @@ pub mod Extending
 pub mod Turns
 pub mod Segments
 pub mod Steps
+pub mod Denied
+pub mod Wizards
+pub mod Strangers

@@ -65,7 +65,7 @@ module _ (begun : ℤ → Type 0) (w : World) (who r : ℤ) (h : ObjectsAgree w)
         (one_arranged hung placed heir (lose_child (to_nowhere (reparented_each v x.children x.header.parent) x.contents) x.header.parent r) x.header.location _ (λ y e. record { rest = refl; parent = inl refl; location = inl refl; slots = inl refl }))
 
     without_it : (u : World) → Then u → Permitted begun w who (record u { objects = without u.objects r })
-    without_it u a = record { kept = keeps; gone = stays; new = none; ending = inl a.ending }
+    without_it u a = record { kept = keeps; gone = stays; new = none; greatest = inl a.greatest; ending = inl a.ending }
       where
         v : World
         v = record u { objects = without u.objects r }
@@ -110,7 +110,7 @@ module _ (begun : ℤ → Type 0) (w : World) (who r : ℤ) (h : ObjectsAgree w)
   object_recycled v same = go (object_at v r) refl
     where
       go : (m : Option Object) → object_at v r ≡ m → Permitted begun w who (recycled_object v r m)
-      go None e = nothing_changed begun w who v same.0 (inl same.2)
+      go None e = nothing_changed begun w who v same.0 same.1 (inl same.2)
       go (Some x) e =
           let is : object_at w r ≡ Some x = sym (ap (λ es. object_at (record w { objects = es }) r) same.0) ∙ e in
           without_it x is (out_of_place (lose_child (to_nowhere (reparented_each v x.children x.header.parent) x.contents) x.header.parent r) x.header.location r) (let_go x is v same)

@@ -32,7 +32,7 @@ use Rattle.spec_moo.specs.Natives.Verbs.{verb_place, if_verb, verbs_row, with_in
 use Rattle.spec_moo.specs.Natives.Tasks.{notify_row, waits_with_id, reads_on, read_row, suspend_row, task_programmer, is_suspended, resumes, resume_row, is_own_id, kills, kill_task_row, queued_tasks_row, task_id_row, ticks_left_row, raise_row, set_task_perms_row, caller_perms_row, random_up_to, random_row, time_row, connected_players_row, boot_player_row, dump_database_row, shutdown_row, task_rows, tasks}
 use Rattle.spec_moo.proofs.NativeWorlds.{place}
 use Rattle.spec_rights.specs.Permitted.{Allows, Taken, Concerns, concerned, Permitted}
-use Rattle.spec_rights.specs.Chains.{SameObjects}
+use Rattle.spec_rights.specs.Chains.{SameObjects, scene_of, NativesPermit, StagesPermit}
 use Rattle.spec_rights.proofs.Changes.{nothing_changed, one_changed, flag_set, slot_changed, property_comes, property_goes, verb_comes, verb_goes, verb_changes, object_made, object_moved, object_hung}
 use Rattle.spec_rights.proofs.Recycled.{object_recycled}
 use Rattle.spec_rights.proofs.Doing.{Among, TasksFrom, among_left, among_again, OwnsVerb, SoughtOwned, verb_owned, Does, NativeDoes, nothing_done, same_done, done, closing}
@@ -507,7 +507,7 @@ module _ (begun : ℤ → Type 0) where
   shutdown_does : (s : Scene) (c : Caller) (args : List Datum) → ObjectsAgree s.world → Fits s c (shutdown_row s c args)
   shutdown_does s c args h =
       tested s.world c.call.programmer (may s.world c.call.programmer administer) _ _ (same s c) (λ k.
-      done begun s.world c.call.programmer (record (s.world) { ending = true }) (nothing_changed begun s.world c.call.programmer (record (s.world) { ending = true }) refl (inr k)) refl)
+      done begun s.world c.call.programmer (record (s.world) { ending = true }) (nothing_changed begun s.world c.call.programmer (record (s.world) { ending = true }) refl refl (inr k)) refl)
 
   tasks_group : (s : Scene) (c : Caller) (name : Text) (args : List Datum) → ObjectsAgree s.world → SomeDoes s c (tasks s c name args)
   tasks_group =
@@ -553,3 +553,20 @@ module _ (begun : ℤ → Type 0) where
       go move_native e = staged_does n.name n.stage n.arguments began
       go create_native e = staged_does n.name n.stage n.arguments began
       go recycle_native e = staged_does n.name n.stage n.arguments began
+
+-- ---- the laws
+
+does_permit : (begun : ℤ → Type 0) (w : World) (who : ℤ) (e : NativeEffect) → NativeDoes begun w who e → Permitted begun w who (scene_of e).world
+does_permit begun w who (answers s a) d = d.permitted
+does_permit begun w who (Rattle.spec_moo.specs.NativeEffect.complains s f) d = d.permitted
+does_permit begun w who (Rattle.spec_moo.specs.NativeEffect.begins s n c body args) d = d.0.permitted
+does_permit begun w who (waits s why) d = d.permitted
+does_permit begun w who (Rattle.spec_moo.specs.NativeEffect.dies s) d = d.permitted
+does_permit begun w who (Rattle.spec_moo.specs.NativeEffect.becomes s o) d = d.0.permitted
+
+pub natives_permit : NativesPermit
+natives_permit k s c name args h = does_permit (λ o. ⊥) s.world c.call.programmer (native s c name args) (native_does (λ o. ⊥) s c name args h.world.objects)
+
+pub stages_permit : StagesPermit
+stages_permit k s c n v h =
+    does_permit (Concerns n) s.world c.call.programmer (native_turn s c n v) (stage_does (Concerns n) s c n v h.world.objects (λ o i. i))

@@ -80,12 +80,13 @@ pub record Made (w : World) (who o : ℤ) (y : Object) : Type 0 where
   pub header : y.header ≡ (child_of w y.header.parent y.header.owner).header
   pub verbs : y.verbs ≡ []
 
--- ---- from a world to another one
+-- ---- from a world to another one: no number is given twice
 
 pub record Permitted (begun : ℤ → Type 0) (w : World) (who : ℤ) (u : World) : Type 0 where
   pub kept : (o : ℤ) (x y : Object) → object_at w o ≡ Some x → object_at u o ≡ Some y → ObjectKept begun w who u o x y
   pub gone : (o : ℤ) (x : Object) → object_at w o ≡ Some x → object_at u o ≡ None → Taken begun w who o
   pub new : (o : ℤ) (y : Object) → object_at w o ≡ None → object_at u o ≡ Some y → Made w who o y
+  pub greatest : (u.greatest ≡ w.greatest) ⊎ (u.greatest ≡ next_object w)
   pub ending : (u.ending ≡ w.ending) ⊎ Allows w who administer
 
 -- ---- built-in functions

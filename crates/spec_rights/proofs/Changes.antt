@@ -21,7 +21,7 @@ use Rattle.spec_world.proofs.Households.{household, at_each, at_put, change_grea
 use Rattle.spec_world.proofs.ObjectChanges.{at_change}
 use Rattle.spec_world.proofs.NewObjects.{free}
 use Rattle.spec_moo.specs.Properties.{BuiltInProperty, own_name, own_owner, own_location, own_contents, programmer_flag, wizard_flag, r_bit, w_bit, f_bit, writing, with_built_in}
-use Rattle.spec_rights.specs.Permitted.{Allows, SlotKept, SlotStays, VerbKept, VerbsKept, Taken, LineChanges, SameStanding, SameBits, ObjectKept, Made, Permitted}
+use Rattle.spec_rights.specs.Permitted.{Allows, SlotKept, SlotStays, VerbKept, VerbsKept, Taken, IsRecycled, LineChanges, SameStanding, SameBits, ObjectKept, Made, Permitted}
 use Rattle.spec_rights.specs.Chains.{SameObjects}
 use Rattle.spec_rights.proofs.Rearranging.{bare, change_ending, Rearranged, EachRearranged, Arranged, nothing_arranged, arranged_twice, one_arranged, moved_arranged, reparented_arranged, nowhere_arranged, parent_at, child_hangs, content_is_there, below_child}
 
@@ -415,9 +415,9 @@ module _ (begun : ℤ → Type 0) (w : World) (who : ℤ) where
   -- ---- objects that are moved or hang elsewhere
 
   pub rearranged_kept : (hung placed : ℤ → ℤ → Type 0) (heir : ℤ → Type 0) (u : World) (o : ℤ) (x y : Object) → Rearranged hung placed heir o x y
-      → (hung o y.header.parent → (Allows w who (act.change_object o) × Allows w who (have_child y.header.parent)) ⊎ (Taken begun w who x.header.parent × (object_at u x.header.parent ≡ None)))
+      → (hung o y.header.parent → (Allows w who (act.change_object o) × Allows w who (have_child y.header.parent)) ⊎ IsRecycled begun w who u x.header.parent)
       → (placed o y.header.location
-        → Taken begun w who o ⊎ ((y.header.location ≡ nowhere) × (Taken begun w who x.header.location × (object_at u x.header.location ≡ None))))
+      → Taken begun w who o ⊎ ((y.header.location ≡ nowhere) × IsRecycled begun w who u x.header.location))
       → (heir o → LineChanges begun w who o) → ObjectKept begun w who u o x y
   rearranged_kept hung placed heir u o x y r up at line =
       record {
@@ -433,12 +433,12 @@ module _ (begun : ℤ → Type 0) (w : World) (who : ℤ) where
       }
     where
       parent : (y.header.parent ≡ x.header.parent) ⊎ hung o y.header.parent
-          → (y.header.parent ≡ x.header.parent) ⊎ ((Allows w who (act.change_object o) × Allows w who (have_child y.header.parent)) ⊎ (Taken begun w who x.header.parent × (object_at u x.header.parent ≡ None)))
+          → (y.header.parent ≡ x.header.parent) ⊎ ((Allows w who (act.change_object o) × Allows w who (have_child y.header.parent)) ⊎ IsRecycled begun w who u x.header.parent)
       parent (inl e) = inl e
       parent (inr k) = inr (up k)
 
       location : (y.header.location ≡ x.header.location) ⊎ placed o y.header.location
-          → (y.header.location ≡ x.header.location) ⊎ (Taken begun w who o ⊎ ((y.header.location ≡ nowhere) × (Taken begun w who x.header.location × (object_at u x.header.location ≡ None))))
+          → (y.header.location ≡ x.header.location) ⊎ (Taken begun w who o ⊎ ((y.header.location ≡ nowhere) × IsRecycled begun w who u x.header.location))
       location (inl e) = inl e
       location (inr k) = inr (at k)
 

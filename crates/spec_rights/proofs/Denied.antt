@@ -62,7 +62,7 @@ programmed_header w o n f q = ap (option_map (λ x. x.header)) (at_change w o q 
 -- and each other object
 pub programmed_other : (w : World) (o : ℤ) (n : ℕ) (f : Verb → Verb) (q : ℤ) → int_eq q o ≡ false → object_at (verb_changed w o n f) q ≡ object_at w q
 unfolding verb_changed
-programmed_other w o n f q e = at_change w o q _ ∙ ap (λ b. option_map (λ y. cond b (record y { verbs = Rattle.spec_world.specs.Members.with_verb y.verbs n f }) y) (object_at w q)) e ∙ go (object_at w q)
+programmed_other w o n f q e = at_change w o q _ ∙ ap (λ b. option_map {T = Object} {U = Object} (λ y. cond b (record y { verbs = Rattle.spec_world.specs.Members.with_verb y.verbs n f }) y) (object_at w q)) e ∙ go (object_at w q)
   where
     go : (m : Option Object) → option_map (λ y. y) m ≡ m
     go None = refl

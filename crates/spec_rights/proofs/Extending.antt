@@ -10,7 +10,7 @@ use Rattle.spec_world.specs.Permissions.{Act, change_owner, change_object, in_pl
 use Rattle.spec_world.proofs.Trees.{some_same, either}
 use Rattle.spec_moo.specs.NativeEffect.{NativeEffect, answers, complains, begins, waits, dies, becomes}
 use Rattle.spec_moo.specs.Pending.{Pending}
-use Rattle.spec_rights.specs.Permitted.{Allows, VerbKept, VerbsKept, Taken, LineChanges, SlotStays, ObjectKept, Made, Permitted, Concerns, concerned}
+use Rattle.spec_rights.specs.Permitted.{Allows, VerbKept, VerbsKept, Taken, IsRecycled, LineChanges, SlotStays, ObjectKept, Made, Permitted, Concerns, concerned}
 use Rattle.spec_rights.specs.Chains.{Right, to_run_as, to_take, In, Holds, EntryHolds, EntriesHold, TasksHold, AllHold, SameObjects, Chain, serves, changes, names, takes, PendingHolds}
 use Rattle.spec_rights.proofs.Doing.{Among, TasksFrom, of_tasks, to_tasks, OwnsVerb, Does, NativeDoes}
 
@@ -54,20 +54,20 @@ module _ (begun more : ℤ → Type 0) (each : (o : ℤ) → begun o → more o)
       record { name = k.name; standing = k.standing; player = k.player; bits = k.bits; parent = up k.parent; location = place k.location; defines = k.defines; slots = λ p. slot p (k.slots p); verbs = k.verbs }
     where
       up : (y.header.parent ≡ x.header.parent) ⊎ ((Allows w who (change_object o) × Allows w who (Rattle.spec_world.specs.Permissions.have_child y.header.parent))
-          ⊎ (Taken begun w who x.header.parent × (object_at u x.header.parent ≡ None)))
+          ⊎ IsRecycled begun w who u x.header.parent)
           → (y.header.parent ≡ x.header.parent) ⊎ ((Allows w who (change_object o) × Allows w who (Rattle.spec_world.specs.Permissions.have_child y.header.parent))
-          ⊎ (Taken more w who x.header.parent × (object_at u x.header.parent ≡ None)))
+          ⊎ IsRecycled more w who u x.header.parent)
       up (inl e) = inl e
       up (inr (inl e)) = inr (inl e)
-      up (inr (inr e)) = inr (inr (taken_more x.header.parent e.0, e.1))
+      up (inr (inr (y, e, d, k))) = inr (inr (y, e, d, taken_more x.header.parent k))
 
       place : (y.header.location ≡ x.header.location) ⊎ (Taken begun w who o
-          ⊎ ((y.header.location ≡ Rattle.spec_world.specs.Families.nowhere) × (Taken begun w who x.header.location × (object_at u x.header.location ≡ None))))
+          ⊎ ((y.header.location ≡ Rattle.spec_world.specs.Families.nowhere) × IsRecycled begun w who u x.header.location))
           → (y.header.location ≡ x.header.location) ⊎ (Taken more w who o
-          ⊎ ((y.header.location ≡ Rattle.spec_world.specs.Families.nowhere) × (Taken more w who x.header.location × (object_at u x.header.location ≡ None))))
+          ⊎ ((y.header.location ≡ Rattle.spec_world.specs.Families.nowhere) × IsRecycled more w who u x.header.location))
       place (inl e) = inl e
       place (inr (inl e)) = inr (inl (taken_more o e))
-      place (inr (inr e)) = inr (inr (e.0, (taken_more x.header.location e.1.0, e.1.1)))
+      place (inr (inr (n, (y, e, d, k)))) = inr (inr (n, (y, e, d, taken_more x.header.location k)))
 
       slot : (p : Text) → SlotStays w who o p (slot_of (Some x) p) (slot_of (Some y) p) ⊎ LineChanges begun w who o
           → SlotStays w who o p (slot_of (Some x) p) (slot_of (Some y) p) ⊎ LineChanges more w who o
@@ -219,12 +219,18 @@ module _ (first : Right → Bool) (w : World) where
       go true e = wizards (all_named (owners v.objects) gs u who r runs e)
         where
           wizards : (hs : List Right) × (Grows gs hs × (Reached hs u × ((o : ℤ) → Listed (owners v.objects) o → Holds first hs (to_run_as o)))) → After gs v
-          wizards (hs, (grows, (reached, each))) = (hs, (grows, then_changed hs u v who reached (holds_more first gs hs grows (to_run_as who) runs)
-              (record {
-                permitted = permitted_more (λ o. Holds first gs (to_take o)) (λ o. Holds first hs (to_take o)) (λ o k. holds_more first gs hs grows (to_take o) k) u who v d.permitted;
-                tasks = d.tasks;
-              })
-              (λ o x n t k i. each t.owner (owner_listed v.objects o x n t k i))))
+          wizards (hs, (grows, (reached, each))) = (
+            hs,
+            (
+              grows,
+              then_changed hs u v who reached (holds_more first gs hs grows (to_run_as who) runs)
+                  (record {
+                    permitted = permitted_more (λ o. Holds first gs (to_take o)) (λ o. Holds first hs (to_take o)) (λ o k. holds_more first gs hs grows (to_take o) k) u who v d.permitted;
+                    tasks = d.tasks;
+                  })
+                  (λ o x n t k i. each t.owner (owner_listed v.objects o x n t k i)),
+            ),
+          )
 
   pub served : (gs : List Right) (u v : World) → Reached gs u → SameObjects u v → TasksHold (Holds first gs) v.tasks → Reached gs v
   served gs u v r same tasks =
@@ -259,7 +265,6 @@ module _ (first : Right → Bool) (w : World) where
         go (inr k) = (gs, (λ g i. i, (r, λ o i. subst (λ z. Holds first gs (to_take z)) (some_same i) k)))
 
     pub native_reaches : (e : NativeEffect) → NativeDoes (λ q. Holds first gs (to_take q)) u who e → NativeReaches gs e
-
     native_reaches (answers s a) d = changed gs u s.world who r runs d
     native_reaches (complains s f) d = changed gs u s.world who r runs d
     native_reaches (waits s why) d = changed gs u s.world who r runs d

@@ -10,3 +10,5 @@ pub mod Steps
 pub mod Denied
 pub mod Wizards
 pub mod Strangers
+pub mod OwnLines
+pub mod Outsiders

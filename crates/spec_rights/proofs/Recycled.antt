@@ -11,7 +11,7 @@ use Rattle.spec_world.specs.Permissions.{have_child}
 use Rattle.spec_world.specs.Families.{nowhere, is_below, reparented, reparented_each, to_nowhere, lose_child, out_of_place, recycled_object, recycled}
 use Rattle.spec_world.proofs.Trees.{some_same, first_of, second_of}
 use Rattle.spec_world.proofs.Households.{at_without}
-use Rattle.spec_rights.specs.Permitted.{Allows, Taken, LineChanges, ObjectKept, Made, Permitted}
+use Rattle.spec_rights.specs.Permitted.{Allows, Taken, IsRecycled, LineChanges, ObjectKept, Made, Permitted}
 use Rattle.spec_rights.specs.Chains.{SameObjects}
 use Rattle.spec_rights.proofs.Rearranging.{Rearranged, EachRearranged, Arranged, nothing_arranged, arranged_twice, one_arranged, reparented_arranged, nowhere_arranged, parent_at, child_hangs, content_is_there, below_child}
 use Rattle.spec_rights.proofs.Changes.{nothing_changed, rearranged_kept}
@@ -76,6 +76,9 @@ module _ (begun : ℤ → Type 0) (w : World) (who r : ℤ) (h : ObjectsAgree w)
         gone_now : (q : ℤ) → q ≡ r → object_at v q ≡ None
         gone_now q e = there q ∙ ap (λ b. cond b None (object_at u q)) (subst (λ z. IsTrue (int_eq q z)) e (integer_itself q))
 
+        recycled_now : (q : ℤ) → q ≡ r → IsRecycled begun w who (record u { objects = without u.objects r }) q
+        recycled_now q e = (x, ap (object_at w) e ∙ is, gone_now q e, subst (Taken begun w who) (sym e) taken)
+
         keeps : (o : ℤ) (y z : Object) → object_at w o ≡ Some y → object_at v o ≡ Some z → ObjectKept begun w who v o y z
         keeps o y z e d = go (int_eq o r) (sym (there o) ∙ d)
           where
@@ -85,9 +88,9 @@ module _ (begun : ℤ → Type 0) (w : World) (who r : ℤ) (h : ObjectsAgree w)
                 rearranged_kept begun w who hung placed heir v o y z
                 (subst (λ m. EachRearranged hung placed heir o (Some y) m) k (subst (λ m. EachRearranged hung placed heir o m (object_at u o)) e (a.objects o)))
                 (λ l. let f = child_hangs w h r x is o l in let up : y.header.parent ≡ r = ap (λ (m : Object). m.header.parent) (some_same (sym e ∙ f.1)) ∙ f.2 in
-                inr (subst (Taken begun w who) (sym up) taken, gone_now y.header.parent up))
+                inr (recycled_now y.header.parent up))
                 (λ l. let f = content_is_there w h r x is o l.0 in let at : y.header.location ≡ r = ap (λ (m : Object). m.header.location) (some_same (sym e ∙ f.1)) ∙ f.2 in
-                inr (l.1, (subst (Taken begun w who) (sym at) taken, gone_now y.header.location at)))
+                inr (l.1, recycled_now y.header.location at))
                 (λ l. (r, l, inr taken))
 
         stays : (o : ℤ) (y : Object) → object_at w o ≡ Some y → object_at v o ≡ None → Taken begun w who o

@@ -15,10 +15,14 @@ use Rattle.spec_world.proofs.Trees.{same_or_not, some_same}
 use Rattle.spec_moo.specs.Steps.{play}
 use Rattle.spec_rights.specs.Permitted.{Allows, VerbKept, VerbsKept, Taken, SameStanding, SameBits, ObjectKept, Permitted}
 use Rattle.spec_rights.specs.Chains.{Right, to_run_as, to_take, In, Holds, IsTyping, Chain, starts, serves, changes, types, names, takes}
-use Rattle.spec_rights.specs.LeftAlone.{is_stranger, is_closed, strange, SameObject, StrangersLeaveAlone}
+use Rattle.spec_rights.specs.LeftAlone.{is_stranger, strange, SameObject, StrangersLeaveAlone}
 use Rattle.spec_rights.proofs.Denied.{denied, not_so, programmed_header, programmed_other, programmed_greatest}
 use Rattle.spec_rights.proofs.Wizards.{Plain, plain_first, plain_still, still_flags, plain_then}
 use Rattle.spec_rights.proofs.Steps.{lists_permit}
+
+pub first_false : (a b : Bool) → (a || b) ≡ false → a ≡ false
+first_false true b e = cc
+first_false false b e = refl
 
 -- ---- verbs
 
@@ -48,15 +52,16 @@ module _ (w : World) (who o : ℤ) (members : Allows w who (change_members o) �
 
 -- ---- one stranger
 
-module _ (w : World) (o : ℤ) (x : Object) (shut : IsTrue (is_closed x)) where
+module _ (w : World) (o : ℤ) (x : Object) where
   module _ (u : World) (who : ℤ) (y : Object) (plain : is_wizard u who ≡ false) (stranger : IsTrue (is_stranger w x who)) (there : object_at u o ≡ Some y) (same : SameObject x y) where
-    no_owner : int_eq who y.header.owner ≡ false
-    no_owner =
-        ap (int_eq who) (same.1.0.0) ∙ not_so (int_eq who x.header.owner)
-        (second_holds (not (is_wizard w who)) _ (first_holds (not (is_wizard w who) && not (int_eq who x.header.owner)) _ stranger))
+    closed : owns_or who y.header.owner y.header.writable ≡ false
+    closed =
+        (λ i. owns_or who (same.1.0.0 i) (same.1.1.1.0.1 i))
+        ∙ not_so (owns_or who x.header.owner x.header.writable)
+        (second_holds (not (is_wizard w who)) _ (first_holds (not (is_wizard w who) && not (owns_or who x.header.owner x.header.writable)) _ stranger))
 
-    no_writer : y.header.writable ≡ false
-    no_writer = (same.1.1.1.0.1) ∙ not_so x.header.writable (first_holds (not x.header.writable) _ shut)
+    no_owner : int_eq who y.header.owner ≡ false
+    no_owner = first_false (int_eq who y.header.owner) y.header.writable closed
 
     pub no_bits : Allows u who (write_bits o) → ⊥
     unfolding may
@@ -73,7 +78,7 @@ module _ (w : World) (o : ℤ) (x : Object) (shut : IsTrue (is_closed x)) where
     pub no_members : Allows u who (change_members o) → ⊥
     unfolding may
     no_members k =
-        denied _ k ((λ i. plain i || of_object (there i) (λ z. owns_or who z.header.owner z.header.writable)) ∙ (λ i. no_owner i || no_writer i))
+        denied _ k ((λ i. plain i || of_object (there i) (λ z. owns_or who z.header.owner z.header.writable)) ∙ closed)
 
     pub no_standing : Allows u who (write_standing o) → ⊥
     unfolding may
@@ -93,9 +98,7 @@ module _ (w : World) (o : ℤ) (x : Object) (shut : IsTrue (is_closed x)) where
         go None e = refl
         go (Some v) e =
             let at : in_place x.verbs n ≡ Some v = sym (ap (λ vs. in_place vs n) verbs) ∙ e in
-            let a : int_eq who v.owner ≡ false = not_so (int_eq who v.owner) (placed_holds (λ z. not (int_eq who z.owner)) x.verbs n v (second_holds (not (is_wizard w who) && not (int_eq who x.header.owner)) _ stranger) at) in
-            let b : v.writable ≡ false = not_so v.writable (placed_holds (λ z. not z.writable) x.verbs n v (second_holds (not x.header.writable) _ shut) at) in
-            λ i. a i || b i
+            not_so (owns_or who v.owner v.writable) (placed_holds (λ z. not (owns_or who z.owner z.writable)) x.verbs n v (second_holds (not (is_wizard w who) && not (owns_or who x.header.owner x.header.writable)) _ stranger) at)
 
     pub no_write : (n : ℕ) → Allows u who (write_verb o n) → ⊥
     unfolding may
@@ -153,7 +156,7 @@ module _ (w : World) (o : ℤ) (x : Object) (shut : IsTrue (is_closed x)) where
       go : (b : Bool) → is_wizard u who ≡ b → is_wizard u who ≡ false
       go false e = e
       go true e =
-          denied (is_wizard w who) (p.wizards who e) (not_so (is_wizard w who) (first_holds (not (is_wizard w who)) _ (first_holds (not (is_wizard w who) && not (int_eq who x.header.owner)) _ s)))
+          denied (is_wizard w who) (p.wizards who e) (not_so (is_wizard w who) (first_holds (not (is_wizard w who)) _ (first_holds (not (is_wizard w who) && not (owns_or who x.header.owner x.header.writable)) _ s)))
 
   quiet_then : (begun : ℤ → Type 0) (u v : World) (who : ℤ) → Permitted begun u who v → IsTrue (is_stranger w x who) → (begun o → ⊥) → Quiet u → Quiet v
   quiet_then begun u v who d s none q = go (object_at v o) refl
@@ -237,19 +240,19 @@ module _ (w : World) (o : ℤ) (x : Object) (shut : IsTrue (is_closed x)) where
     chain_quiet gs u (names hs _ who p r runs wizard) =
         let q = chain_quiet hs u r in denied (is_wizard u who) wizard (never_wizard u who q.0.plain (runs_strange hs who q.1 runs))
     chain_quiet gs u (takes hs _ who p r runs allowed) =
-        let q = chain_quiet hs u r in (q.0, (λ m k. named hs m q.1 k, λ k. taken hs q.0 q.1 k))
+        let q = chain_quiet hs u r in (q.0, (λ m k. named m q.1 k, λ k. taken q.0 q.1 k))
       where
-        named : (hs : List Right) (m : ℤ) → Unnamed hs → (to_run_as m ≡ to_take p) ⊎ In hs (to_run_as m) → ⊥
-        named hs m none (inl e) = cc
-        named hs m none (inr k) = none.0 m k
+        named : (m : ℤ) → Unnamed hs → (to_run_as m ≡ to_take p) ⊎ In hs (to_run_as m) → ⊥
+        named m none (inl e) = cc
+        named m none (inr k) = none.0 m k
 
-        taken : (hs : List Right) → Quiet u → Unnamed hs → (to_take o ≡ to_take p) ⊎ In hs (to_take o) → ⊥
-        taken hs q none (inr k) = none.1 k
-        taken hs q none (inl e) =
+        taken : Quiet u → Unnamed hs → (to_take o ≡ to_take p) ⊎ In hs (to_take o) → ⊥
+        taken q none (inr k) = none.1 k
+        taken q none (inl e) =
             let s = runs_strange hs who none runs in
             no_change u who q.object (never_wizard u who q.plain s) s q.there q.same (subst (λ m. Allows u who (act.change_object m)) (sym (ap number_of e)) allowed)
 
 pub strangers_leave_alone : StrangersLeaveAlone
-strangers_leave_alone w ss o x h range is shut all players =
+strangers_leave_alone w ss o x h range is all players =
     let r = lists_permit (strange w o x) w ss h range all in
-    let q = chain_quiet w o x shut h is players r.0 (play w ss).0 r.1.0 in (q.0.object, (q.0.there, q.0.same))
+    let q = chain_quiet w o x h is players r.0 (play w ss).0 r.1.0 in (q.0.object, (q.0.there, q.0.same))

@@ -1,10 +1,13 @@
 -- What steps leave as it was, in the words of those who use a world: nobody becomes a wizard where no wizard's verb runs, and an object stays as it is while nobody runs who may change it.
 use Rattle.std.specs.Prelude.{◌≡◌, ℤ, Bool, true, not, ◌&&◌, List, [], Some, IsTrue}
-use Rattle.std.specs.List.{list_all, list_any}
+use Rattle.std.specs.List.{list_all}
 use Rattle.std.specs.Ordering.{int_eq}
-use Rattle.spec_world.specs.World.{World, Object, object_at}
+use Rattle.spec_value.specs.Datum.{Text}
+use Rattle.spec_world.specs.World.{World, Object, Slot, object_at}
+use Rattle.spec_world.specs.Inherit.{slot_at, ancestors}
+use Rattle.spec_world.specs.WellFormed.{lists}
 use Rattle.spec_world.specs.Agreeing.{Agrees}
-use Rattle.spec_world.specs.Permissions.{is_wizard}
+use Rattle.spec_world.specs.Permissions.{owns_or, of_object, is_wizard}
 use Rattle.spec_world.specs.Step.{Step, in_range}
 use Rattle.spec_moo.specs.Steps.{play}
 use Rattle.spec_rights.specs.Permitted.{SameStanding, SameBits}
@@ -28,13 +31,10 @@ NoWizardsArise =
 
 -- ---- one object
 
--- neither a wizard nor its owner, and of none of its verbs the owner
+-- no wizard, and neither the object nor one of its verbs is its own or has the bit w
 abbrev pub is_stranger : World → Object → ℤ → Bool
-is_stranger w x who = not (is_wizard w who) && not (int_eq who x.header.owner) && list_all (λ v. not (int_eq who v.owner)) x.verbs
-
--- it and its verbs may be written by their owners alone
-abbrev pub is_closed : Object → Bool
-is_closed x = not x.header.writable && list_all (λ v. not v.writable) x.verbs
+is_stranger w x who =
+    not (is_wizard w who) && not (owns_or who x.header.owner x.header.writable) && list_all (λ v. not (owns_or who v.owner v.writable)) x.verbs
 
 -- all that runs is a stranger's, and no built-in waits to move or recycle the object
 abbrev pub strange : World → ℤ → Object → Right → Bool
@@ -50,7 +50,26 @@ SameObject x y =
 -- then the object is there still, as it was, if each player is a stranger too, who might type a program
 abbrev pub StrangersLeaveAlone : Type 0
 StrangersLeaveAlone =
-    (w : World) (ss : List Step) (o : ℤ) (x : Object) → Agrees w → IsTrue (list_all in_range ss) → object_at w o ≡ Some x → IsTrue (is_closed x)
+    (w : World) (ss : List Step) (o : ℤ) (x : Object) → Agrees w → IsTrue (list_all in_range ss) → object_at w o ≡ Some x
     → AllHold (Holds (strange w o x) []) w
     → ((who : ℤ) (y : Object) → object_at w who ≡ Some y → y.header.is_player ≡ true → IsTrue (is_stranger w x who))
     → (y : Object) × ((object_at (play w ss).0 o ≡ Some y) × SameObject x y)
+
+-- ---- one property of an object
+
+-- no wizard; the slot is not its own, nor has the bit w; nor is or has an object on the line upwards from this one
+abbrev pub is_outsider : World → ℤ → Slot → ℤ → Bool
+is_outsider w o s who =
+    not (is_wizard w who) && not (owns_or who s.owner s.writable)
+    && list_all (λ a. not (of_object (object_at w a) (λ y. owns_or who y.header.owner y.header.writable))) (ancestors w o)
+
+-- all that runs is an outsider's, and no built-in waits to move or recycle an object on that line
+abbrev pub outside : World → ℤ → Slot → Right → Bool
+outside w o s (to_run_as who) = is_outsider w o s who
+outside w o s (to_take q) = not (lists (ancestors w o) q)
+
+-- then the slot keeps its value, its owner and its bits
+abbrev pub OutsidersLeaveSlots : Type 0
+OutsidersLeaveSlots =
+    (w : World) (ss : List Step) (o : ℤ) (p : Text) (s : Slot) → Agrees w → IsTrue (list_all in_range ss) → slot_at w o p ≡ Some s
+    → AllHold (Holds (outside w o s) []) w → slot_at (play w ss).0 o p ≡ Some s

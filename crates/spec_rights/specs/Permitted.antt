@@ -45,6 +45,10 @@ VerbsKept w who o n (v ∷ vs) (u ∷ us) =
 abbrev pub Taken : (ℤ → Type 0) → World → ℤ → ℤ → Type 0
 Taken begun w who o = Allows w who (change_object o) ⊎ begun o
 
+-- an object that was there is gone, since it may be recycled
+abbrev pub IsRecycled : (ℤ → Type 0) → World → ℤ → World → ℤ → Type 0
+IsRecycled begun w who u o = (x : Object) × (object_at w o ≡ Some x) × (object_at u o ≡ None) × Taken begun w who o
+
 -- on the object itself or one above it members may be changed, or it may be moved, recycled or hung below another one
 abbrev pub LineChanges : (ℤ → Type 0) → World → ℤ → ℤ → Type 0
 LineChanges begun w who o = (a : ℤ) × (is_below w a o ≡ true) × (Allows w who (change_members a) ⊎ Taken begun w who a)
@@ -63,11 +67,11 @@ pub record ObjectKept (begun : ℤ → Type 0) (w : World) (who : ℤ) (u : Worl
   pub player : (y.header.is_player ≡ x.header.is_player) ⊎ Allows w who administer
   pub bits : SameBits x.header y.header ⊎ Allows w who (write_bits o)
   pub parent :
-    (y.header.parent ≡ x.header.parent) ⊎ ((Allows w who (change_object o) × Allows w who (have_child y.header.parent))
-    ⊎ (Taken begun w who x.header.parent × (object_at u x.header.parent ≡ None)))
+      (y.header.parent ≡ x.header.parent) ⊎ ((Allows w who (change_object o) × Allows w who (have_child y.header.parent))
+      ⊎ IsRecycled begun w who u x.header.parent)
   pub location :
-    (y.header.location ≡ x.header.location) ⊎ (Taken begun w who o
-    ⊎ ((y.header.location ≡ nowhere) × (Taken begun w who x.header.location × (object_at u x.header.location ≡ None))))
+      (y.header.location ≡ x.header.location) ⊎ (Taken begun w who o
+      ⊎ ((y.header.location ≡ nowhere) × IsRecycled begun w who u x.header.location))
   pub defines : (y.defines ≡ x.defines) ⊎ Allows w who (change_members o)
   pub slots : (p : Text) → SlotStays w who o p (slot_of (Some x) p) (slot_of (Some y) p) ⊎ LineChanges begun w who o
   pub verbs : VerbsKept w who o 0 x.verbs y.verbs

@@ -21,10 +21,12 @@ pub fn steps()
     ensures lists { ListsPermit }
 {}
 
-ghost use Rattle.spec_rights.specs.LeftAlone.{NoWizardsArise, StrangersLeaveAlone};
+ghost use Rattle.spec_rights.specs.LeftAlone.{NoWizardsArise, StrangersLeaveAlone, OutsidersLeaveSlots};
 
-/// Where no verb and no waiting task is a wizard's, nobody becomes one, and all owners and flags stay; an object that strangers alone run beside stays as it was.
+/// Where no verb and no waiting task is a wizard's, nobody becomes one, and all owners and flags stay; an object and its verbs stay as
+/// they were while strangers alone run, and so does a slot while those run that are strangers to it and to each object above.
 pub fn strangers()
     ensures wizards { NoWizardsArise }
     ensures alone { StrangersLeaveAlone }
+    ensures slots { OutsidersLeaveSlots }
 {}

@@ -4,9 +4,12 @@ pub mod Recycled
 pub mod Doing
 pub mod Rows
 pub mod Extending
+pub mod Effects
 pub mod Turns
+pub mod Acting
 pub mod Segments
 pub mod Steps
+pub mod StepsAct
 pub mod Denied
 pub mod Wizards
 pub mod Strangers

@@ -556,7 +556,7 @@ module _ (begun : ℤ → Type 0) where
 
 -- ---- the laws
 
-does_permit : (begun : ℤ → Type 0) (w : World) (who : ℤ) (e : NativeEffect) → NativeDoes begun w who e → Permitted begun w who (scene_of e).world
+pub does_permit : (begun : ℤ → Type 0) (w : World) (who : ℤ) (e : NativeEffect) → NativeDoes begun w who e → Permitted begun w who (scene_of e).world
 does_permit begun w who (answers s a) d = d.permitted
 does_permit begun w who (Rattle.spec_moo.specs.NativeEffect.complains s f) d = d.permitted
 does_permit begun w who (Rattle.spec_moo.specs.NativeEffect.begins s n c body args) d = d.0.permitted

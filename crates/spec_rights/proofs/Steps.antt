@@ -69,7 +69,7 @@ below_zero (pos (suc m)) a e = cc (e)
 below_zero (negsuc m) a e = cc (a)
 
 -- so it is a player who has the link
-typing : (w : World) (c : ℤ) (k : Link) (o : ℤ) (n : ℕ) → Agrees w → at w.links c ≡ Some k → Allows w k.person (program_verb o n) → IsTyping w k.person
+pub typing : (w : World) (c : ℤ) (k : Link) (o : ℤ) (n : ℕ) → Agrees w → at w.links c ≡ Some k → Allows w k.person (program_verb o n) → IsTyping w k.person
 typing w c k o n h e allowed = go (either (int_eq k.person (connection_object c)) _ (second_holds (is_connection c) _ (h.links.links c k e)))
   where
     there : (x : Object) × (object_at w k.person ≡ Some x)
@@ -124,7 +124,7 @@ module _ (start : Right → Bool) (first : World) where
           go (Some y) is same = by y is (int_eq q o) (some_same same)
 
   -- in a world with other links
-  same_verbs : (u : World) (c : ℤ) (k : Link) (o : ℤ) (n : ℕ) (f : Verb → Verb)
+  pub same_verbs : (u : World) (c : ℤ) (k : Link) (o : ℤ) (n : ℕ) (f : Verb → Verb)
       → SameObjects (verb_changed u o n f) (verb_changed (open_link u c k) o n f) × ((verb_changed (open_link u c k) o n f).tasks ≡ (verb_changed u o n f).tasks)
   unfolding verb_changed
   same_verbs u c k o n f = go (object_at u o)
@@ -418,7 +418,7 @@ module _ (start : Right → Bool) (first : World) where
 
   -- ---- steps and lists
 
-  opens_ready : (w : World) (s : Step) (t : ℕ) → Agrees w → IsTrue (in_range s) → IsReady (opening_scene (numbered s.number w) s t)
+  pub opens_ready : (w : World) (s : Step) (t : ℕ) → Agrees w → IsTrue (in_range s) → IsReady (opening_scene (numbered s.number w) s t)
   opens_ready w s t h range =
       record { agrees = record { world = next_raised w (max (suc s.number) w.next) (omega arith) (omega (arith, small, limit)) h; number = one; before = omega arith; moment = second_holds (nat_le 1 s.number && nat_le s.number 33554431) (is_moment s.moment) with_moment; ids = omega arith; own = tt; next = refl } }
     where

@@ -1,5 +1,5 @@
 -- What built-ins, turns, segments, steps and lists of steps may do to a world: changes one after another, each permitted to a programmer whose verb or task then runs.
-use Rattle.std.specs.Prelude.{◌≡◌, ◌⊎◌, ℕ, ℤ, Bool, true, List, [], ◌∷◌, Option, Some, None, IsTrue}
+use Rattle.std.specs.Prelude.{◌≡◌, ◌⊎◌, ℕ, ℤ, Bool, true, if◌then◌else◌, List, [], ◌∷◌, Option, Some, None, IsTrue}
 use Rattle.std.specs.List.{list_all}
 use Rattle.spec_value.specs.Datum.{Datum, Text}
 use Rattle.spec_value.specs.Table.{at}
@@ -12,6 +12,7 @@ use Rattle.spec_world.specs.Step.{Step, in_range}
 use Rattle.spec_moo.specs.Scene.{Scene}
 use Rattle.spec_moo.specs.NativeEffect.{Caller, NativeEffect, answers, complains, begins, waits, dies, becomes}
 use Rattle.spec_moo.specs.Natives.{native, native_turn}
+use Rattle.spec_moo.specs.Natives.Tasks.{innermost, programmer_of}
 use Rattle.spec_moo.specs.Pending.{Pending, Turned, goes_on, halts}
 use Rattle.spec_moo.specs.Turn.{turn}
 use Rattle.spec_moo.specs.Sizes.{begins_stage}
@@ -41,6 +42,55 @@ abbrev pub StagesPermit : Type 0
 StagesPermit =
     (k : ℕ) (s : Scene) (c : Caller) (n : Native) (v : Datum) → SceneAgrees k s
     → Permitted (Concerns n) s.world c.call.programmer (scene_of (native_turn s c n v)).world
+
+-- ---- one turn
+
+-- a turn acts as the programmer of the innermost verb; where it brings a built-in the value that this waited for, as that of the verb which called it
+abbrev pub acting : Pending → ℤ
+acting p = if begins_stage p then programmer_of (innermost p.outer) else p.frame.call.programmer
+
+-- and then the built-in may move or recycle the object that it began with
+abbrev pub Begun : Bool → List Entry → ℤ → Type 0
+Begun true (native_entry n ∷ es) o = Concerns n o
+Begun b es o = ⊥
+
+abbrev pub world_after : Turned → World
+world_after (goes_on s p) = s.world
+world_after (halts s why) = s.world
+
+-- each turn of any task: what the table allows to that programmer
+abbrev pub TurnsAct : Type 0
+TurnsAct =
+    (k : ℕ) (s : Scene) (p : Pending) → SceneAgrees k s → Permitted (Begun (begins_stage p) p.outer) s.world (acting p) (world_after (turn s p))
+
+-- ---- one step
+
+-- what the server does by itself to links, to the queue and to the next number
+abbrev pub SameObjects : World → World → Type 0
+SameObjects w u = (u.objects ≡ w.objects) × (u.greatest ≡ w.greatest) × (u.ending ≡ w.ending)
+
+-- a player who has a link
+abbrev pub IsTyping : World → ℤ → Type 0
+IsTyping w who =
+    (c : ℤ) × (k : Link) × (at w.links c ≡ Some k) × (k.person ≡ who) × (x : Object) × (object_at w who ≡ Some x) × (x.header.is_player ≡ true)
+
+-- the turns of a segment of one task
+abbrev pub RunsATask : World → World → Type 0
+RunsATask w u =
+    (t : Scene) × (p : Pending)
+    × (SceneAgrees t.world.next t × (IsUnderWay p × (SameObjects w t.world × SameObjects (segment t.ticks_left t p).scene.world u)))
+
+-- a program that a player types, who is allowed to
+abbrev pub TypesAProgram : World → World → Type 0
+TypesAProgram w u =
+    (who o : ℤ) × (n : ℕ) × (body : Program)
+    × (IsTyping w who × (Allows w who (program_verb o n) × SameObjects (verb_changed w o n (λ x. record x { program = body })) u))
+
+-- nothing else changes an object
+abbrev pub StepsAct : Type 0
+StepsAct =
+    (w : World) (s : Step) → Agrees w → IsTrue (in_range s)
+    → SameObjects w (play1 w s).0 ⊎ (RunsATask w (play1 w s).0 ⊎ TypesAProgram w (play1 w s).0)
 
 -- ---- who runs
 
@@ -75,15 +125,6 @@ pub record AllHold (rights : Right → Type 0) (w : World) : Type 0 where
 
 -- ---- changes one after another
 
--- what the server does by itself to links, to the queue and to the next number
-abbrev pub SameObjects : World → World → Type 0
-SameObjects w u = (u.objects ≡ w.objects) × (u.greatest ≡ w.greatest) × (u.ending ≡ w.ending)
-
--- a player who has a link
-abbrev pub IsTyping : World → ℤ → Type 0
-IsTyping w who =
-    (c : ℤ) × (k : Link) × (at w.links c ≡ Some k) × (k.person ≡ who) × (x : Object) × (object_at w who ≡ Some x) × (x.header.is_player ≡ true)
-
 -- from a world on: a programmer with a right to run changes what the table allows; a player who has a link types the program of a verb, by the table too;
 -- a wizard's verb may go on as another programmer, or give a verb to another owner; and a built-in begins that may move or recycle an object
 pub data Chain (first : Right → Bool) (w : World) : List Right → World → Type 0 where
@@ -103,10 +144,6 @@ pub data Chain (first : Right → Bool) (w : World) : List Right → World → T
 -- the innermost verb has a right to run, and what waits for it holds its rights
 abbrev pub PendingHolds : (Right → Type 0) → Pending → Type 0
 PendingHolds rights p = rights (to_run_as p.frame.call.programmer) × EntriesHold rights p.outer
-
-abbrev pub world_after : Turned → World
-world_after (goes_on s p) = s.world
-world_after (halts s why) = s.world
 
 abbrev pub TurnsPermit : Type 0
 TurnsPermit =

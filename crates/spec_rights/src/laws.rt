@@ -1,11 +1,22 @@
 //! Laws of permissions.
-ghost use Rattle.spec_rights.specs.Chains.{NativesPermit, StagesPermit, TurnsPermit, SegmentsPermit};
+ghost use Rattle.spec_rights.specs.Chains.{NativesPermit, StagesPermit};
 
 /// A call of a built-in function, and a later stage of one, changes what the table allows to the programmer of the verb that calls it.
 pub fn natives()
     ensures calls { NativesPermit }
     ensures stages { StagesPermit }
 {}
+
+ghost use Rattle.spec_rights.specs.Chains.{TurnsAct, StepsAct};
+
+/// So does each turn of a task: it acts as the programmer of the verb that is under way. A step changes objects by such turns, of one
+/// task, or by the program of one verb, typed by a player who is allowed to, or not at all.
+pub fn acting()
+    ensures turns { TurnsAct }
+    ensures steps { StepsAct }
+{}
+
+ghost use Rattle.spec_rights.specs.Chains.{TurnsPermit, SegmentsPermit};
 
 /// A turn and a segment of a task are such changes one after another, each by a programmer with a right to run.
 pub fn tasks()

@@ -6,7 +6,7 @@ use Rattle.spec_program.specs.Tree.{literal, Program}
 use Rattle.spec_program.specs.Construct.{Construct, of_expr, Piece}
 use Rattle.spec_program.specs.Place.{Part, parts, nth}
 use Rattle.spec_world.specs.World.{World, Entry, frame_entry, native_entry, Call, Native}
-use Rattle.spec_world.specs.Agreeing.{ObjectsAgree}
+use Rattle.spec_world.specs.Agreeing.{Agrees}
 use Rattle.spec_moo.specs.Scene.{Scene}
 use Rattle.spec_moo.specs.Leaving.{Leaving, returned, failed, broken, continued, Failure, failure}
 use Rattle.spec_moo.specs.Held.{way_at, held_at_first, held_with}
@@ -114,7 +114,7 @@ module _ (P : World → Type 0) where
 
 -- ---- one turn
 
-module _ (s : Scene) (p : Pending) (a : ObjectsAgree s.world) where
+module _ (s : Scene) (p : Pending) (a : Agrees s.world) where
   -- as the programmer of the innermost verb
   abbrev Mine : World → Type 0
   Mine u = Permitted (λ o. ⊥) s.world p.frame.call.programmer u
@@ -175,4 +175,4 @@ module _ (s : Scene) (p : Pending) (a : ObjectsAgree s.world) where
 
 pub turns_act : TurnsAct
 unfolding turn
-turns_act k s p h = on_acts s p h.world.objects p.focus p.frame.pieces
+turns_act k s p h = on_acts s p h.world p.focus p.frame.pieces

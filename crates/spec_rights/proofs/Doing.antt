@@ -1,18 +1,27 @@
 -- What a built-in function does: a permitted change, tasks that were there, a verb of someone who is known, and what it begins to move or recycle.
 use Rattle.std.proofs.Common.{◌≡◌, ◌⊎◌, inl, inr, ℕ, zero, suc, ℤ, Bool, true, false, List, [], ◌∷◌, Option, Some, None, refl, sym, ap, ◌∙◌, subst, cond, IsTrue, if◌then◌else◌, Ordering, Less, Equal, Greater, is_eq}
-use Rattle.std.specs.Prelude.{filter}
+use Rattle.std.specs.Prelude.{filter, is_some, not}
 use Rattle.std.specs.Ordering.{int_cmp}
 use Rattle.std.specs.FinMap.Entries.{by_order}
 use Rattle.spec_value.specs.Datum.{Text}
-use Rattle.spec_value.specs.Table.{at, with}
-use Rattle.spec_world.specs.World.{World, Object, Verb, Entry, Task, object_at}
+use Rattle.std.specs.Ordering.{int_eq}
+use Rattle.std.specs.FinMap.Entries.{below_all}
+use Rattle.spec_value.specs.Table.{Numbered, at, with, without, is_numbered}
+use Rattle.spec_value.proofs.Entries.{first_holds, second_holds}
+use Rattle.spec_value.proofs.Same.{same_integer, integer_itself}
+use Rattle.spec_world.specs.World.{World, Object, Verb, Entry, Task, Link, Waiting, forked, timed, idle, reading_on, object_at}
 use Rattle.spec_world.specs.Inherit.{ancestors}
-use Rattle.spec_world.specs.Permissions.{in_place, is_wizard}
-use Rattle.spec_world.specs.Links.{close_link}
+use Rattle.spec_world.specs.Permissions.{in_place, is_wizard, control_task}
+use Rattle.spec_world.specs.Links.{connection_among, reads_on, close_link}
 use Rattle.spec_world.specs.VerbsSought.{Sought, first_passing, own_first, found_or, first_on, find_verb}
-use Rattle.spec_world.proofs.Trees.{some_same}
+use Rattle.spec_world.proofs.Trees.{same_or_not, some_same}
+use Rattle.spec_world.proofs.Households.{at_without}
+use Rattle.spec_world.proofs.Recycling.{below_none}
+use Rattle.spec_world.proofs.TablesKept.{at_with}
+use Rattle.spec_world.proofs.WorldsKept.{Rest, connection_open}
+use Rattle.spec_moo.specs.Natives.Tasks.{task_programmer}
 use Rattle.spec_moo.specs.NativeEffect.{NativeEffect, answers, complains, begins, waits, dies, becomes}
-use Rattle.spec_rights.specs.Permitted.{Taken, Concerns, Permitted}
+use Rattle.spec_rights.specs.Permitted.{Allows, Taken, Concerns, Permitted, MayClose, GoesWithLink, QueueKept}
 use Rattle.spec_rights.specs.Chains.{SameObjects, EntriesHold, TasksHold, Right}
 use Rattle.spec_rights.proofs.Changes.{nothing_changed}
 
@@ -125,6 +134,11 @@ module _ (begun : ℤ → Type 0) (w : World) (who : ℤ) where
   pub record Does (u : World) : Type 0 where
     pub permitted : Permitted begun w who u
     pub tasks : TasksFrom w.tasks u.tasks
+    pub queue : QueueKept begun w who u
+
+  pub same_queue : (u : World) → u.tasks ≡ w.tasks → u.links ≡ w.links → QueueKept begun w who u
+  same_queue u same linked =
+      record { tasks = λ i t e. inl (ap (λ ts. at ts i) same ∙ e); links = λ c k e. inl (ap (λ ks. at ks c) linked ∙ e) }
 
   abbrev pub NativeDoes : NativeEffect → Type 0
   NativeDoes (answers s a) = Does s.world
@@ -136,15 +150,120 @@ module _ (begun : ℤ → Type 0) (w : World) (who : ℤ) where
   NativeDoes (becomes s o) = Does s.world × ((o ≡ who) ⊎ (is_wizard s.world who ≡ true))
 
   pub nothing_done : Does w
-  nothing_done = record { permitted = nothing_changed begun w who w refl refl (inl refl); tasks = λ es h. h }
+  nothing_done = record { permitted = nothing_changed begun w who w refl refl (inl refl); tasks = λ es h. h; queue = same_queue w refl refl }
 
-  pub same_done : (u : World) → SameObjects w u → TasksFrom w.tasks u.tasks → Does u
-  same_done u same tasks = record { permitted = nothing_changed begun w who u same.0 same.1 (inl same.2); tasks = tasks }
+  pub same_done : (u : World) → SameObjects w u → TasksFrom w.tasks u.tasks → QueueKept begun w who u → Does u
+  same_done u same tasks queue = record { permitted = nothing_changed begun w who u same.0 same.1 (inl same.2); tasks = tasks; queue = queue }
 
-  pub done : (u : World) → Permitted begun w who u → u.tasks ≡ w.tasks → Does u
-  done u p same = record { permitted = p; tasks = λ es h. subst (λ ts. Among ts es) same h }
+  pub done : (u : World) → Permitted begun w who u → Rest w u → Does u
+  done u p rest = record { permitted = p; tasks = λ es h. subst (λ ts. Among ts es) rest.tasks h; queue = same_queue u rest.tasks rest.links }
+
+-- then the same tasks and links
+pub queue_then : (begun : ℤ → Type 0) (w : World) (who : ℤ) (v u : World) → QueueKept begun w who v → Rest v u → QueueKept begun w who u
+queue_then begun w who v u k rest = record { tasks = tasks; links = links }
+  where
+    tasks : (i : ℤ) (t : Task) → at w.tasks i ≡ Some t → (at u.tasks i ≡ Some t) ⊎ (Allows w who (control_task (task_programmer t)) ⊎ GoesWithLink begun w who t.waiting)
+    tasks i t e = go (k.tasks i t e)
+      where
+        go : (at v.tasks i ≡ Some t) ⊎ (Allows w who (control_task (task_programmer t)) ⊎ GoesWithLink begun w who t.waiting)
+            → (at u.tasks i ≡ Some t) ⊎ (Allows w who (control_task (task_programmer t)) ⊎ GoesWithLink begun w who t.waiting)
+        go (inl a) = inl (ap (λ ts. at ts i) rest.tasks ∙ a)
+        go (inr a) = inr a
+
+    links : (c : ℤ) (l : Link) → at w.links c ≡ Some l → (at u.links c ≡ Some l) ⊎ MayClose begun w who l.person
+    links c l e = go (k.links c l e)
+      where
+        go : (at v.links c ≡ Some l) ⊎ MayClose begun w who l.person → (at u.links c ≡ Some l) ⊎ MayClose begun w who l.person
+        go (inl a) = inl (ap (λ ks. at ks c) rest.links ∙ a)
+        go (inr a) = inr a
 
 -- a link is closed, and no task comes
 pub closing : (w : World) (c : ℤ) → SameObjects w (close_link w c) × TasksFrom w.tasks (close_link w c).tasks
 unfolding close_link
 closing w c = ((refl, refl, refl), among_left _ w.tasks)
+
+-- ---- what stays in a table
+
+-- the first entry with a number stays, if it passes
+stays_filtered : {X : Type 0} (p : ℤ × X → Bool) (es : List (ℤ × X)) (i : ℤ) (x : X) → at es i ≡ Some x → p (i, x) ≡ true → at (filter p es) i ≡ Some x
+stays_filtered p [] i x e k = cc
+stays_filtered {X = X} p (d ∷ es) i x e k = go (p d) refl (same_or_not i d.0) e (λ m. stays_filtered p es i x m k)
+  where
+    go : (b : Bool) → p d ≡ b → (i ≡ d.0) ⊎ (int_eq i d.0 ≡ false) → cond (int_eq i d.0) (Some d.1) (at es i) ≡ Some x → (at es i ≡ Some x → at (filter p es) i ≡ Some x)
+        → at (if b then d ∷ filter p es else filter p es) i ≡ Some x
+    go true s (inl h) m later =
+        let hit : int_eq i d.0 ≡ true = subst (λ z. int_eq i z ≡ true) h (integer_itself i) in
+        ap (λ b. cond b (Some d.1) (at (filter p es) i)) hit ∙ (sym (ap (λ b. cond b (Some d.1) (at es i)) hit) ∙ m)
+    go true s (inr h) m later = ap (λ b. cond b (Some d.1) (at (filter p es) i)) h ∙ later (sym (ap (λ b. cond b (Some d.1) (at es i)) h) ∙ m)
+    go false s (inr h) m later = later (sym (ap (λ b. cond b (Some d.1) (at es i)) h) ∙ m)
+    go false s (inl h) m later =
+        let hit : int_eq i d.0 ≡ true = subst (λ z. int_eq i z ≡ true) h (integer_itself i) in
+        let same : d.1 ≡ x = some_same (sym (ap (λ b. cond b (Some d.1) (at es i)) hit) ∙ m) in
+        let clash : true ≡ false = sym k ∙ (λ j. p (h j, sym same j)) ∙ s in absurd (cc (clash))
+
+-- the link that is sought by its person is that person's
+pub persons_link : (ks : Numbered Link) (o c : ℤ) (k : Link) → IsTrue (is_numbered ks) → connection_among ks o ≡ Some c → at ks c ≡ Some k → k.person ≡ o
+persons_link [] o c k h e i = cc
+persons_link (d ∷ ks) o c k h e i = go (int_eq (d.1).person o) refl e (same_or_not c d.0) i (λ m n. persons_link ks o c k (second_holds (below_all int_cmp d.0 ks) _ h) m n)
+  where
+    here : c ≡ d.0 → cond (int_eq c d.0) (Some d.1) (at ks c) ≡ Some k → d.1 ≡ k
+    here s m = some_same (sym (ap (λ b. cond b (Some d.1) (at ks c)) (subst (λ z. int_eq c z ≡ true) s (integer_itself c))) ∙ m)
+
+    go : (b : Bool) → int_eq (d.1).person o ≡ b → cond b (Some d.0) (connection_among ks o) ≡ Some c → (c ≡ d.0) ⊎ (int_eq c d.0 ≡ false)
+        → cond (int_eq c d.0) (Some d.1) (at ks c) ≡ Some k → (connection_among ks o ≡ Some c → at ks c ≡ Some k → k.person ≡ o) → k.person ≡ o
+    go true s m (inl n) i later = sym (ap (λ (z : Link). z.person) (here n i)) ∙ same_integer (d.1).person o s
+    go true s m (inr n) i later =
+        let same : d.0 ≡ c = some_same m in let clash : true ≡ false = sym (subst (λ z. int_eq z d.0 ≡ true) same (integer_itself d.0)) ∙ n in absurd (cc (clash))
+    go false s m (inr n) i later = later m (sym (ap (λ b. cond b (Some d.1) (at ks c)) n) ∙ i)
+    go false s m (inl n) i later =
+        let none : at ks c ≡ None = ap (at ks) n ∙ below_none d.0 ks (first_holds (below_all int_cmp d.0 ks) _ h) in
+        let linked : IsTrue (is_some (at ks c)) = connection_open ks c o m in absurd (cc (none, linked))
+
+-- a connection's link is closed, by one who may
+module _ (begun : ℤ → Type 0) (w : World) (who c : ℤ) (k : Link) (is : at w.links c ≡ Some k) (may : MayClose begun w who k.person) where
+  pub queue_closed : QueueKept begun w who (close_link w c)
+  unfolding close_link
+  queue_closed = record { tasks = tasks; links = links }
+    where
+      reading : (t : Task) (why : Waiting) → t.waiting ≡ why → reads_on c why ≡ true → GoesWithLink begun w who why
+      reading t (reading_on d) e r = let same : c ≡ d = same_integer c d r in (k, ap (at w.links) (sym same) ∙ is, may)
+      reading t (forked m) e r = cc
+      reading t (timed m v) e r = cc
+      reading t idle e r = cc
+
+      tasks : (i : ℤ) (t : Task) → at w.tasks i ≡ Some t
+          → (at (filter (λ (e : ℤ × Task). not (reads_on c (e.1).waiting)) w.tasks) i ≡ Some t)
+          ⊎ (Allows w who (control_task (task_programmer t)) ⊎ GoesWithLink begun w who t.waiting)
+      tasks i t e = go (reads_on c t.waiting) refl
+        where
+          go : (b : Bool) → reads_on c t.waiting ≡ b
+              → (at (filter (λ (e : ℤ × Task). not (reads_on c (e.1).waiting)) w.tasks) i ≡ Some t)
+              ⊎ (Allows w who (control_task (task_programmer t)) ⊎ GoesWithLink begun w who t.waiting)
+          go false r = inl (stays_filtered (λ (e : ℤ × Task). not (reads_on c (e.1).waiting)) w.tasks i t e (ap not r))
+          go true r = inr (inr (reading t t.waiting refl r))
+
+      links : (d : ℤ) (l : Link) → at w.links d ≡ Some l → (at (without w.links c) d ≡ Some l) ⊎ MayClose begun w who l.person
+      links d l e = go (same_or_not d c)
+        where
+          go : (d ≡ c) ⊎ (int_eq d c ≡ false) → (at (without w.links c) d ≡ Some l) ⊎ MayClose begun w who l.person
+          go (inl s) = inr (subst (λ z. MayClose begun w who z) (ap (λ (z : Link). z.person) (some_same (sym is ∙ ap (at w.links) (sym s) ∙ e))) may)
+          go (inr s) = inl (at_without w.links c d ∙ ap (λ b. cond b None (at w.links d)) s ∙ e)
+
+-- a task that is there is put again, or goes, by one who may
+pub queue_put : (begun : ℤ → Type 0) (w : World) (who i : ℤ) (t u : Task) → at w.tasks i ≡ Some t → Allows w who (control_task (task_programmer t))
+    → QueueKept begun w who (record w { tasks = with w.tasks i u })
+queue_put begun w who i t u is allowed = record { tasks = λ j v e. go j v e (same_or_not j i); links = λ c k e. inl e }
+  where
+    go : (j : ℤ) (v : Task) → at w.tasks j ≡ Some v → (j ≡ i) ⊎ (int_eq j i ≡ false)
+        → (at (with w.tasks i u) j ≡ Some v) ⊎ (Allows w who (control_task (task_programmer v)) ⊎ GoesWithLink begun w who v.waiting)
+    go j v e (inl s) = inr (inl (subst (λ (z : Task). Allows w who (control_task (task_programmer z))) (some_same (sym is ∙ ap (at w.tasks) (sym s) ∙ e)) allowed))
+    go j v e (inr s) = inl (at_with w.tasks i j u ∙ ap (λ b. cond b (Some u) (at w.tasks j)) s ∙ e)
+
+pub queue_left : (begun : ℤ → Type 0) (w : World) (who i : ℤ) (t : Task) → at w.tasks i ≡ Some t → Allows w who (control_task (task_programmer t))
+    → QueueKept begun w who (record w { tasks = without w.tasks i })
+queue_left begun w who i t is allowed = record { tasks = λ j v e. go j v e (same_or_not j i); links = λ c k e. inl e }
+  where
+    go : (j : ℤ) (v : Task) → at w.tasks j ≡ Some v → (j ≡ i) ⊎ (int_eq j i ≡ false)
+        → (at (without w.tasks i) j ≡ Some v) ⊎ (Allows w who (control_task (task_programmer v)) ⊎ GoesWithLink begun w who v.waiting)
+    go j v e (inl s) = inr (inl (subst (λ (z : Task). Allows w who (control_task (task_programmer z))) (some_same (sym is ∙ ap (at w.tasks) (sym s) ∙ e)) allowed))
+    go j v e (inr s) = inl (at_without w.tasks i j ∙ ap (λ b. cond b None (at w.tasks j)) s ∙ e)

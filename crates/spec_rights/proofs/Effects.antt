@@ -9,7 +9,6 @@ use Rattle.spec_program.specs.Tree.{Expr, literal, variable, own_length, unary, 
 use Rattle.spec_program.specs.Construct.{Construct, of_expr, of_target, of_default, of_statement, of_program, Piece}
 use Rattle.spec_program.specs.Place.{Part, parts, nth, statement_parts, arity}
 use Rattle.spec_world.specs.World.{World, Object, Slot, Native, Entry, frame_entry, native_entry, Call, Task, object_at}
-use Rattle.spec_world.specs.Agreeing.{ObjectsAgree}
 use Rattle.spec_world.specs.Inherit.{slot_at}
 use Rattle.spec_world.specs.Permissions as act
 use Rattle.spec_world.specs.Permissions.{may}

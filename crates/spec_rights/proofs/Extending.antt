@@ -191,16 +191,18 @@ module _ (first : Right → Bool) (w : World) where
       go hs grows each o (inr k) = each o k
 
   -- where the owners of verbs are known
-  then_changed : (gs : List Right) (u v : World) (who : ℤ) → Reached gs u → Holds first gs (to_run_as who) → Does (λ o. Holds first gs (to_take o)) u who v
+  then_changed : (gs : List Right) (u v : World) (who : ℤ) → Reached gs u → Holds first gs (to_run_as who)
+      → Permitted (λ o. Holds first gs (to_take o)) u who v → TasksFrom u.tasks v.tasks
       → ((o : ℤ) (x : Object) (n : ℕ) (t : Verb) → object_at v o ≡ Some x → in_place x.verbs n ≡ Some t → Holds first gs (to_run_as t.owner)) → Reached gs v
-  then_changed gs u v who r runs d each =
+  then_changed gs u v who r runs d from each =
       record {
-        chain = changes gs u v who r.chain runs d.permitted;
-        all = record { verbs = each; tasks = to_tasks (Holds first gs) v.tasks (λ es k. of_tasks (Holds first gs) u.tasks es r.all.tasks (d.tasks es k)) };
+        chain = changes gs u v who r.chain runs d;
+        all = record { verbs = each; tasks = to_tasks (Holds first gs) v.tasks (λ es k. of_tasks (Holds first gs) u.tasks es r.all.tasks (from es k)) };
       }
 
-  pub changed : (gs : List Right) (u v : World) (who : ℤ) → Reached gs u → Holds first gs (to_run_as who) → Does (λ o. Holds first gs (to_take o)) u who v → After gs v
-  changed gs u v who r runs d = go (is_wizard u who) refl
+  pub changed : (gs : List Right) (u v : World) (who : ℤ) → Reached gs u → Holds first gs (to_run_as who)
+      → Permitted (λ o. Holds first gs (to_take o)) u who v → TasksFrom u.tasks v.tasks → After gs v
+  changed gs u v who r runs d from = go (is_wizard u who) refl
     where
       known : (o : ℤ) (x : Object) (n : ℕ) (t : Verb) → object_at v o ≡ Some x → in_place x.verbs n ≡ Some t → is_wizard u who ≡ false → Holds first gs (to_run_as t.owner)
       known o x n t e i plain = by (object_at u o) refl
@@ -211,11 +213,11 @@ module _ (first : Right → Bool) (w : World) where
           of_known y k (inr (inr (m, z, a, b))) = subst (λ c. Holds first gs (to_run_as c)) b (r.all.verbs o y m z k a)
 
           by : (m : Option Object) → object_at u o ≡ m → Holds first gs (to_run_as t.owner)
-          by (Some y) k = of_known y k (verbs_known u who o 0 y.verbs x.verbs (d.permitted.kept o y x k e).verbs n t i)
-          by None k = let none : None ≡ Some t = sym (ap (λ vs. in_place vs n) (d.permitted.new o x k e).verbs) ∙ i in absurd (cc (none))
+          by (Some y) k = of_known y k (verbs_known u who o 0 y.verbs x.verbs (d.kept o y x k e).verbs n t i)
+          by None k = let none : None ≡ Some t = sym (ap (λ vs. in_place vs n) (d.new o x k e).verbs) ∙ i in absurd (cc (none))
 
       go : (b : Bool) → is_wizard u who ≡ b → After gs v
-      go false e = stays gs v (then_changed gs u v who r runs d (λ o x n t k i. known o x n t k i e))
+      go false e = stays gs v (then_changed gs u v who r runs d from (λ o x n t k i. known o x n t k i e))
       go true e = wizards (all_named (owners v.objects) gs u who r runs e)
         where
           wizards : (hs : List Right) × (Grows gs hs × (Reached hs u × ((o : ℤ) → Listed (owners v.objects) o → Holds first hs (to_run_as o)))) → After gs v
@@ -224,10 +226,7 @@ module _ (first : Right → Bool) (w : World) where
             (
               grows,
               then_changed hs u v who reached (holds_more first gs hs grows (to_run_as who) runs)
-                  (record {
-                    permitted = permitted_more (λ o. Holds first gs (to_take o)) (λ o. Holds first hs (to_take o)) (λ o k. holds_more first gs hs grows (to_take o) k) u who v d.permitted;
-                    tasks = d.tasks;
-                  })
+                  (permitted_more (λ o. Holds first gs (to_take o)) (λ o. Holds first hs (to_take o)) (λ o k. holds_more first gs hs grows (to_take o) k) u who v d) from
                   (λ o x n t k i. each t.owner (owner_listed v.objects o x n t k i)),
             ),
           )
@@ -265,11 +264,11 @@ module _ (first : Right → Bool) (w : World) where
         go (inr k) = (gs, (λ g i. i, (r, λ o i. subst (λ z. Holds first gs (to_take z)) (some_same i) k)))
 
     pub native_reaches : (e : NativeEffect) → NativeDoes (λ q. Holds first gs (to_take q)) u who e → NativeReaches gs e
-    native_reaches (answers s a) d = changed gs u s.world who r runs d
-    native_reaches (complains s f) d = changed gs u s.world who r runs d
-    native_reaches (waits s why) d = changed gs u s.world who r runs d
-    native_reaches (dies s) d = changed gs u s.world who r runs d
-    native_reaches (becomes s o) d = go (changed gs u s.world who r runs d.0) d.1
+    native_reaches (answers s a) d = changed gs u s.world who r runs d.permitted d.tasks
+    native_reaches (complains s f) d = changed gs u s.world who r runs d.permitted d.tasks
+    native_reaches (waits s why) d = changed gs u s.world who r runs d.permitted d.tasks
+    native_reaches (dies s) d = changed gs u s.world who r runs d.permitted d.tasks
+    native_reaches (becomes s o) d = go (changed gs u s.world who r runs d.0.permitted d.0.tasks) d.1
       where
         go : After gs s.world → (o ≡ who) ⊎ (is_wizard s.world who ≡ true) → (hs : List Right) × (Grows gs hs × (Reached hs s.world × Holds first hs (to_run_as o)))
         go (hs, (grows, reached)) (inl e) = (hs, (grows, (reached, subst (λ z. Holds first hs (to_run_as z)) (sym e) (holds_more first gs hs grows (to_run_as who) runs))))
@@ -279,10 +278,8 @@ module _ (first : Right → Bool) (w : World) where
         go : (hs : List Right) × (Grows gs hs × (Reached hs u × ((o : ℤ) → Concerns n o → Holds first hs (to_take o))))
             → (hs : List Right) × (Grows gs hs × (Reached hs s.world × (Holds first hs (to_run_as c.programmer) × ((o : ℤ) → Concerns n o → Holds first hs (to_take o)))))
         go (hs, (grows, (reached, each))) =
-            by (changed hs u s.world who reached (holds_more first gs hs grows (to_run_as who) runs) (record {
-              permitted = permitted_more (λ o. Holds first gs (to_take o)) (λ o. Holds first hs (to_take o)) (λ o k. holds_more first gs hs grows (to_take o) k) u who s.world d.0.permitted;
-              tasks = d.0.tasks;
-            }))
+            by (changed hs u s.world who reached (holds_more first gs hs grows (to_run_as who) runs)
+            (permitted_more (λ o. Holds first gs (to_take o)) (λ o. Holds first hs (to_take o)) (λ o k. holds_more first gs hs grows (to_take o) k) u who s.world d.0.permitted) d.0.tasks)
           where
             by : After hs s.world → (is : List Right) × (Grows gs is × (Reached is s.world × (Holds first is (to_run_as c.programmer) × ((o : ℤ) → Concerns n o → Holds first is (to_take o)))))
             by (is, (more, later)) =

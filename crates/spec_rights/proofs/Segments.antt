@@ -27,7 +27,7 @@ module _ (start : Right → Bool) (w : World) (fixed : ℕ) where
   Led (halts s why) = (hs : List Right) × Halted start w hs s why
 
   pub turn_leads : (s : Scene) (p : Pending) → Under s p → Led (turn s p)
-  turn_leads s p ((h, k), (hs, (r, b))) = go (turn s p) (turns_keep fixed s p h k) (turn_goes start w hs s p h.world.objects r b)
+  turn_leads s p ((h, k), (hs, (r, b))) = go (turn s p) (turns_keep fixed s p h k) (turn_goes start w hs s p h.world r b)
     where
       go : (t : Turned) → TurnedKeeps fixed t → TurnedReaches start w t → Led t
       go (goes_on u q) a c = (a, c)

@@ -459,7 +459,7 @@ module _ (start : Right → Bool) (first : World) where
 
 pub turns_permit : TurnsPermit
 turns_permit start k s p h all b =
-    go (Rattle.spec_moo.specs.Turn.turn s p) (turn_goes start s.world [] s p h.world.objects (record { chain = starts; all = all }) b)
+    go (Rattle.spec_moo.specs.Turn.turn s p) (turn_goes start s.world [] s p h.world (record { chain = starts; all = all }) b)
   where
     halted : (t : Scene) (why : Stop) (hs : List Right) → Halted start s.world hs t why → Chain start s.world hs t.world
     halted t (waiting why es) hs r = r.0.chain

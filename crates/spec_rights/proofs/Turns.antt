@@ -9,7 +9,7 @@ use Rattle.spec_program.specs.Tree.{Expr, literal, variable, own_length, unary, 
 use Rattle.spec_program.specs.Construct.{Construct, of_expr, of_target, of_default, of_statement, of_program, Piece}
 use Rattle.spec_program.specs.Place.{Part, parts, nth, statement_parts, arity}
 use Rattle.spec_world.specs.World.{World, Object, Slot, Native, Entry, frame_entry, native_entry, Call, Task, object_at}
-use Rattle.spec_world.specs.Agreeing.{ObjectsAgree}
+use Rattle.spec_world.specs.Agreeing.{Agrees}
 use Rattle.spec_world.specs.Inherit.{slot_at}
 use Rattle.spec_world.specs.Permissions as act
 use Rattle.spec_world.specs.Permissions.{may}
@@ -62,7 +62,7 @@ module _ (begun : ℤ → Type 0) (w : World) (who : ℤ) where
           by false k = tt
           by true k =
               doing.done begun w who (Rattle.spec_world.specs.Inherit.with_slot w o p (record s { content = Some v }))
-              (slot_changed begun w who o p s (record s { content = Some v }) e (record { rest = inr k; owner = inl refl })) (Rattle.spec_world.proofs.WorldsKept.slot_rest w o p (record s { content = Some v })).tasks
+              (slot_changed begun w who o p s (record s { content = Some v }) e (record { rest = inr k; owner = inl refl })) (Rattle.spec_world.proofs.WorldsKept.slot_rest w o p (record s { content = Some v }))
 
       built : (x : Object) → object_at w o ≡ Some x → (b : BuiltInProperty) (m : Option Object) → with_built_in x b v ≡ m → WrittenDoes (write_built_in w o (may w who (writing o b)) m)
       built x is b None e = tt
@@ -71,7 +71,7 @@ module _ (begun : ℤ → Type 0) (w : World) (who : ℤ) where
           by : (c : Bool) → may w who (writing o b) ≡ c
               → WrittenDoes (if c then wrote (Rattle.spec_world.specs.World.with_object w o y) else refused Rattle.spec_value.specs.Datum.permission_denied)
           by false k = tt
-          by true k = doing.done begun w who (Rattle.spec_world.specs.World.with_object w o y) (built_in_written begun w who o x y b v is e k) refl
+          by true k = doing.done begun w who (Rattle.spec_world.specs.World.with_object w o y) (built_in_written begun w who o x y b v is e k) (record { links = refl; tasks = refl; next = refl })
 
       valid : (x : Object) → object_at w o ≡ Some x → (m : Option BuiltInProperty) → WrittenDoes (write_valid w who o p v x m)
       valid x is None = slot (slot_at w o p) refl
@@ -126,7 +126,7 @@ module _ (start : Right → Bool) (w : World) (gs : List Right) where
   CaughtReaches o = CaughtGoes Goes CallRuns (NativeReaches start w gs) o
 
   -- what its verb may do leads on
-  ready : (s : Scene) (p : Pending) → ObjectsAgree s.world → Reached start w gs s.world → PendingHolds (Holds start gs) p
+  ready : (s : Scene) (p : Pending) → Agrees s.world → Reached start w gs s.world → PendingHolds (Holds start gs) p
       → Ready Goes CallRuns (NativeReaches start w gs) s p
   ready s p a r b =
       record {
@@ -139,7 +139,7 @@ module _ (start : Right → Bool) (w : World) (gs : List Right) where
       }
     where
       written : (m : Written) → WrittenDoes (λ o. Holds start gs (to_take o)) s.world p.frame.call.programmer m → WrittenGoes Goes CallRuns (NativeReaches start w gs) s m
-      written (wrote u) d = changed start w gs s.world u p.frame.call.programmer r b.0 d
+      written (wrote u) d = changed start w gs s.world u p.frame.call.programmer r b.0 d.permitted d.tasks
       written (refused e) d = tt
 
   -- ---- turns
@@ -226,7 +226,7 @@ module _ (start : Right → Bool) (w : World) (gs : List Right) where
 
   -- ---- out of a verb
 
-  native_back : (s : Scene) (p : Pending) (n : Native) (v : Datum) (es : List Entry) → ObjectsAgree s.world → Reached start w gs s.world
+  native_back : (s : Scene) (p : Pending) (n : Native) (v : Datum) (es : List Entry) → Agrees s.world → Reached start w gs s.world
       → EntriesHold (Holds start gs) (native_entry n ∷ es) → TurnedReaches start w (back_in_native s p n v es)
   native_back s p n v [] a r h = (gs, r)
   native_back s p n v (native_entry m ∷ es) a r h = (gs, r)
@@ -234,7 +234,7 @@ module _ (start : Right → Bool) (w : World) (gs : List Right) where
       native_goes (in_frame p f es) (of_expr (literal v)) f.pieces (native_turn s (caller_of (in_frame p f es)) n v)
       (native_reaches start w gs s.world f.call.programmer r h.1.0 (native_turn s (caller_of (in_frame p f es)) n v) (stage_does (λ o. Holds start gs (to_take o)) s (caller_of (in_frame p f es)) n v a h.0)) h.1
 
-  value_back : (s : Scene) (p : Pending) (v : Datum) (es : List Entry) → ObjectsAgree s.world → Reached start w gs s.world → EntriesHold (Holds start gs) es
+  value_back : (s : Scene) (p : Pending) (v : Datum) (es : List Entry) → Agrees s.world → Reached start w gs s.world → EntriesHold (Holds start gs) es
       → TurnedReaches start w (back_with s p v es)
   value_back s p v [] a r h = (gs, r)
   value_back s p v (frame_entry f ∷ es) a r h = (gs, (r, h))
@@ -245,7 +245,7 @@ module _ (start : Right → Bool) (w : World) (gs : List Right) where
   error_back s p f (frame_entry g ∷ es) r h = (gs, (r, h))
   error_back s p f (native_entry n ∷ es) r h = error_back s p f es r h.1
 
-  out_goes : (s : Scene) (p : Pending) (l : Leaving) → ObjectsAgree s.world → Reached start w gs s.world → PendingHolds (Holds start gs) p → TurnedReaches start w (out_of_verb s p l)
+  out_goes : (s : Scene) (p : Pending) (l : Leaving) → Agrees s.world → Reached start w gs s.world → PendingHolds (Holds start gs) p → TurnedReaches start w (out_of_verb s p l)
   out_goes s p (returned v) a r b = value_back s p v p.outer a r b.1
   out_goes s p (failed f) a r b = error_back s p f p.outer r b.1
   out_goes s p (broken k) a r b = value_back s p (integer (pos 0)) p.outer a r b.1
@@ -258,7 +258,7 @@ module _ (start : Right → Bool) (w : World) (gs : List Right) where
   receiving_goes s p q ps None h b = failing_goes s p q.construct ps (failure type_mismatch) h b
   receiving_goes s p q ps (Some vs) h b = reach_goes s p q.construct q.part vs ps h b
 
-  module _ (s : Scene) (p : Pending) (a : ObjectsAgree s.world) (r : Reached start w gs s.world) (b : PendingHolds (Holds start gs) p) where
+  module _ (s : Scene) (p : Pending) (a : Agrees s.world) (r : Reached start w gs s.world) (b : PendingHolds (Holds start gs) p) where
     here : Goes s
     here = extending.stays start w gs s.world r
 

@@ -19,7 +19,7 @@ use Rattle.spec_moo.specs.Sizes.{begins_stage}
 use Rattle.spec_moo.specs.Segment.{segment}
 use Rattle.spec_moo.specs.Worlds.{SceneAgrees, IsUnderWay}
 use Rattle.spec_moo.specs.Steps.{play1, play}
-use Rattle.spec_rights.specs.Permitted.{Allows, Concerns, Permitted}
+use Rattle.spec_rights.specs.Permitted.{Allows, Concerns, Permitted, QueueKept}
 
 -- ---- one built-in function
 
@@ -42,6 +42,17 @@ abbrev pub StagesPermit : Type 0
 StagesPermit =
     (k : ℕ) (s : Scene) (c : Caller) (n : Native) (v : Datum) → SceneAgrees k s
     → Permitted (Concerns n) s.world c.call.programmer (scene_of (native_turn s c n v)).world
+
+-- of waiting tasks and of links too
+abbrev pub NativesLeaveTasks : Type 0
+NativesLeaveTasks =
+    (k : ℕ) (s : Scene) (c : Caller) (name : Text) (args : List Datum) → SceneAgrees k s
+    → QueueKept (λ o. ⊥) s.world c.call.programmer (scene_of (native s c name args)).world
+
+abbrev pub StagesLeaveTasks : Type 0
+StagesLeaveTasks =
+    (k : ℕ) (s : Scene) (c : Caller) (n : Native) (v : Datum) → SceneAgrees k s
+    → QueueKept (Concerns n) s.world c.call.programmer (scene_of (native_turn s c n v)).world
 
 -- ---- one turn
 

@@ -1,10 +1,12 @@
 -- What one programmer may do to a world (Programmer's Manual, "Fundamental Object Attributes" and the permissions of each built-in): each facet of an object stays as it was, unless the permission table allows its change.
 use Rattle.std.specs.Prelude.{◌≡◌, ◌⊎◌, ℕ, suc, ℤ, Bool, true, List, [], ◌∷◌, Option, Some, None, IsTrue}
 use Rattle.spec_value.specs.Datum.{Datum, object, Text}
-use Rattle.spec_world.specs.World.{World, Header, Object, Slot, Verb, Native, NativeName, move_native, create_native, recycle_native, eval_native, object_at}
+use Rattle.spec_value.specs.Table.{at}
+use Rattle.spec_world.specs.World.{World, Header, Object, Slot, Verb, Link, Task, Waiting, reading_on, Native, NativeName, move_native, create_native, recycle_native, eval_native, object_at}
 use Rattle.spec_world.specs.Inherit.{slot_of}
 use Rattle.spec_world.specs.Families.{nowhere, next_object, child_of, is_below}
-use Rattle.spec_world.specs.Permissions.{Act, write_slot, write_name, write_bits, write_standing, change_members, change_owner, write_verb, program_verb, have_child, change_object, administer, may}
+use Rattle.spec_world.specs.Permissions.{Act, write_slot, write_name, write_bits, write_standing, change_members, change_owner, write_verb, program_verb, have_child, change_object, act_as, control_task, administer, may}
+use Rattle.spec_moo.specs.Natives.Tasks.{task_programmer}
 
 -- the table allows it to the programmer
 abbrev pub Allows : World → ℤ → Act → Type 0
@@ -92,6 +94,24 @@ pub record Permitted (begun : ℤ → Type 0) (w : World) (who : ℤ) (u : World
   pub new : (o : ℤ) (y : Object) → object_at w o ≡ None → object_at u o ≡ Some y → Made w who o y
   pub greatest : (u.greatest ≡ w.greatest) ⊎ (u.greatest ≡ next_object w)
   pub ending : (u.ending ≡ w.ending) ⊎ Allows w who administer
+
+-- ---- tasks and links, of a built-in function
+
+-- its person's link may be closed: by that person, by wizards, or since the object may be recycled
+abbrev pub MayClose : (ℤ → Type 0) → World → ℤ → ℤ → Type 0
+MayClose begun w who o = Allows w who (act_as o) ⊎ (Allows w who administer ⊎ Taken begun w who o)
+
+-- a task that waits for a line goes with its link
+abbrev pub GoesWithLink : (ℤ → Type 0) → World → ℤ → Waiting → Type 0
+GoesWithLink begun w who (reading_on c) = (k : Link) × (at w.links c ≡ Some k) × MayClose begun w who k.person
+GoesWithLink begun w who why = ⊥
+
+-- a task that waits is resumed or killed by its programmer or a wizard
+pub record QueueKept (begun : ℤ → Type 0) (w : World) (who : ℤ) (u : World) : Type 0 where
+  pub tasks :
+    (i : ℤ) (t : Task) → at w.tasks i ≡ Some t
+    → (at u.tasks i ≡ Some t) ⊎ (Allows w who (control_task (task_programmer t)) ⊎ GoesWithLink begun w who t.waiting)
+  pub links : (c : ℤ) (k : Link) → at w.links c ≡ Some k → (at u.links c ≡ Some k) ⊎ MayClose begun w who k.person
 
 -- ---- built-in functions
 

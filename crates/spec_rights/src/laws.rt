@@ -1,10 +1,13 @@
 //! Laws of permissions.
-ghost use Rattle.spec_rights.specs.Chains.{NativesPermit, StagesPermit};
+ghost use Rattle.spec_rights.specs.Chains.{NativesPermit, StagesPermit, NativesLeaveTasks, StagesLeaveTasks};
 
-/// A call of a built-in function, and a later stage of one, changes what the table allows to the programmer of the verb that calls it.
+/// A call of a built-in function, and a later stage of one, changes what the table allows to the programmer of the verb that calls it;
+/// so do both to waiting tasks and to links.
 pub fn natives()
     ensures calls { NativesPermit }
     ensures stages { StagesPermit }
+    ensures tasks { NativesLeaveTasks }
+    ensures later_tasks { StagesLeaveTasks }
 {}
 
 ghost use Rattle.spec_rights.specs.Chains.{TurnsAct, StepsAct};

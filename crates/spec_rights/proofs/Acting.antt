@@ -1,11 +1,11 @@
 -- Each turn acts as the programmer of the verb that is under way, or of the one whose built-in goes on.
-use Rattle.std.proofs.Common.{◌≡◌, ◌⊎◌, inl, inr, ℕ, zero, suc, ◌||◌, ◌++◌, ℤ, pos, Bool, true, false, List, [], ◌∷◌, Option, Some, None, refl, sym, subst, if◌then◌else◌}
+use Rattle.std.proofs.Common.{inl, ℕ, zero, suc, ◌||◌, ◌++◌, pos, Bool, true, false, List, [], ◌∷◌, Option, Some, None, refl, if◌then◌else◌}
 use Rattle.spec_value.specs.Datum.{Datum, integer, Data, type_mismatch, too_many_calls}
 use Rattle.spec_value.specs.Answer.{Answer, gives, raises, limited_answer}
 use Rattle.spec_program.specs.Tree.{literal, Program}
 use Rattle.spec_program.specs.Construct.{Construct, of_expr, Piece}
 use Rattle.spec_program.specs.Place.{Part, parts, nth}
-use Rattle.spec_world.specs.World.{World, Entry, frame_entry, native_entry, Call, Native}
+use Rattle.spec_world.specs.World.{World, Entry, frame_entry, native_entry, Call}
 use Rattle.spec_world.specs.Agreeing.{Agrees}
 use Rattle.spec_moo.specs.Scene.{Scene}
 use Rattle.spec_moo.specs.Leaving.{Leaving, returned, failed, broken, continued, Failure, failure}
@@ -14,16 +14,15 @@ use Rattle.spec_moo.specs.NativeEffect.{NativeEffect, answers, complains, begins
 use Rattle.spec_moo.specs.Natives.{native, native_turn}
 use Rattle.spec_moo.specs.Natives.Tasks.{innermost, programmer_of}
 use Rattle.spec_moo.specs.Properties.{Written, wrote, refused, write}
-use Rattle.spec_moo.specs.Pending.{Focus, begin, hand, aim, operate, next, leave, Pending, caller_of, Turned, goes_on, halts}
+use Rattle.spec_moo.specs.Pending.{Focus, begin, hand, aim, operate, next, leave, Pending, caller_of, Turned}
 use Rattle.spec_moo.specs.Effect.{Effect, hands, errs, takes, ends, leaves, stays, sets, calls, natively}
 use Rattle.spec_moo.specs.Tables.{has_step, effect, catches}
 use Rattle.spec_moo.specs.Sizes.{leaves_verb, begins_stage}
-use Rattle.spec_moo.specs.Turn.{on_tree, on_part, at_point, reach, always_raises, failing, has_room, entering, native_answered, native_effected, with_variable, effected, caught_by, passing, in_frame, back_in_native, back_with, raised_into, out_of_verb, receiving, turn_on, turn}
+use Rattle.spec_moo.specs.Turn.{on_tree, on_part, at_point, reach, always_raises, failing, has_room, entering, native_answered, native_effected, with_variable, effected, caught_by, passing, in_frame, back_with, raised_into, out_of_verb, receiving, turn_on, turn}
 use Rattle.spec_rights.specs.Permitted.{Concerns, Permitted}
-use Rattle.spec_rights.specs.Chains.{scene_of, Begun, acting, world_after, TurnsAct}
+use Rattle.spec_rights.specs.Chains.{scene_of, Begun, world_after, TurnsAct}
 use Rattle.spec_rights.proofs.Changes.{nothing_changed}
 use Rattle.spec_rights.proofs.Rows.{native_does, stage_does, does_permit}
-use Rattle.spec_rights.proofs.Doing.{Does}
 use Rattle.spec_rights.proofs.Effects.{EffectGoes, WrittenGoes, Ready, CaughtGoes, effect_goes, catches_go}
 use Rattle.spec_rights.proofs.Turns.{WrittenDoes, write_does}
 

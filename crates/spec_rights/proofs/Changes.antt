@@ -1,9 +1,9 @@
 -- Each change of objects, properties and verbs is a permitted one where the table allows it.
-use Rattle.std.proofs.Common.{◌≡◌, ◌⊎◌, inl, inr, ℕ, zero, suc, ◌+◌, arith, ℤ, pos, negsuc, Bool, true, false, not, ◌&&◌, ◌||◌, List, [], ◌∷◌, ◌++◌, Option, Some, None, refl, sym, ap, ◌∙◌, subst, cond, IsTrue, is_some, if◌then◌else◌}
+use Rattle.std.proofs.Common.{◌≡◌, ◌⊎◌, inl, inr, ℕ, zero, suc, ◌+◌, arith, ℤ, pos, negsuc, Bool, true, false, ◌||◌, List, [], ◌∷◌, ◌++◌, Option, Some, None, refl, sym, ap, ◌∙◌, subst, cond, IsTrue, is_some, if◌then◌else◌}
 use Rattle.std.specs.Prelude.{option_map, int_le, nat_abs, ◌+ℤ◌}
 use Rattle.std.specs.Ordering.{int_eq}
 use Rattle.spec_value.specs.Datum.{Datum, object, text, Text, fold_case, same_text, is_true}
-use Rattle.spec_value.specs.Table.{named, with_name, without}
+use Rattle.spec_value.specs.Table.{named, with_name}
 use Rattle.spec_value.proofs.Entries.{first_holds, second_holds}
 use Rattle.spec_value.proofs.Same.{same_integer, same_texts, integer_itself}
 use Rattle.spec_world.specs.World.{World, Header, Object, Slot, Verb, object_at, with_object}
@@ -15,7 +15,7 @@ use Rattle.spec_world.specs.Members.{with_own_slot, defining, not_defining, lose
 use Rattle.spec_world.specs.Whereabouts.{moved}
 use Rattle.spec_world.specs.Permissions as act
 use Rattle.spec_world.specs.Permissions.{Act, write_slot, write_name, write_bits, write_standing, change_members, change_owner, write_verb, program_verb, have_child, administer, on_slot, in_place, is_wizard, may}
-use Rattle.spec_world.proofs.Trees.{same_or_not, some_same, either, first_of, second_of}
+use Rattle.spec_world.proofs.Trees.{same_or_not, some_same, first_of}
 use Rattle.spec_world.proofs.SlotTables.{named_with}
 use Rattle.spec_world.proofs.Households.{household, at_each, at_put, change_greatest}
 use Rattle.spec_world.proofs.ObjectChanges.{at_change}
@@ -23,7 +23,7 @@ use Rattle.spec_world.proofs.NewObjects.{free}
 use Rattle.spec_moo.specs.Properties.{BuiltInProperty, own_name, own_owner, own_location, own_contents, programmer_flag, wizard_flag, r_bit, w_bit, f_bit, writing, with_built_in}
 use Rattle.spec_rights.specs.Permitted.{Allows, SlotKept, SlotStays, VerbKept, VerbsKept, Taken, IsRecycled, LineChanges, SameStanding, SameBits, ObjectKept, Made, Permitted}
 use Rattle.spec_rights.specs.Chains.{SameObjects}
-use Rattle.spec_rights.proofs.Rearranging.{bare, change_ending, Rearranged, EachRearranged, Arranged, nothing_arranged, arranged_twice, one_arranged, moved_arranged, reparented_arranged, nowhere_arranged, parent_at, child_hangs, content_is_there, below_child}
+use Rattle.spec_rights.proofs.Rearranging.{change_ending, Rearranged, EachRearranged, Arranged, moved_arranged, reparented_arranged}
 
 -- ---- objects that are the same
 

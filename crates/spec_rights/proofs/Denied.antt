@@ -1,13 +1,11 @@
 -- Who is no wizard is denied much; and changes that leave each object's header.
-use Rattle.std.proofs.Common.{◌≡◌, ◌⊎◌, inl, inr, ℕ, zero, suc, ◌≤◌, ◌+◌, ℤ, pos, negsuc, Bool, true, false, not, ◌&&◌, ◌||◌, List, [], ◌∷◌, Option, Some, None, refl, sym, ap, ◌∙◌, subst, cond, arith, IsTrue, leb-true, le-leb}
+use Rattle.std.proofs.Common.{◌≡◌, ℕ, ◌≤◌, ◌+◌, ℤ, pos, negsuc, Bool, true, false, not, ◌&&◌, ◌||◌, Option, Some, None, refl, sym, ap, ◌∙◌, cond, arith, IsTrue, leb-true, le-leb}
 use Rattle.std.specs.Prelude.{option_map, int_le, nat_abs, ◌+ℤ◌}
 use Rattle.std.specs.Ordering.{int_eq}
 use Rattle.spec_value.proofs.Entries.{first_holds, second_holds, both_hold}
 use Rattle.spec_world.specs.World.{World, Header, Object, Verb, object_at}
 use Rattle.spec_world.specs.Questions.{header_at}
 use Rattle.spec_world.specs.Members.{verb_changed}
-use Rattle.spec_world.specs.Families.{change_object}
-use Rattle.spec_world.specs.Permissions as act
 use Rattle.spec_world.specs.Permissions.{write_standing, administer, wizardly, is_wizard, may}
 use Rattle.spec_world.proofs.Households.{change_greatest}
 use Rattle.spec_world.proofs.ObjectChanges.{at_change}

@@ -1,25 +1,21 @@
 -- What the steps of constructs lead to, wherever built-ins, calls, writes and forks lead there.
-use Rattle.std.proofs.Common.{◌≡◌, ◌⊎◌, inl, inr, ℕ, zero, suc, ◌+◌, ◌==◌, ◌||◌, ◌&&◌, Bool, true, false, List, [], ◌∷◌, ◌++◌, Option, Some, None, refl, sym, ap, subst, IsTrue, if◌then◌else◌, ℤ, pos, negsuc}
-use Rattle.std.specs.Prelude.{codes, drop, option_map}
-use Rattle.spec_value.specs.Datum.{Datum, integer, object, text, error, list, Data, to_list, Text, same_text, is_true, type_mismatch, too_many_calls, limit_exceeded}
-use Rattle.spec_value.specs.Answer.{Answer, gives, raises, is_allowed, limited_answer}
+use Rattle.std.proofs.Common.{ℕ, zero, suc, ◌+◌, ◌==◌, Bool, true, false, List, [], ◌∷◌, Option, Some, None, if◌then◌else◌, ℤ, pos, negsuc}
+use Rattle.std.specs.Prelude.{codes, drop}
+use Rattle.spec_value.specs.Datum.{Datum, integer, object, text, error, list, Data, to_list, Text, same_text, is_true, limit_exceeded}
+use Rattle.spec_value.specs.Answer.{Answer, gives, raises, is_allowed}
 use Rattle.spec_value.specs.Scatter.{Scattering, gets, refuses, scattered}
-use Rattle.spec_value.specs.Table.{Named, with}
+use Rattle.spec_value.specs.Table.{Named}
 use Rattle.spec_program.specs.Tree.{Expr, literal, variable, own_length, unary, binary, both, either, conditional, listing, call, property, verb_call, index, range, caught, assignment, scatter, no_arguments, argument, splice, Codes, any_code, codes_in, Fallback, the_code, instead, Target, to_variable, to_property, to_index, to_range, Items, no_items, required, optional, remaining, defaulted, Statement, evaluate, give, give_zero, branch, for_each, for_range, repeat, fork, guarded, finished, leave_loop, next_turn, Program, Arms, no_arms, except}
-use Rattle.spec_program.specs.Construct.{Construct, of_expr, of_target, of_default, of_statement, of_program, Piece}
-use Rattle.spec_program.specs.Place.{Part, parts, nth, statement_parts, arity}
-use Rattle.spec_world.specs.World.{World, Object, Slot, Native, Entry, frame_entry, native_entry, Call, Task, object_at}
-use Rattle.spec_world.specs.Inherit.{slot_at}
-use Rattle.spec_world.specs.Permissions as act
-use Rattle.spec_world.specs.Permissions.{may}
+use Rattle.spec_program.specs.Construct.{Construct, of_expr, of_target, of_default, of_statement, of_program}
+use Rattle.spec_program.specs.Place.{Part, nth, statement_parts, arity}
+use Rattle.spec_world.specs.World.{World, Object, Call, object_at}
 use Rattle.spec_world.specs.VerbsSought.{Sought, find_verb}
 use Rattle.spec_moo.specs.Scene.{Scene, in_world, has_ids, next_id, id_taken, moment_after, enqueued}
-use Rattle.spec_moo.specs.Properties.{BuiltInProperty, built_in, writing, with_built_in, Written, wrote, refused, write_built_in, write_slot, write_valid, write_object, write}
-use Rattle.spec_moo.specs.Pending.{Focus, begin, hand, aim, operate, next, leave, Pending, Stop, done, raised, out_of_ticks, waiting, killed, Turned, goes_on, halts, caller_of, to}
+use Rattle.spec_moo.specs.Properties.{Written, wrote, refused, write}
+use Rattle.spec_moo.specs.Pending.{Pending, caller_of}
 use Rattle.spec_moo.specs.Leaving.{Leaving, returned, failed, broken, continued, Failure, failure, BodyLeft, ended, left_by, read_left, takes_code}
-use Rattle.spec_moo.specs.Held.{way_at, held_at_first, held_with}
-use Rattle.spec_moo.specs.NativeEffect.{Caller, NativeEffect, answers, complains, begins, waits, dies, becomes}
-use Rattle.spec_moo.specs.Natives.{native, native_turn}
+use Rattle.spec_moo.specs.NativeEffect.{NativeEffect}
+use Rattle.spec_moo.specs.Natives.{native}
 use Rattle.spec_moo.specs.Calling as calling
 use Rattle.spec_moo.specs.Effect.{Effect, hands, errs, takes, ends, leaves, stays, sets, calls, natively, answered, sets_named, on_one, on_two, on_three}
 use Rattle.spec_moo.specs.Effects.Access.{with_index, with_range, target_value, Stored, in_variable, in_property, not_stored, property_stored, whole_stored, stored, stored_effect}
@@ -30,16 +26,8 @@ use Rattle.spec_moo.specs.Effects.Loops.{Turn, turn_effect, list_turn, list_loop
 use Rattle.spec_moo.specs.Effects.Handlers.{code_count, codes_known, without_codes, fallback_effect, expression_catches, ArmPoint, one_code, last_code, one_program, guarded_point, codes_from, point_effect, guarded_effect, handler_for, body_catches, go_on_leaving, finally_effect}
 use Rattle.spec_moo.specs.Effects.Scatter.{item_kinds, item_count, given, all_given, missing, default_or_end, assigned, defaults_after, scatter_effect}
 use Rattle.spec_moo.specs.Effects.Forks.{with_named, forked_task, fork_after, fork_in}
-use Rattle.spec_moo.specs.Tables.{has_step, effect, expr_effect, statement_effect, catches}
-use Rattle.spec_moo.specs.Turn.{on_tree, on_part, at_point, reach, always_raises, failing, has_room, waiting_frame, called_frame, entering, native_answered, native_effected, with_programmer, with_variable, effected, caught_by, passing, in_frame, back_in_native, back_with, raised_into, out_of_verb, receiving, turn_on, turn}
-use Rattle.spec_rights.specs.Permitted.{Allows, Concerns}
-use Rattle.spec_rights.specs.Chains.{Right, to_run_as, to_take, Holds, EntriesHold, PendingHolds}
-use Rattle.spec_rights.proofs.Changes.{built_in_written, slot_changed}
-use Rattle.spec_rights.proofs.Doing.{Among, among_put, of_tasks, to_tasks, OwnsVerb, SoughtOwned, verb_owned, Does}
-use Rattle.spec_rights.proofs.Doing as doing
-use Rattle.spec_rights.proofs.Rows.{native_does, stage_does}
-use Rattle.spec_rights.proofs.Extending.{Grows, holds_more, entries_more, pending_more, Reached, After, changed, served, NativeReaches, native_reaches}
-use Rattle.spec_rights.proofs.Extending as extending
+use Rattle.spec_moo.specs.Tables.{effect, expr_effect, statement_effect, catches}
+use Rattle.spec_rights.proofs.Doing.{OwnsVerb, SoughtOwned, verb_owned}
 
 above_owned : (w : World) (word : Text) (m : Option Object) → SoughtOwned w (above_definer w word m)
 above_owned w word None = tt

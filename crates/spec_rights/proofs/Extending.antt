@@ -1,5 +1,5 @@
 -- Chains of permitted changes go on: with a change by a programmer who has a right to run, and with the rights that it gives.
-use Rattle.std.proofs.Common.{◌≡◌, ◌⊎◌, inl, inr, ℕ, zero, suc, ℤ, Bool, true, false, ◌||◌, List, [], ◌∷◌, ◌++◌, Option, Some, None, refl, sym, ap, ◌∙◌, subst, cond, IsTrue, is_eq, if◌then◌else◌}
+use Rattle.std.proofs.Common.{◌≡◌, ◌⊎◌, inl, inr, ℕ, zero, suc, ℤ, Bool, true, false, List, [], ◌∷◌, Option, Some, None, refl, sym, ap, ◌∙◌, subst, cond, IsTrue, is_eq}
 use Rattle.std.specs.Ordering.{int_cmp, int_eq}
 use Rattle.spec_value.specs.Datum.{Text}
 use Rattle.spec_value.specs.Table.{at}
@@ -10,9 +10,9 @@ use Rattle.spec_world.specs.Permissions.{Act, change_owner, change_object, in_pl
 use Rattle.spec_world.proofs.Trees.{some_same, either}
 use Rattle.spec_moo.specs.NativeEffect.{NativeEffect, answers, complains, begins, waits, dies, becomes}
 use Rattle.spec_moo.specs.Pending.{Pending}
-use Rattle.spec_rights.specs.Permitted.{Allows, VerbKept, VerbsKept, Taken, IsRecycled, LineChanges, SlotStays, ObjectKept, Made, Permitted, Concerns, concerned}
-use Rattle.spec_rights.specs.Chains.{Right, to_run_as, to_take, In, Holds, EntryHolds, EntriesHold, TasksHold, AllHold, SameObjects, Chain, serves, changes, names, takes, PendingHolds}
-use Rattle.spec_rights.proofs.Doing.{Among, TasksFrom, of_tasks, to_tasks, OwnsVerb, Does, NativeDoes}
+use Rattle.spec_rights.specs.Permitted.{Allows, VerbsKept, Taken, IsRecycled, LineChanges, SlotStays, ObjectKept, Permitted, Concerns, concerned}
+use Rattle.spec_rights.specs.Chains.{Right, to_run_as, to_take, In, Holds, EntriesHold, TasksHold, AllHold, SameObjects, Chain, serves, changes, names, takes, PendingHolds}
+use Rattle.spec_rights.proofs.Doing.{TasksFrom, of_tasks, to_tasks, OwnsVerb, NativeDoes}
 
 -- ---- more rights
 

@@ -1,8 +1,7 @@
 -- A slot keeps what it holds while outsiders alone run.
-use Rattle.std.proofs.Common.{◌≡◌, ◌⊎◌, inl, inr, ℕ, suc, ◌≤◌, ℤ, pos, Bool, true, false, not, ◌&&◌, ◌||◌, List, [], ◌∷◌, Option, Some, None, refl, sym, ap, ◌∙◌, subst, cond, arith, IsTrue}
+use Rattle.std.proofs.Common.{◌≡◌, ◌⊎◌, inl, inr, ℕ, ◌≤◌, ℤ, pos, Bool, true, false, not, ◌&&◌, ◌||◌, List, Option, Some, None, refl, sym, ap, ◌∙◌, subst, cond, arith, IsTrue}
 use Rattle.std.specs.Prelude.{option_map, int_le, nat_abs, ◌+ℤ◌}
 use Rattle.std.specs.Ordering.{int_eq}
-use Rattle.std.specs.List.{list_all}
 use Rattle.spec_value.specs.Datum.{Text}
 use Rattle.spec_value.proofs.Entries.{first_holds, second_holds}
 use Rattle.spec_world.specs.World.{World, Header, Object, Slot, Verb, object_at}
@@ -11,14 +10,14 @@ use Rattle.spec_world.specs.WellFormed.{lists}
 use Rattle.spec_world.specs.Agreeing.{Agrees}
 use Rattle.spec_world.specs.Questions.{header_at}
 use Rattle.spec_world.specs.Members.{verb_changed}
-use Rattle.spec_world.specs.Families.{nowhere, next_object, is_below}
+use Rattle.spec_world.specs.Families.{nowhere, next_object}
 use Rattle.spec_world.specs.Permissions as act
 use Rattle.spec_world.specs.Permissions.{write_bits, write_slot, change_members, of_object, on_slot, owns_or, is_wizard, may}
 use Rattle.spec_world.proofs.Trees.{some_same}
 use Rattle.spec_world.proofs.WorldTrees.{of_all}
 use Rattle.spec_world.proofs.ObjectChanges.{at_change}
 use Rattle.spec_moo.specs.Steps.{play}
-use Rattle.spec_rights.specs.Permitted.{Allows, SlotKept, SlotStays, Taken, IsRecycled, LineChanges, SameStanding, SameBits, ObjectKept, Permitted}
+use Rattle.spec_rights.specs.Permitted.{Allows, SlotStays, Taken, IsRecycled, LineChanges, SameStanding, SameBits, Permitted}
 use Rattle.spec_rights.specs.Chains.{Right, to_run_as, to_take, In, Holds, Chain, starts, serves, changes, types, names, takes}
 use Rattle.spec_rights.specs.LeftAlone.{is_outsider, outside, OutsidersLeaveSlots}
 use Rattle.spec_rights.proofs.Denied.{denied, not_so, standing_by_wizards, programmed_header, programmed_greatest}

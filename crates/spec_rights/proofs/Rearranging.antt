@@ -1,18 +1,17 @@
 -- Changes of where objects are and of what they hang below: what they leave of each object, and of the lines of ancestors.
-use Rattle.std.proofs.Common.{◌≡◌, ◌⊎◌, inl, inr, ℕ, zero, suc, ℤ, Bool, true, false, ◌&&◌, ◌||◌, List, [], ◌∷◌, ◌++◌, Option, Some, None, refl, sym, ap, ◌∙◌, subst, cond, IsTrue, if◌then◌else◌}
+use Rattle.std.proofs.Common.{◌≡◌, ◌⊎◌, inl, inr, ℕ, zero, suc, ℤ, Bool, true, false, List, [], ◌∷◌, Option, Some, None, refl, sym, ap, ◌∙◌, subst, cond, IsTrue, if◌then◌else◌}
 use Rattle.std.specs.Prelude.{option_map, is_none}
 use Rattle.std.specs.Ordering.{int_eq}
-use Rattle.std.specs.List.{list_all}
-use Rattle.spec_value.proofs.Entries.{first_holds, second_holds}
+use Rattle.spec_value.proofs.Entries.{second_holds}
 use Rattle.spec_value.proofs.Same.{same_integer, integer_itself}
-use Rattle.spec_world.specs.World.{World, Object, Slot, object_at}
+use Rattle.spec_world.specs.World.{World, Object, object_at}
 use Rattle.spec_world.specs.Inherit.{line_bound, line_onto, line, ancestors}
 use Rattle.spec_world.specs.WellFormed.{lists, once, passes, on_object, ends_above, comes_out}
 use Rattle.spec_world.specs.Agreeing.{ObjectsAgree}
 use Rattle.spec_world.specs.Naming.{location_of}
-use Rattle.spec_world.specs.Families.{nowhere, leave_out, change_object, change_each, change_at, is_below, heir_of, with_heirs, parent_of, reparented, reparented_each, to_nowhere, lose_child, out_of_place}
+use Rattle.spec_world.specs.Families.{nowhere, change_object, change_each, change_at, is_below, heir_of, parent_of, reparented, to_nowhere}
 use Rattle.spec_world.specs.Whereabouts.{moved}
-use Rattle.spec_world.proofs.Trees.{same_or_not, some_same, either, first_of, second_of}
+use Rattle.spec_world.proofs.Trees.{some_same, either, first_of, second_of}
 use Rattle.spec_world.proofs.WorldTrees.{of_all}
 use Rattle.spec_world.proofs.Households.{at_each, change_greatest}
 use Rattle.spec_world.proofs.ObjectChanges.{at_change}

@@ -6,14 +6,12 @@ use Rattle.spec_value.proofs.Same.{same_integer, integer_itself}
 use Rattle.spec_world.specs.World.{World, Object, object_at}
 use Rattle.spec_world.specs.WellFormed.{lists}
 use Rattle.spec_world.specs.Agreeing.{ObjectsAgree}
-use Rattle.spec_world.specs.Permissions as act
-use Rattle.spec_world.specs.Permissions.{have_child}
 use Rattle.spec_world.specs.Families.{nowhere, is_below, reparented, reparented_each, to_nowhere, lose_child, out_of_place, recycled_object, recycled}
 use Rattle.spec_world.proofs.Trees.{some_same, first_of, second_of}
 use Rattle.spec_world.proofs.Households.{at_without}
-use Rattle.spec_rights.specs.Permitted.{Allows, Taken, IsRecycled, LineChanges, ObjectKept, Made, Permitted}
+use Rattle.spec_rights.specs.Permitted.{Taken, IsRecycled, ObjectKept, Made, Permitted}
 use Rattle.spec_rights.specs.Chains.{SameObjects}
-use Rattle.spec_rights.proofs.Rearranging.{Rearranged, EachRearranged, Arranged, nothing_arranged, arranged_twice, one_arranged, reparented_arranged, nowhere_arranged, parent_at, child_hangs, content_is_there, below_child}
+use Rattle.spec_rights.proofs.Rearranging.{EachRearranged, Arranged, nothing_arranged, arranged_twice, one_arranged, reparented_arranged, nowhere_arranged, parent_at, child_hangs, content_is_there, below_child}
 use Rattle.spec_rights.proofs.Changes.{nothing_changed, rearranged_kept}
 
 module _ (begun : ℤ → Type 0) (w : World) (who r : ℤ) (h : ObjectsAgree w) (taken : Taken begun w who r) where

@@ -26,17 +26,17 @@ use Rattle.spec_moo.specs.NativeEffect.{Caller, NativeEffect, answers, waits}
 use Rattle.spec_moo.specs.Natives.{or_later, native, stage_of, native_turn}
 use Rattle.spec_moo.specs.Natives.Rows.{Row, by_row, in_group, if_there, is_valid, is_valid_or_none, answers_with, zero_value, counts_fit, all_fit}
 use Rattle.spec_moo.specs.Natives.Values.{value_rows, values}
-use Rattle.spec_moo.specs.Natives.Objects.{valid_row, is_player_row, parent_row, children_row, max_object_row, players_row, calls_found, calls_if_there, stage, create_with, create_for, create_row, has_numbers, recycle_now, recycle_row, another_parent, chparent_row, is_there, told_to_enter, later_stage, last_stage, gone_over, move_now, accepted, move_row, with_flag, set_player_flag_row, object_rows, objects, new_object, staged}
+use Rattle.spec_moo.specs.Natives.Objects.{valid_row, is_player_row, parent_row, children_row, calls_found, calls_if_there, stage, create_with, create_for, create_row, has_numbers, recycle_now, recycle_row, chparent_row, is_there, told_to_enter, later_stage, last_stage, gone_over, move_now, accepted, move_row, with_flag, set_player_flag_row, object_rows, objects, staged}
 use Rattle.spec_moo.specs.Natives.Properties.{are_bits, with_slot_bits, properties_row, property_info_row, set_property_info_row, is_clear_property_row, defines_it, clear_property_row, is_new_name, slot_with, add_property_row, delete_property_row, property_rows, properties}
 use Rattle.spec_moo.specs.Natives.Verbs.{verb_place, if_verb, verbs_row, with_info, info_fits, verb_info_row, set_verb_info_row, specifier, with_specifier, verb_args_row, set_verb_args_row, new_verb, add_verb_row, delete_verb_row, verb_code_row, texts_of, programmed, set_verb_code_row, evaluated, eval_row, verb_rows, verbs}
-use Rattle.spec_moo.specs.Natives.Tasks.{notify_row, waits_with_id, reads_on, read_row, suspend_row, task_programmer, is_suspended, resumes, resume_row, is_own_id, kills, kill_task_row, queued_tasks_row, task_id_row, ticks_left_row, raise_row, set_task_perms_row, caller_perms_row, random_up_to, random_row, time_row, connected_players_row, boot_player_row, dump_database_row, shutdown_row, task_rows, tasks}
+use Rattle.spec_moo.specs.Natives.Tasks.{notify_row, waits_with_id, reads_on, read_row, suspend_row, task_programmer, is_suspended, resumes, resume_row, is_own_id, kills, kill_task_row, task_id_row, raise_row, set_task_perms_row, random_up_to, random_row, boot_player_row, dump_database_row, shutdown_row, task_rows, tasks}
 use Rattle.spec_world.proofs.WorldsKept.{connection_open}
 use Rattle.spec_moo.proofs.NativeWorlds.{place}
 use Rattle.spec_rights.specs.Permitted.{Allows, Taken, Concerns, concerned, Permitted, MayClose, QueueKept}
 use Rattle.spec_rights.specs.Chains.{SameObjects, scene_of, NativesPermit, StagesPermit, NativesLeaveTasks, StagesLeaveTasks}
-use Rattle.spec_rights.proofs.Changes.{nothing_changed, one_changed, flag_set, slot_changed, property_comes, property_goes, verb_comes, verb_goes, verb_changes, object_made, object_moved, object_hung}
+use Rattle.spec_rights.proofs.Changes.{nothing_changed, flag_set, slot_changed, property_comes, property_goes, verb_comes, verb_goes, verb_changes, object_made, object_moved, object_hung}
 use Rattle.spec_rights.proofs.Recycled.{object_recycled}
-use Rattle.spec_rights.proofs.Doing.{Among, TasksFrom, among_left, among_again, OwnsVerb, SoughtOwned, verb_owned, Does, NativeDoes, nothing_done, same_done, done, closing, same_queue, queue_then, queue_closed, queue_put, queue_left, persons_link}
+use Rattle.spec_rights.proofs.Doing.{Among, TasksFrom, among_left, among_again, SoughtOwned, verb_owned, Does, NativeDoes, nothing_done, same_done, done, closing, same_queue, queue_then, queue_closed, queue_put, queue_left, persons_link}
 
 -- of a table's act that may be done by oneself or by a wizard
 pub as_oneself : (w : World) (who o : ℤ) → Allows w who (act_as o) → (o ≡ who) ⊎ (is_wizard w who ≡ true)

@@ -1,15 +1,14 @@
 -- Steps and lists of steps lead on by permitted changes, by programs that players type, and by what the server does itself.
 use Rattle.std.proofs.Common.{◌≡◌, ◌⊎◌, inl, inr, ℕ, zero, suc, ◌≤◌, ◌==◌, max, ℤ, pos, negsuc, ◌&&◌, ◌||◌, Bool, true, false, List, [], ◌∷◌, length, Option, Some, None, IsTrue, refl, sym, ap, ◌∙◌, subst, cond, arith, if◌then◌else◌, codes, option_map, leb-true}
-use Rattle.std.specs.Prelude.{neg_ℤ, ◌-ℤ◌, int_le, nat_le, nat_lt, filter}
+use Rattle.std.specs.Prelude.{int_le, nat_le, nat_lt}
 use Rattle.std.specs.Ordering.{int_eq}
 use Rattle.std.specs.List.{list_all}
 use Rattle.spec_value.specs.Datum.{Datum, object, text, Data, no_data, item, of_list, Text, same_text}
-use Rattle.spec_value.specs.Table.{at, with}
+use Rattle.spec_value.specs.Table.{at}
 use Rattle.spec_value.proofs.Entries.{first_holds, second_holds}
-use Rattle.spec_value.proofs.Same.{same_integer, integer_itself}
+use Rattle.spec_value.proofs.Same.{same_integer}
 use Rattle.spec_program.specs.Tree.{Program}
 use Rattle.spec_program.specs.ReadPrograms.{Parsed, program, faulty, parsed_lines}
-use Rattle.spec_program.specs.Construct.{of_program}
 use Rattle.spec_world.specs.World.{World, Object, Verb, Link, Programming, Call, Start, Entry, frame_entry, native_entry, Task, Waiting, forked, timed, idle, reading_on, object_at}
 use Rattle.spec_world.specs.WellFormed.{is_moment, is_connection, passes, on_object}
 use Rattle.spec_world.specs.Agreeing.{Agrees}
@@ -22,7 +21,6 @@ use Rattle.spec_world.specs.VerbsSought.{Sought, Named, find_verb, find_command_
 use Rattle.spec_world.specs.CommandLines as line
 use Rattle.spec_world.specs.CommandLines.{Parts, Meant, Command, nothing_said, programming, calls_verb, calls_huh, not_understood, meant_on, or_then, verb_meant, huh_or_not, verb_or_huh, asks_to_program, command_or_program, line_parts, named_by, command_said}
 use Rattle.spec_world.proofs.Trees.{some_same, either}
-use Rattle.spec_world.proofs.TablesKept.{at_with}
 use Rattle.spec_world.proofs.WorldsKept.{next_raised}
 use Rattle.spec_world.proofs.ObjectChanges.{at_change}
 use Rattle.spec_moo.specs.Scene.{Scene, in_world, has_ids, next_id, id_taken, enqueued}
@@ -32,24 +30,24 @@ use Rattle.spec_moo.specs.Segment.{segment}
 use Rattle.spec_moo.specs.Natives.Properties.{as_texts}
 use Rattle.spec_world.specs.Step as step
 use Rattle.spec_world.specs.Step.{Event, line_of, ready_task, Step, in_range, event_in_range}
-use Rattle.spec_world.specs.Outcome.{Outcome, ended}
+use Rattle.spec_world.specs.Outcome.{ended}
 use Rattle.spec_moo.specs.Steps.Outcomes.{opening_scene, idle_with}
 use Rattle.spec_moo.specs.Steps.Running.{Ran, waiting_task, put_by, after_stop, run, told_on, begun, system_call, unnamed, system_task, system, on_system, beginning_of, begun_again, gone_on}
-use Rattle.spec_moo.specs.Steps.Programming.{with_link, programmable_at, programmable, own_place, begins, opens, requested, with_line, written, ends_with, ends_at, ends, goes_on, collected}
+use Rattle.spec_moo.specs.Steps.Programming.{with_link, programmable_at, programmable, own_place, begins, opens, requested, written, ends_with, ends_at, ends, goes_on, collected}
 use Rattle.spec_moo.specs.Steps.Events as events
 use Rattle.spec_moo.specs.Steps.Events.{foreground_ticks, queued_ticks, words_value, user_task, greeted, logged_in, may_log_in, login_value, login_with, login, opened_link, nothing_runs, command_call, command_start, command_run, player_line, resumed, with_own_task, line_for, line_read, line_taken, line_on, told_gone, gone, closed_link, is_due, ready_run, ready_at, event_of, event}
 use Rattle.spec_moo.specs.Steps.{numbered, play1, play}
-use Rattle.spec_moo.specs.Worlds.{SceneAgrees, IsUnderWay}
+use Rattle.spec_moo.specs.Worlds.{IsUnderWay}
 use Rattle.spec_moo.proofs.StepWorlds.{steps_keep}
 use Rattle.spec_ready.specs.Ready.{IsReady}
 use Rattle.spec_ready.proofs.GoingOn.{beginnings_stand}
 use Rattle.spec_ready.proofs.Readiness.{links_open, links_close, tasks_leave, going_on_stands, number_small}
 use Rattle.spec_rights.specs.Permitted.{Allows}
-use Rattle.spec_rights.specs.Chains.{Right, to_run_as, to_take, Holds, EntriesHold, TasksHold, AllHold, SameObjects, IsTyping, Chain, starts, types, PendingHolds, world_after, TurnsPermit, SegmentsPermit, StepsPermit, ListsPermit}
+use Rattle.spec_rights.specs.Chains.{Right, to_run_as, Holds, EntriesHold, TasksHold, SameObjects, IsTyping, Chain, starts, types, PendingHolds, world_after, TurnsPermit, SegmentsPermit, StepsPermit, ListsPermit}
 use Rattle.spec_rights.proofs.Doing.{Among, TasksFrom, among_left, among_at, of_tasks, to_tasks, OwnsVerb, SoughtOwned, verb_owned, first_owned, closing}
 use Rattle.spec_rights.proofs.Extending.{Reached, served}
 use Rattle.spec_rights.proofs.Turns.{Halted, TurnedReaches, owner_runs, task_put, turn_goes}
-use Rattle.spec_rights.proofs.Segments.{Under, segment_leads}
+use Rattle.spec_rights.proofs.Segments.{segment_leads}
 
 -- ---- players who type
 

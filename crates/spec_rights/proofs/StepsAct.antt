@@ -1,5 +1,5 @@
 -- A step changes objects by the turns of one task, or by one program that a player types, or not at all.
-use Rattle.std.proofs.Common.{◌≡◌, ◌⊎◌, inl, inr, ℕ, ℤ, pos, Bool, true, false, List, [], ◌∷◌, Option, Some, None, IsTrue, refl, sym, ap, ◌∙◌, subst, if◌then◌else◌, codes}
+use Rattle.std.proofs.Common.{◌≡◌, ◌⊎◌, inl, inr, ℕ, ℤ, Bool, true, false, List, [], ◌∷◌, Option, Some, None, IsTrue, refl, ◌∙◌, if◌then◌else◌, codes}
 use Rattle.std.specs.Ordering.{int_eq}
 use Rattle.spec_value.specs.Datum.{Datum, object, text, Data, no_data, item, of_list, Text, same_text}
 use Rattle.spec_value.specs.Table.{at}
@@ -24,10 +24,10 @@ use Rattle.spec_moo.specs.Natives.Properties.{as_texts}
 use Rattle.spec_moo.specs.Worlds.{IsUnderWay}
 use Rattle.spec_world.specs.Step as step
 use Rattle.spec_world.specs.Step.{Event, line_of, ready_task, Step, in_range, event_in_range}
-use Rattle.spec_world.specs.Outcome.{Outcome, ended}
+use Rattle.spec_world.specs.Outcome.{ended}
 use Rattle.spec_moo.specs.Steps.Outcomes.{opening_scene, idle_with}
 use Rattle.spec_moo.specs.Steps.Running.{Ran, waiting_task, put_by, after_stop, run, told_on, begun, system_call, unnamed, system_task, system, on_system, gone_on}
-use Rattle.spec_moo.specs.Steps.Programming.{with_link, programmable_at, programmable, own_place, begins, opens, requested, with_line, written, ends_with, ends_at, ends, goes_on, collected}
+use Rattle.spec_moo.specs.Steps.Programming.{with_link, programmable_at, programmable, own_place, begins, opens, requested, written, ends_with, ends_at, ends, goes_on, collected}
 use Rattle.spec_moo.specs.Steps.Events as events
 use Rattle.spec_moo.specs.Steps.Events.{foreground_ticks, queued_ticks, words_value, user_task, greeted, logged_in, may_log_in, login_value, login_with, login, opened_link, nothing_runs, command_call, command_start, command_run, player_line, resumed, with_own_task, line_for, line_read, line_taken, line_on, told_gone, gone, closed_link, is_due, ready_run, ready_at, event_of, event}
 use Rattle.spec_moo.specs.Steps.{numbered, play1}
@@ -35,7 +35,7 @@ use Rattle.spec_ready.specs.Ready.{IsReady}
 use Rattle.spec_ready.proofs.GoingOn.{beginnings_stand}
 use Rattle.spec_ready.proofs.Readiness.{links_open, links_close, tasks_leave, going_on_stands}
 use Rattle.spec_rights.specs.Permitted.{Allows}
-use Rattle.spec_rights.specs.Chains.{SameObjects, IsTyping, RunsATask, TypesAProgram, StepsAct}
+use Rattle.spec_rights.specs.Chains.{SameObjects, RunsATask, TypesAProgram, StepsAct}
 use Rattle.spec_rights.proofs.Doing.{closing}
 use Rattle.spec_rights.proofs.Steps.{typing, same_verbs, opens_ready}
 

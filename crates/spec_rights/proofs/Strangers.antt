@@ -4,8 +4,8 @@ use Rattle.std.specs.Prelude.{option_map}
 use Rattle.std.specs.Ordering.{int_eq}
 use Rattle.std.specs.List.{list_all}
 use Rattle.spec_value.proofs.Entries.{first_holds, second_holds}
-use Rattle.spec_value.proofs.Same.{same_integer, integer_itself}
-use Rattle.spec_world.specs.World.{World, Header, Object, Verb, Link, object_at}
+use Rattle.spec_value.proofs.Same.{integer_itself}
+use Rattle.spec_world.specs.World.{World, Header, Object, Verb, object_at}
 use Rattle.spec_world.specs.Agreeing.{Agrees}
 use Rattle.spec_world.specs.Questions.{header_at}
 use Rattle.spec_world.specs.Members.{verb_changed}
@@ -14,7 +14,7 @@ use Rattle.spec_world.specs.Permissions.{write_name, write_bits, write_standing,
 use Rattle.spec_world.proofs.Trees.{same_or_not, some_same}
 use Rattle.spec_moo.specs.Steps.{play}
 use Rattle.spec_rights.specs.Permitted.{Allows, VerbKept, VerbsKept, Taken, SameStanding, SameBits, ObjectKept, Permitted}
-use Rattle.spec_rights.specs.Chains.{Right, to_run_as, to_take, In, Holds, IsTyping, Chain, starts, serves, changes, types, names, takes}
+use Rattle.spec_rights.specs.Chains.{Right, to_run_as, to_take, In, Holds, Chain, starts, serves, changes, types, names, takes}
 use Rattle.spec_rights.specs.LeftAlone.{is_stranger, strange, SameObject, StrangersLeaveAlone}
 use Rattle.spec_rights.proofs.Denied.{denied, not_so, programmed_header, programmed_other, programmed_greatest}
 use Rattle.spec_rights.proofs.Wizards.{Plain, plain_first, plain_still, still_flags, plain_then}

@@ -1,5 +1,5 @@
 -- Where no verb and no waiting task is a wizard's, owners and flags stay, and nobody becomes a wizard.
-use Rattle.std.proofs.Common.{◌≡◌, ◌⊎◌, inl, inr, ℤ, pos, Bool, true, false, not, ◌&&◌, List, [], ◌∷◌, Option, Some, None, refl, sym, ap, ◌∙◌, subst, IsTrue}
+use Rattle.std.proofs.Common.{◌≡◌, ◌⊎◌, inl, inr, ℤ, pos, Bool, true, false, ◌&&◌, List, Option, Some, None, refl, sym, ap, ◌∙◌, subst, IsTrue}
 use Rattle.std.specs.Prelude.{option_map, int_le}
 use Rattle.spec_world.specs.World.{World, Header, Object, object_at}
 use Rattle.spec_world.specs.Agreeing.{Agrees}
@@ -8,9 +8,9 @@ use Rattle.spec_world.specs.Families.{next_object}
 use Rattle.spec_world.specs.Permissions.{wizardly, is_wizard}
 use Rattle.spec_world.proofs.Trees.{some_same}
 use Rattle.spec_moo.specs.Steps.{play}
-use Rattle.spec_rights.specs.Permitted.{Allows, SameStanding, Permitted, Made, ObjectKept}
-use Rattle.spec_rights.specs.Chains.{Right, to_run_as, to_take, In, Holds, SameObjects, Chain, starts, serves, changes, types, names, takes}
-use Rattle.spec_rights.specs.LeftAlone.{no_wizard, StandingStays, NoWizardsArise}
+use Rattle.spec_rights.specs.Permitted.{Allows, SameStanding, Permitted}
+use Rattle.spec_rights.specs.Chains.{Right, to_run_as, to_take, In, Holds, Chain, starts, serves, changes, types, names, takes}
+use Rattle.spec_rights.specs.LeftAlone.{no_wizard, NoWizardsArise}
 use Rattle.spec_rights.proofs.Denied.{standing_by_wizards, administered_by_wizards, denied, not_so, same_wizards, programmed_header, programmed_greatest, beyond, within_later}
 use Rattle.spec_rights.proofs.Steps.{lists_permit}
 

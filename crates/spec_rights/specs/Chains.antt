@@ -1,5 +1,5 @@
 -- What built-ins, turns, segments, steps and lists of steps may do to a world: changes one after another, each permitted to a programmer whose verb or task then runs.
-use Rattle.std.specs.Prelude.{◌≡◌, ◌⊎◌, ℕ, ℤ, Bool, true, if◌then◌else◌, List, [], ◌∷◌, Option, Some, None, IsTrue}
+use Rattle.std.specs.Prelude.{◌≡◌, ◌⊎◌, ℕ, ℤ, Bool, true, if◌then◌else◌, List, [], ◌∷◌, Some, IsTrue}
 use Rattle.std.specs.List.{list_all}
 use Rattle.spec_value.specs.Datum.{Datum, Text}
 use Rattle.spec_value.specs.Table.{at}

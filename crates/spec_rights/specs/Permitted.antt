@@ -1,8 +1,8 @@
 -- What one programmer may do to a world (Programmer's Manual, "Fundamental Object Attributes" and the permissions of each built-in): each facet of an object stays as it was, unless the permission table allows its change.
-use Rattle.std.specs.Prelude.{◌≡◌, ◌⊎◌, ℕ, suc, ℤ, Bool, true, List, [], ◌∷◌, Option, Some, None, IsTrue}
+use Rattle.std.specs.Prelude.{◌≡◌, ◌⊎◌, ℕ, suc, ℤ, true, List, [], ◌∷◌, Option, Some, None}
 use Rattle.spec_value.specs.Datum.{Datum, object, Text}
 use Rattle.spec_value.specs.Table.{at}
-use Rattle.spec_world.specs.World.{World, Header, Object, Slot, Verb, Link, Task, Waiting, reading_on, Native, NativeName, move_native, create_native, recycle_native, eval_native, object_at}
+use Rattle.spec_world.specs.World.{World, Header, Object, Slot, Verb, Link, Task, Waiting, reading_on, Native, NativeName, move_native, recycle_native, object_at}
 use Rattle.spec_world.specs.Inherit.{slot_of}
 use Rattle.spec_world.specs.Families.{nowhere, next_object, child_of, is_below}
 use Rattle.spec_world.specs.Permissions.{Act, write_slot, write_name, write_bits, write_standing, change_members, change_owner, write_verb, program_verb, have_child, change_object, act_as, control_task, administer, may}
@@ -109,8 +109,8 @@ GoesWithLink begun w who why = ⊥
 -- a task that waits is resumed or killed by its programmer or a wizard
 pub record QueueKept (begun : ℤ → Type 0) (w : World) (who : ℤ) (u : World) : Type 0 where
   pub tasks :
-    (i : ℤ) (t : Task) → at w.tasks i ≡ Some t
-    → (at u.tasks i ≡ Some t) ⊎ (Allows w who (control_task (task_programmer t)) ⊎ GoesWithLink begun w who t.waiting)
+      (i : ℤ) (t : Task) → at w.tasks i ≡ Some t
+      → (at u.tasks i ≡ Some t) ⊎ (Allows w who (control_task (task_programmer t)) ⊎ GoesWithLink begun w who t.waiting)
   pub links : (c : ℤ) (k : Link) → at w.links c ≡ Some k → (at u.links c ≡ Some k) ⊎ MayClose begun w who k.person
 
 -- ---- built-in functions

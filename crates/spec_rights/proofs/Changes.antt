@@ -16,20 +16,41 @@ use Rattle.spec_world.specs.Whereabouts.{moved}
 use Rattle.spec_world.specs.Permissions as act
 use Rattle.spec_world.specs.Permissions.{Act, write_slot, write_name, write_bits, write_standing, change_members, change_owner, write_verb, program_verb, have_child, administer, on_slot, in_place, is_wizard, may}
 use Rattle.spec_world.proofs.Trees.{same_or_not, some_same, first_of}
-use Rattle.spec_world.proofs.SlotTables.{named_with}
+use Rattle.spec_world.proofs.SlotTables.{named_with, named_without}
 use Rattle.spec_world.proofs.Households.{household, at_each, at_put, change_greatest}
 use Rattle.spec_world.proofs.ObjectChanges.{at_change}
 use Rattle.spec_world.proofs.NewObjects.{free}
 use Rattle.spec_moo.specs.Properties.{BuiltInProperty, own_name, own_owner, own_location, own_contents, programmer_flag, wizard_flag, r_bit, w_bit, f_bit, writing, with_built_in}
-use Rattle.spec_rights.specs.Permitted.{Allows, SlotKept, SlotStays, VerbKept, VerbsKept, Taken, IsRecycled, LineChanges, SameStanding, SameBits, ObjectKept, Made, Permitted}
+use Rattle.spec_rights.specs.Permitted.{Allows, SlotKept, SlotStays, SlotComesOrGoes, VerbKept, VerbsKept, Taken, IsRecycled, LineChanges, SameStanding, SameBits, ObjectKept, Made, Permitted}
 use Rattle.spec_rights.specs.Chains.{SameObjects}
-use Rattle.spec_rights.proofs.Rearranging.{change_ending, Rearranged, EachRearranged, Arranged, moved_arranged, reparented_arranged}
+use Rattle.spec_rights.proofs.Rearranging.{Shifts, change_ending, Rearranged, EachRearranged, Arranged, moved_arranged, reparented_arranged}
 
 -- ---- objects that are the same
 
 pub same_slot : (w : World) (who o : ℤ) (p : Text) (m : Option Slot) → SlotStays w who o p m m
 same_slot w who o p None = tt
 same_slot w who o p (Some s) = record { rest = inl refl; owner = inl refl }
+
+-- ---- slots that come and go
+
+stays_so : (m : Option Slot) → SlotComesOrGoes m m
+stays_so None = tt
+stays_so (Some s) = inl refl
+
+all_may_go : (m : Option Slot) → SlotComesOrGoes m None
+all_may_go None = tt
+all_may_go (Some s) = tt
+
+comes_clear : (m : Option Slot) (t : Slot) → t.content ≡ None → SlotComesOrGoes m (Some t)
+comes_clear None t e = tt
+comes_clear (Some s) t e = inr e
+
+shift_is : (m n : Option Slot) → Shifts m n → SlotComesOrGoes m n
+shift_is None None k = tt
+shift_is None (Some t) k = tt
+shift_is (Some s) None k = tt
+shift_is (Some s) (Some t) (inl e) = inl (some_same e)
+shift_is (Some s) (Some t) (inr e) = inr e
 
 pub same_verbs : (w : World) (who o : ℤ) (n : ℕ) (vs : List Verb) → VerbsKept w who o n vs vs
 same_verbs w who o n [] = tt
@@ -224,8 +245,8 @@ module _ (begun : ℤ → Type 0) (w : World) (who : ℤ) where
   -- ---- properties that come and go
 
   other_members : (u : World) (o : ℤ) (x y : Object) → y.header ≡ x.header → y.verbs ≡ x.verbs → (y.defines ≡ x.defines) ⊎ Allows w who (change_members o) → LineChanges begun w who o
-      → ObjectKept begun w who u o x y
-  other_members u o x y header verbs defines line =
+      → ((p : Text) → SlotComesOrGoes (slot_of (Some x) p) (slot_of (Some y) p)) → ObjectKept begun w who u o x y
+  other_members u o x y header verbs defines line comes =
       record {
         name = inl (ap (λ (h : Header). h.name) header);
         standing = inl (ap (λ (h : Header). h.owner) header, ap (λ (h : Header). h.is_programmer) header, ap (λ (h : Header). h.is_wizard) header);
@@ -234,7 +255,7 @@ module _ (begun : ℤ → Type 0) (w : World) (who : ℤ) where
         parent = inl (ap (λ (h : Header). h.parent) header);
         location = inl (ap (λ (h : Header). h.location) header);
         defines = defines;
-        slots = λ p. inr line;
+        slots = λ p. inr (line, comes p);
         verbs = subst (λ vs. VerbsKept w who o 0 x.verbs vs) (sym verbs) (same_verbs w who o 0 x.verbs);
       }
 
@@ -244,31 +265,57 @@ module _ (begun : ℤ → Type 0) (w : World) (who : ℤ) where
 
     by_line : (u : World) (own heir : Object → Object) → ((x : Object) → (own x).header ≡ x.header) → ((x : Object) → (own x).verbs ≡ x.verbs)
         → ((x : Object) → (heir x).header ≡ x.header) → ((x : Object) → (heir x).verbs ≡ x.verbs) → ((x : Object) → (heir x).defines ≡ x.defines)
-        → (q : ℤ) (x : Object) → object_at w q ≡ Some x
+        → ((x : Object) → object_at w o ≡ Some x → (k : Text) → SlotComesOrGoes (slot_of (Some x) k) (slot_of (Some (own x)) k))
+        → ((x : Object) (k : Text) → SlotComesOrGoes (slot_of (Some x) k) (slot_of (Some (heir x)) k)) → (q : ℤ) (x : Object) → object_at w q ≡ Some x
         → ObjectKept begun w who u q x (if int_eq q o then own x else (if is_below w o q then heir x else x))
-    by_line u own heir oh ov hh hv hd q x e = go (int_eq q o) refl (is_below w o q) refl
+    by_line u own heir oh ov hh hv hd os hs q x e = go (int_eq q o) refl (is_below w o q) refl
       where
         go : (a : Bool) → int_eq q o ≡ a → (b : Bool) → is_below w o q ≡ b → ObjectKept begun w who u q x (if a then own x else (if b then heir x else x))
         go true s b l =
             let is : q ≡ o = same_integer q o s in
-            subst (λ z. ObjectKept begun w who u z x (own x)) (sym is) (other_members u o x (own x) (oh x) (ov x) (inr allowed) (here x (ap (object_at w) (sym is) ∙ e)))
-        go false s true l = other_members u q x (heir x) (hh x) (hv x) (inl (hd x)) (o, l, inl allowed)
+            let at : object_at w o ≡ Some x = ap (object_at w) (sym is) ∙ e in
+            subst (λ z. ObjectKept begun w who u z x (own x)) (sym is) (other_members u o x (own x) (oh x) (ov x) (inr allowed) (here x at) (os x at))
+        go false s true l = other_members u q x (heir x) (hh x) (hv x) (inl (hd x)) (o, l, inl allowed) (hs x)
         go false s false l = same_object u q x
 
-    pub property_comes : (p : Text) (s : Slot) → Permitted begun w who (property_added w o p s)
+    -- a slot that is put under a name, where there was none or it is clear, and one that goes
+    put_comes : (x : Object) (p : Text) (t : Slot) → ((k : Text) → fold_case k ≡ fold_case p → SlotComesOrGoes (slot_of (Some x) k) (Some t)) → (k : Text)
+        → SlotComesOrGoes (slot_of (Some x) k) (slot_of (Some (with_own_slot x p t)) k)
+    put_comes x p t here k =
+        subst (SlotComesOrGoes (slot_of (Some x) k)) (sym (named_with x.slots (fold_case p) (fold_case k) t)) (go (same_text (fold_case k) (fold_case p)) refl)
+      where
+        go : (b : Bool) → same_text (fold_case k) (fold_case p) ≡ b → SlotComesOrGoes (slot_of (Some x) k) (cond b (Some t) (slot_of (Some x) k))
+        go true e = here k (same_texts (fold_case k) (fold_case p) e)
+        go false e = stays_so (slot_of (Some x) k)
+
+    lost_goes : (x : Object) (p k : Text) → SlotComesOrGoes (slot_of (Some x) k) (slot_of (Some (lose_slot x p)) k)
+    lost_goes x p k = subst (SlotComesOrGoes (slot_of (Some x) k)) (sym (named_without x.slots (fold_case p) (fold_case k))) (go (same_text (fold_case p) (fold_case k)))
+      where
+        go : (b : Bool) → SlotComesOrGoes (slot_of (Some x) k) (cond b None (slot_of (Some x) k))
+        go true = all_may_go (slot_of (Some x) k)
+        go false = stays_so (slot_of (Some x) k)
+
+    pub property_comes : (p : Text) (s : Slot) → slot_at w o p ≡ None → Permitted begun w who (property_added w o p s)
     unfolding property_added
-    property_comes p s =
+    property_comes p s none =
         each_for_each (change_each w f) f (λ q. at_each w q f)
-        (λ q x e. by_line (change_each w f) (λ z. defining z p s) (λ z. with_own_slot z p (Rattle.spec_world.specs.Families.heir_slot z.header.owner s)) (λ z. refl) (λ z. refl) (λ z. refl) (λ z. refl) (λ z. refl) q x e) refl (inl refl)
+        (λ q x e. by_line (change_each w f) (λ z. defining z p s) (λ z. with_own_slot z p (Rattle.spec_world.specs.Families.heir_slot z.header.owner s)) (λ z. refl) (λ z. refl) (λ z. refl) (λ z. refl) (λ z. refl)
+        (λ z at. put_comes z p s (λ k same. new z at k same)) (λ z. put_comes z p (Rattle.spec_world.specs.Families.heir_slot z.header.owner s) (λ k same. comes_clear (slot_of (Some z) k) _ refl)) q x e) refl (inl refl)
       where
         f : ℤ → Object → Object
         f = λ d x. if int_eq d o then defining x p s else (if is_below w o d then with_own_slot x p (Rattle.spec_world.specs.Families.heir_slot x.header.owner s) else x)
+
+        new : (z : Object) → object_at w o ≡ Some z → (k : Text) → fold_case k ≡ fold_case p → SlotComesOrGoes (slot_of (Some z) k) (Some s)
+        new z at k same =
+            let absent : slot_of (Some z) k ≡ None = ap (named z.slots) same ∙ (sym (ap (λ m. slot_of m p) at) ∙ none) in
+            subst (λ m. SlotComesOrGoes m (Some s)) (sym absent) tt
 
     pub property_goes : (p : Text) → Permitted begun w who (property_deleted w o p)
     unfolding property_deleted
     property_goes p =
         each_for_each (change_each w f) f (λ q. at_each w q f)
-        (λ q x e. by_line (change_each w f) (λ z. lose_slot (not_defining z p) p) (λ z. lose_slot z p) (λ z. refl) (λ z. refl) (λ z. refl) (λ z. refl) (λ z. refl) q x e) refl (inl refl)
+        (λ q x e. by_line (change_each w f) (λ z. lose_slot (not_defining z p) p) (λ z. lose_slot z p) (λ z. refl) (λ z. refl) (λ z. refl) (λ z. refl) (λ z. refl)
+        (λ z at k. lost_goes z p k) (λ z k. lost_goes z p k) q x e) refl (inl refl)
       where
         f : ℤ → Object → Object
         f = λ d x. if int_eq d o then lose_slot (not_defining x p) p else (if is_below w o d then lose_slot x p else x)
@@ -442,9 +489,10 @@ module _ (begun : ℤ → Type 0) (w : World) (who : ℤ) where
       location (inl e) = inl e
       location (inr k) = inr (at k)
 
-      slots : (y.slots ≡ x.slots) ⊎ heir o → (p : Text) → SlotStays w who o p (slot_of (Some x) p) (slot_of (Some y) p) ⊎ LineChanges begun w who o
+      slots : (y.slots ≡ x.slots) ⊎ (heir o × ((k : Text) → Shifts (named x.slots k) (named y.slots k))) → (p : Text)
+          → SlotStays w who o p (slot_of (Some x) p) (slot_of (Some y) p) ⊎ (LineChanges begun w who o × SlotComesOrGoes (slot_of (Some x) p) (slot_of (Some y) p))
       slots (inl e) p = inl (subst (λ es. SlotStays w who o p (slot_of (Some x) p) (named es (fold_case p))) (sym e) (same_slot w who o p (slot_of (Some x) p)))
-      slots (inr k) p = inr (line k)
+      slots (inr (k, f)) p = inr (line k, shift_is (slot_of (Some x) p) (slot_of (Some y) p) (f (fold_case p)))
 
   arranged_permitted : (hung placed : ℤ → ℤ → Type 0) (heir : ℤ → Type 0) (u : World) → Arranged hung placed heir w u
       → ((o : ℤ) (x y : Object) → object_at w o ≡ Some x → Rearranged hung placed heir o x y → ObjectKept begun w who u o x y) → Permitted begun w who u

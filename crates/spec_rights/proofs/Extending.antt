@@ -10,7 +10,7 @@ use Rattle.spec_world.specs.Permissions.{Act, change_owner, change_object, in_pl
 use Rattle.spec_world.proofs.Trees.{some_same, either}
 use Rattle.spec_moo.specs.NativeEffect.{NativeEffect, answers, complains, begins, waits, dies, becomes}
 use Rattle.spec_moo.specs.Pending.{Pending}
-use Rattle.spec_rights.specs.Permitted.{Allows, VerbsKept, Taken, IsRecycled, LineChanges, SlotStays, ObjectKept, Permitted, Concerns, concerned}
+use Rattle.spec_rights.specs.Permitted.{Allows, VerbsKept, Taken, IsRecycled, LineChanges, SlotStays, SlotComesOrGoes, ObjectKept, Permitted, Concerns, concerned}
 use Rattle.spec_rights.specs.Chains.{Right, to_run_as, to_take, In, Holds, EntriesHold, TasksHold, AllHold, SameObjects, Chain, serves, changes, names, takes, PendingHolds}
 use Rattle.spec_rights.proofs.Doing.{TasksFrom, of_tasks, to_tasks, OwnsVerb, NativeDoes}
 
@@ -69,10 +69,10 @@ module _ (begun more : ℤ → Type 0) (each : (o : ℤ) → begun o → more o)
       place (inr (inl e)) = inr (inl (taken_more o e))
       place (inr (inr (n, (y, e, d, k)))) = inr (inr (n, (y, e, d, taken_more x.header.location k)))
 
-      slot : (p : Text) → SlotStays w who o p (slot_of (Some x) p) (slot_of (Some y) p) ⊎ LineChanges begun w who o
-          → SlotStays w who o p (slot_of (Some x) p) (slot_of (Some y) p) ⊎ LineChanges more w who o
+      slot : (p : Text) → SlotStays w who o p (slot_of (Some x) p) (slot_of (Some y) p) ⊎ (LineChanges begun w who o × SlotComesOrGoes (slot_of (Some x) p) (slot_of (Some y) p))
+          → SlotStays w who o p (slot_of (Some x) p) (slot_of (Some y) p) ⊎ (LineChanges more w who o × SlotComesOrGoes (slot_of (Some x) p) (slot_of (Some y) p))
       slot p (inl e) = inl e
-      slot p (inr e) = inr (line_more o e)
+      slot p (inr e) = inr (line_more o e.0, e.1)
 
   pub permitted_more : (u : World) → Permitted begun w who u → Permitted more w who u
   permitted_more u k =

@@ -17,7 +17,7 @@ use Rattle.spec_world.proofs.Trees.{some_same}
 use Rattle.spec_world.proofs.WorldTrees.{of_all}
 use Rattle.spec_world.proofs.ObjectChanges.{at_change}
 use Rattle.spec_moo.specs.Steps.{play}
-use Rattle.spec_rights.specs.Permitted.{Allows, SlotStays, Taken, IsRecycled, LineChanges, SameStanding, SameBits, Permitted}
+use Rattle.spec_rights.specs.Permitted.{Allows, SlotStays, SlotComesOrGoes, Taken, IsRecycled, LineChanges, SameStanding, SameBits, Permitted}
 use Rattle.spec_rights.specs.Chains.{Right, to_run_as, to_take, In, Holds, Chain, starts, serves, changes, types, names, takes}
 use Rattle.spec_rights.specs.LeftAlone.{is_outsider, outside, OutsidersLeaveSlots}
 use Rattle.spec_rights.proofs.Denied.{denied, not_so, standing_by_wizards, programmed_header, programmed_greatest}
@@ -202,9 +202,9 @@ module _ (w : World) (h : Agrees w) (o : ℤ) (p : Text) (s : Slot) (first : Obj
               now : slot_of (Some before.0) p ≡ Some s
               now = sym (ap (λ m. slot_of m p) before.1) ∙ held.held
 
-              by : SlotStays u who o p (slot_of (Some before.0) p) (slot_of (Some z) p) ⊎ LineChanges begun u who o → slot_of (Some z) p ≡ Some s
+              by : SlotStays u who o p (slot_of (Some before.0) p) (slot_of (Some z) p) ⊎ (LineChanges begun u who o × SlotComesOrGoes (slot_of (Some before.0) p) (slot_of (Some z) p)) → slot_of (Some z) p ≡ Some s
               by (inl k) = same_slot (slot_of (Some z) p) (subst (λ m. SlotStays u who o p m (slot_of (Some z) p)) now k)
-              by (inr k) = absurd (line_stays k)
+              by (inr k) = absurd (line_stays k.0)
 
   -- where each header and that slot stay
   held_still : (u v : World) → ((q : ℤ) → header_at v q ≡ header_at u q) → v.greatest ≡ u.greatest → slot_at v o p ≡ slot_at u o p → Held u → Held v

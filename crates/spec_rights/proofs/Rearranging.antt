@@ -4,15 +4,18 @@ use Rattle.std.specs.Prelude.{option_map, is_none}
 use Rattle.std.specs.Ordering.{int_eq}
 use Rattle.spec_value.proofs.Entries.{second_holds}
 use Rattle.spec_value.proofs.Same.{same_integer, integer_itself}
-use Rattle.spec_world.specs.World.{World, Object, object_at}
+use Rattle.spec_world.specs.World.{World, Object, Slot, object_at}
 use Rattle.spec_world.specs.Inherit.{line_bound, line_onto, line, ancestors}
-use Rattle.spec_world.specs.WellFormed.{lists, once, passes, on_object, ends_above, comes_out}
+use Rattle.spec_world.specs.WellFormed.{has_name, lists, once, passes, on_object, ends_above, comes_out}
 use Rattle.spec_world.specs.Agreeing.{ObjectsAgree}
 use Rattle.spec_world.specs.Naming.{location_of}
-use Rattle.spec_world.specs.Families.{nowhere, change_object, change_each, change_at, is_below, heir_of, parent_of, reparented, to_nowhere}
+use Rattle.spec_world.specs.Families.{kept_names, heir_slot, heir_slots, slots_named, slots_at, nowhere, change_object, change_each, change_at, is_below, heir_of, parent_of, reparented, to_nowhere}
 use Rattle.spec_world.specs.Whereabouts.{moved}
 use Rattle.spec_world.proofs.Trees.{some_same, either, first_of, second_of}
 use Rattle.spec_world.proofs.WorldTrees.{of_all}
+use Rattle.spec_value.specs.Datum.{Text}
+use Rattle.spec_value.specs.Table.{named}
+use Rattle.spec_world.proofs.SlotTables.{named_heirs, named_kept, or_first, named_both}
 use Rattle.spec_world.proofs.Households.{at_each, change_greatest}
 use Rattle.spec_world.proofs.ObjectChanges.{at_change}
 
@@ -27,6 +30,35 @@ change_ending w o f = go (object_at w o)
     go None = refl
     go (Some x) = refl
 
+-- ---- slots that stay as they were, or go, or are clear
+
+abbrev IsClear : Option Slot → Type 0
+IsClear None = Unit {0}
+IsClear (Some s) = s.content ≡ None
+
+abbrev pub Shifts : Option Slot → Option Slot → Type 0
+Shifts m n = (n ≡ m) ⊎ IsClear n
+
+shifts_twice : (l m n : Option Slot) → Shifts l m → Shifts m n → Shifts l n
+shifts_twice l m n h (inr k) = inr k
+shifts_twice l m n (inl h) (inl k) = inl (k ∙ h)
+shifts_twice l m n (inr h) (inl k) = inr (subst IsClear (sym k) h)
+
+-- an heir keeps its own slot where it goes on having the property, and else has a clear one, or none
+heir_shifts : (owner : ℤ) (b : Bool) (m n : Option Slot) → Shifts m (or_first (cond b m None) (option_map (heir_slot owner) n))
+heir_shifts owner true (Some s) n = inl refl
+heir_shifts owner true None None = inl refl
+heir_shifts owner true None (Some t) = inr refl
+heir_shifts owner false m None = inr tt
+heir_shifts owner false m (Some t) = inr refl
+
+heir_slots_shift : (w : World) (o p q : ℤ) (x : Object) (k : Text) → Shifts (named x.slots k) (named (heir_of w o p q x).slots k)
+heir_slots_shift w o p q x k =
+    subst (Shifts (named x.slots k))
+    (sym (named_both (slots_named (has_name (kept_names w o p q)) x.slots) (heir_slots x.header.owner (slots_at (object_at w p))) k
+    ∙ (λ i. or_first (named_kept (has_name (kept_names w o p q)) x.slots k i) (named_heirs x.header.owner (slots_at (object_at w p)) k i))))
+    (heir_shifts x.header.owner (has_name (kept_names w o p q) k) (named x.slots k) (named (slots_at (object_at w p)) k))
+
 -- ---- objects that keep all but relatives, whereabouts and slots: a new parent and a new place are these, and the slots of these objects change
 
 module _ (hung placed : ℤ → ℤ → Type 0) (heir : ℤ → Type 0) where
@@ -34,7 +66,7 @@ module _ (hung placed : ℤ → ℤ → Type 0) (heir : ℤ → Type 0) where
     pub rest : bare y ≡ bare x
     pub parent : (y.header.parent ≡ x.header.parent) ⊎ hung q y.header.parent
     pub location : (y.header.location ≡ x.header.location) ⊎ placed q y.header.location
-    pub slots : (y.slots ≡ x.slots) ⊎ heir q
+    pub slots : (y.slots ≡ x.slots) ⊎ (heir q × ((k : Text) → Shifts (named x.slots k) (named y.slots k)))
 
   abbrev pub EachRearranged : ℤ → Option Object → Option Object → Type 0
   EachRearranged q None None = Unit {0}
@@ -72,10 +104,13 @@ module _ (hung placed : ℤ → ℤ → Type 0) (heir : ℤ → Type 0) where
       where_to (inl a) (inl b) = inl (a ∙ b)
       where_to (inl a) (inr b) = inr (subst (placed q) (sym a) b)
 
-      held : (z.slots ≡ y.slots) ⊎ heir q → (y.slots ≡ x.slots) ⊎ heir q → (z.slots ≡ x.slots) ⊎ heir q
-      held (inr a) b = inr a
+      held : (z.slots ≡ y.slots) ⊎ (heir q × ((k : Text) → Shifts (named y.slots k) (named z.slots k)))
+          → (y.slots ≡ x.slots) ⊎ (heir q × ((k : Text) → Shifts (named x.slots k) (named y.slots k)))
+          → (z.slots ≡ x.slots) ⊎ (heir q × ((k : Text) → Shifts (named x.slots k) (named z.slots k)))
       held (inl a) (inl b) = inl (a ∙ b)
-      held (inl a) (inr b) = inr b
+      held (inl a) (inr (l, f)) = inr (l, λ k. subst (λ es. Shifts (named x.slots k) (named es k)) (sym a) (f k))
+      held (inr (l, f)) (inl b) = inr (l, λ k. subst (λ es. Shifts (named es k) (named z.slots k)) b (f k))
+      held (inr (l, f)) (inr (m, g)) = inr (l, λ k. shifts_twice (named x.slots k) (named y.slots k) (named z.slots k) (g k) (f k))
 
   each_twice : (q : ℤ) (l m n : Option Object) → EachRearranged q l m → EachRearranged q m n → EachRearranged q l n
   each_twice q None None n h k = k
@@ -133,7 +168,7 @@ module _ (hung placed : ℤ → ℤ → Type 0) (heir : ℤ → Type 0) where
     where
       go : (q : ℤ) (x : Object) (b : Bool) → is_below w o q ≡ b → Rearranged q x (if b then heir_of w o p q x else x)
       go q x false s = as_before q x
-      go q x true s = record { rest = refl; parent = inl refl; location = inl refl; slots = inr (below q s) }
+      go q x true s = record { rest = refl; parent = inl refl; location = inl refl; slots = inr (below q s, heir_slots_shift w o p q x) }
 
   -- the contents of a place are nowhere
   pub nowhere_arranged : (w : World) (cs : List ℤ) → ((c : ℤ) → IsTrue (lists cs c) → placed c nowhere) → Arranged w (to_nowhere w cs)

@@ -21,13 +21,13 @@ use Rattle.spec_world.specs.Whereabouts.{is_inside, moved}
 use Rattle.spec_world.proofs.Trees.{some_same, either}
 use Rattle.spec_moo.specs.Scene.{Scene, in_world, has_ids, next_id, id_taken, named_or_next, with_own_id, moment_after}
 use Rattle.spec_moo.specs.Linking.{connection_closed, link_closed, has_lines, line_told}
-use Rattle.spec_moo.specs.Properties.{row_of}
+use Rattle.spec_moo.specs.Properties.{built_in, row_of}
 use Rattle.spec_moo.specs.NativeEffect.{Caller, NativeEffect, answers, waits}
 use Rattle.spec_moo.specs.Natives.{or_later, native, stage_of, native_turn}
 use Rattle.spec_moo.specs.Natives.Rows.{Row, by_row, in_group, if_there, is_valid, is_valid_or_none, answers_with, zero_value, counts_fit, all_fit}
 use Rattle.spec_moo.specs.Natives.Values.{value_rows, values}
 use Rattle.spec_moo.specs.Natives.Objects.{valid_row, is_player_row, parent_row, children_row, calls_found, calls_if_there, stage, create_with, create_for, create_row, has_numbers, recycle_now, recycle_row, chparent_row, is_there, told_to_enter, later_stage, last_stage, gone_over, move_now, accepted, move_row, with_flag, set_player_flag_row, object_rows, objects, staged}
-use Rattle.spec_moo.specs.Natives.Properties.{are_bits, with_slot_bits, properties_row, property_info_row, set_property_info_row, is_clear_property_row, defines_it, clear_property_row, is_new_name, slot_with, add_property_row, delete_property_row, property_rows, properties}
+use Rattle.spec_moo.specs.Natives.Properties.{are_bits, with_slot_bits, properties_row, property_info_row, set_property_info_row, is_clear_property_row, defines_it, clear_property_row, is_new_name, is_empty, slot_with, add_property_row, delete_property_row, property_rows, properties}
 use Rattle.spec_moo.specs.Natives.Verbs.{verb_place, if_verb, verbs_row, with_info, info_fits, verb_info_row, set_verb_info_row, specifier, with_specifier, verb_args_row, set_verb_args_row, new_verb, add_verb_row, delete_verb_row, verb_code_row, texts_of, programmed, set_verb_code_row, evaluated, eval_row, verb_rows, verbs}
 use Rattle.spec_moo.specs.Natives.Tasks.{notify_row, waits_with_id, reads_on, read_row, suspend_row, task_programmer, is_suspended, resumes, resume_row, is_own_id, kills, kill_task_row, task_id_row, raise_row, set_task_perms_row, random_up_to, random_row, boot_player_row, dump_database_row, shutdown_row, task_rows, tasks}
 use Rattle.spec_world.proofs.WorldsKept.{connection_open}
@@ -308,10 +308,20 @@ module _ (begun : ℤ → Type 0) where
       there s.world c.call.programmer s invalid_argument (object_at s.world o) _ (same s c) (λ x e.
       tested s.world c.call.programmer (may s.world c.call.programmer (change_members o)) _ _ (same s c) (λ k1.
       tested s.world c.call.programmer (may s.world c.call.programmer (change_owner c.call.programmer owner)) _ _ (same s c) (λ k2.
-      tested s.world c.call.programmer (is_new_name s o p && are_bits (codes "rwc") b && is_valid s owner) _ _ (same s c) (λ k3. added p (slot_with v owner b) k1))))
+      tested s.world c.call.programmer (is_new_name s o p && are_bits (codes "rwc") b && is_valid s owner) _ _ (same s c) (λ k3. added p (slot_with v owner b) k1 (unknown p (first_holds (is_new_name s o p) _ (first_holds (is_new_name s o p && are_bits (codes "rwc") b) _ k3)))))))
     where
-      added : (p : Text) (t : Slot) → Allows s.world c.call.programmer (change_members o) → Does begun s.world c.call.programmer (Rattle.spec_world.specs.Members.property_added s.world o p t)
-      added p t k = done begun s.world c.call.programmer (Rattle.spec_world.specs.Members.property_added s.world o p t) (property_comes begun s.world c.call.programmer h.objects o k p t) (record { links = refl; tasks = refl; next = refl })
+      none_there : (m : Option Slot) → is_none m ≡ true → m ≡ None
+      none_there None k = refl
+      none_there (Some t) k = cc
+
+      unknown : (p : Text) → is_new_name s o p ≡ true → slot_at s.world o p ≡ None
+      unknown p k =
+          none_there (slot_at s.world o p)
+          (second_holds (not (is_empty p) && is_none (built_in p)) _ (first_holds (not (is_empty p) && is_none (built_in p) && is_none (slot_at s.world o p)) _ k))
+
+      added : (p : Text) (t : Slot) → Allows s.world c.call.programmer (change_members o) → slot_at s.world o p ≡ None
+          → Does begun s.world c.call.programmer (Rattle.spec_world.specs.Members.property_added s.world o p t)
+      added p t k absent = done begun s.world c.call.programmer (Rattle.spec_world.specs.Members.property_added s.world o p t) (property_comes begun s.world c.call.programmer h.objects o k p t absent) (record { links = refl; tasks = refl; next = refl })
   add_does s c _ h = same s c
 
   delete_does : (s : Scene) (c : Caller) (args : List Datum) → Agrees s.world → Fits s c (delete_property_row s c args)

@@ -25,6 +25,11 @@ SlotStays w who o p None None = Unit {0}
 SlotStays w who o p (Some s) (Some t) = SlotKept w who o p s t
 SlotStays w who o p _ _ = ⊥
 
+-- one comes, or goes, or is clear
+abbrev pub SlotComesOrGoes : Option Slot → Option Slot → Type 0
+SlotComesOrGoes (Some s) (Some t) = (t ≡ s) ⊎ (t.content ≡ None)
+SlotComesOrGoes _ _ = Unit {0}
+
 -- ---- verbs
 
 -- its names, its bits and what it wants of a command; its owner; its program
@@ -33,7 +38,7 @@ pub record VerbKept (w : World) (who o : ℤ) (n : ℕ) (v u : Verb) : Type 0 wh
   pub owner : (u.owner ≡ v.owner) ⊎ (Allows w who (write_verb o n) × Allows w who (change_owner v.owner u.owner))
   pub program : (u.program ≡ v.program) ⊎ Allows w who (program_verb o n)
 
--- from the n-th verb on: each is kept, or is gone where the object's members may be changed; then the last one may be new, and is the programmer's own
+-- from the n-th verb on: each is kept, or is gone where the object's members may be changed; then others may be new at the end, and are the programmer's own
 abbrev pub VerbsKept : World → ℤ → ℤ → ℕ → List Verb → List Verb → Type 0
 VerbsKept w who o n [] [] = Unit {0}
 VerbsKept w who o n [] (u ∷ us) = Allows w who (change_members o) × (Allows w who (change_owner who u.owner) × VerbsKept w who o n [] us)
@@ -62,7 +67,7 @@ abbrev pub SameBits : Header → Header → Type 0
 SameBits h k = (k.readable ≡ h.readable) × (k.writable ≡ h.writable) × (k.fertile ≡ h.fertile)
 
 -- an object that is there before and after: with its parent gone it hangs below another one, and with its place gone it is nowhere;
--- in a well-formed world children and contents follow parents and locations
+-- where its line changes slots come and go, and no value is written; in a well-formed world children and contents follow parents and locations
 pub record ObjectKept (begun : ℤ → Type 0) (w : World) (who : ℤ) (u : World) (o : ℤ) (x y : Object) : Type 0 where
   pub name : (y.header.name ≡ x.header.name) ⊎ Allows w who (write_name o)
   pub standing : SameStanding x.header y.header ⊎ Allows w who (write_standing o)
@@ -75,7 +80,9 @@ pub record ObjectKept (begun : ℤ → Type 0) (w : World) (who : ℤ) (u : Worl
       (y.header.location ≡ x.header.location) ⊎ (Taken begun w who o
       ⊎ ((y.header.location ≡ nowhere) × IsRecycled begun w who u x.header.location))
   pub defines : (y.defines ≡ x.defines) ⊎ Allows w who (change_members o)
-  pub slots : (p : Text) → SlotStays w who o p (slot_of (Some x) p) (slot_of (Some y) p) ⊎ LineChanges begun w who o
+  pub slots :
+      (p : Text) → SlotStays w who o p (slot_of (Some x) p) (slot_of (Some y) p)
+      ⊎ (LineChanges begun w who o × SlotComesOrGoes (slot_of (Some x) p) (slot_of (Some y) p))
   pub verbs : VerbsKept w who o 0 x.verbs y.verbs
 
 -- a new object: its number is the next one, its owner the programmer unless a wizard names another one, and it has neither flags nor verbs

@@ -7,6 +7,7 @@ pub mod Extending
 pub mod Effects
 pub mod Turns
 pub mod Acting
+pub mod CoursesAct
 pub mod Segments
 pub mod Steps
 pub mod StepsAct

@@ -16,7 +16,7 @@ use Rattle.spec_moo.specs.Natives.Tasks.{innermost, programmer_of}
 use Rattle.spec_moo.specs.Pending.{Pending, Turned, goes_on, halts}
 use Rattle.spec_moo.specs.Turn.{turn}
 use Rattle.spec_moo.specs.Sizes.{begins_stage}
-use Rattle.spec_moo.specs.Segment.{segment}
+use Rattle.spec_moo.specs.Segment.{segment, Course, runs, stops, advance, after}
 use Rattle.spec_moo.specs.Worlds.{SceneAgrees, IsUnderWay}
 use Rattle.spec_moo.specs.Steps.{play1, play}
 use Rattle.spec_rights.specs.Permitted.{Allows, Concerns, Permitted, QueueKept}
@@ -73,6 +73,18 @@ world_after (halts s why) = s.world
 abbrev pub TurnsAct : Type 0
 TurnsAct =
     (k : ℕ) (s : Scene) (p : Pending) → SceneAgrees k s → Permitted (Begun (begins_stage p) p.outer) s.world (acting p) (world_after (turn s p))
+
+-- ---- a segment, turn by turn
+
+abbrev pub world_then : Course → World
+world_then (runs t s p) = s.world
+world_then (stops e) = e.scene.world
+
+-- so does each turn that a task comes to
+abbrev pub SegmentsAct : Type 0
+SegmentsAct =
+    (k n t left : ℕ) (s u : Scene) (p q : Pending) → SceneAgrees k s → IsUnderWay p → after n (runs t s p) ≡ runs left u q
+    → Permitted (Begun (begins_stage q) q.outer) u.world (acting q) (world_then (advance left u q))
 
 -- ---- one step
 

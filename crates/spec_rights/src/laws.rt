@@ -10,12 +10,13 @@ pub fn natives()
     ensures later_tasks { StagesLeaveTasks }
 {}
 
-ghost use Rattle.spec_rights.specs.Chains.{TurnsAct, StepsAct};
+ghost use Rattle.spec_rights.specs.Chains.{TurnsAct, SegmentsAct, StepsAct};
 
-/// So does each turn of a task: it acts as the programmer of the verb that is under way. A step changes objects by such turns, of one
+/// So does each turn of a task, and each that its segment comes to: it acts as the programmer of the verb that is under way. A step changes objects by such turns, of one
 /// task, or by the program of one verb, typed by a player who is allowed to, or not at all.
 pub fn acting()
     ensures turns { TurnsAct }
+    ensures segments { SegmentsAct }
     ensures steps { StepsAct }
 {}
 

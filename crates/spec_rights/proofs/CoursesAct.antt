@@ -1,6 +1,5 @@
 -- Each turn that a task comes to acts as the programmer of the verb that is then under way.
-use Rattle.std.proofs.Common.{◌≡◌, ◌⊎◌, inl, ℕ, zero, suc, refl, sym, subst}
-use Rattle.spec_world.specs.World.{World}
+use Rattle.std.proofs.Common.{◌≡◌, inl, ℕ, zero, suc, refl, sym, subst}
 use Rattle.spec_moo.specs.Scene.{Scene, with_ticks}
 use Rattle.spec_moo.specs.Pending.{Pending, Turned, goes_on, halts}
 use Rattle.spec_moo.specs.Turn.{cost, turn}

@@ -18,12 +18,15 @@ use Rattle.spec_world.proofs.WorldTrees.{of_all}
 use Rattle.spec_world.proofs.ObjectChanges.{at_change}
 use Rattle.spec_moo.specs.Steps.{play}
 use Rattle.spec_rights.specs.Permitted.{Allows, SlotStays, SlotComesOrGoes, Taken, IsRecycled, LineChanges, SameStanding, SameBits, Permitted}
-use Rattle.spec_rights.specs.Chains.{Right, to_run_as, to_take, In, Holds, Chain, starts, serves, changes, types, names, takes}
-use Rattle.spec_rights.specs.LeftAlone.{is_outsider, outside, OutsidersLeaveSlots}
+use Rattle.spec_rights.specs.Chains.{acting, Begun, world_after, Right, to_run_as, to_take, In, Holds, Chain, starts, serves, changes, types, names, takes}
+use Rattle.spec_rights.specs.LeftAlone.{is_outsider, outside, OutsidersLeaveSlots, TurnsLeaveSlots}
 use Rattle.spec_rights.proofs.Denied.{denied, not_so, standing_by_wizards, programmed_header, programmed_greatest}
 use Rattle.spec_rights.proofs.Wizards.{Plain, plain_first, plain_still, plain_then}
 use Rattle.spec_rights.proofs.OwnLines.{line_found, bound_grows, nowhere_is_old, on_own_line, itself_on, parent_nowhere_or_on, line_carried}
 use Rattle.spec_rights.proofs.Strangers.{first_false}
+use Rattle.spec_moo.specs.Sizes.{begins_stage}
+use Rattle.spec_moo.specs.Turn.{turn}
+use Rattle.spec_rights.proofs.Acting.{turns_act}
 use Rattle.spec_rights.proofs.Steps.{lists_permit}
 
 -- another program leaves each slot
@@ -303,3 +306,12 @@ outsiders_leave_slots w ss o p s h range slot all = go (object_at w o) refl
     go : (m : Option Object) → object_at w o ≡ m → slot_at (play w ss).0 o p ≡ Some s
     go None e = let clash : None ≡ Some s = sym (ap (λ m. slot_of m p) e) ∙ slot in absurd (cc (clash))
     go (Some x) e = (chain_held w h o p s x e slot reached.0 (play w ss).0 reached.1).0.held
+
+pub turns_leave_slots : TurnsLeaveSlots
+turns_leave_slots k s p o q t h slot outsider none = go (object_at s.world o) refl
+  where
+    go : (m : Option Object) → object_at s.world o ≡ m → slot_at (world_after (turn s p)) o q ≡ Some t
+    go None e = let clash : None ≡ Some t = sym (ap (λ m. slot_of m q) e) ∙ slot in absurd (cc (clash))
+    go (Some x) e =
+        (held_then s.world h.world o q t x e slot (Begun (begins_stage p) p.outer) s.world (world_after (turn s p)) (acting p) (turns_act k s p h) outsider none
+        (held_first s.world h.world o q t x e slot)).held

@@ -14,10 +14,13 @@ use Rattle.spec_world.specs.Permissions.{write_name, write_bits, write_standing,
 use Rattle.spec_world.proofs.Trees.{same_or_not, some_same}
 use Rattle.spec_moo.specs.Steps.{play}
 use Rattle.spec_rights.specs.Permitted.{Allows, VerbKept, VerbsKept, Taken, SameStanding, SameBits, ObjectKept, Permitted}
-use Rattle.spec_rights.specs.Chains.{Right, to_run_as, to_take, In, Holds, Chain, starts, serves, changes, types, names, takes}
-use Rattle.spec_rights.specs.LeftAlone.{is_stranger, strange, SameObject, StrangersLeaveAlone}
+use Rattle.spec_rights.specs.Chains.{acting, Begun, world_after, Right, to_run_as, to_take, In, Holds, Chain, starts, serves, changes, types, names, takes}
+use Rattle.spec_rights.specs.LeftAlone.{is_stranger, strange, SameObject, StrangersLeaveAlone, TurnsLeaveAlone}
 use Rattle.spec_rights.proofs.Denied.{denied, not_so, programmed_header, programmed_other, programmed_greatest}
 use Rattle.spec_rights.proofs.Wizards.{Plain, plain_first, plain_still, still_flags, plain_then}
+use Rattle.spec_moo.specs.Sizes.{begins_stage}
+use Rattle.spec_moo.specs.Turn.{turn}
+use Rattle.spec_rights.proofs.Acting.{turns_act}
 use Rattle.spec_rights.proofs.Steps.{lists_permit}
 
 pub first_false : (a b : Bool) → (a || b) ≡ false → a ≡ false
@@ -256,3 +259,24 @@ pub strangers_leave_alone : StrangersLeaveAlone
 strangers_leave_alone w ss o x h range is all players =
     let r = lists_permit (strange w o x) w ss h range all in
     let q = chain_quiet w o x h is players r.0 (play w ss).0 r.1.0 in (q.0.object, (q.0.there, q.0.same))
+
+pub turns_leave_alone : TurnsLeaveAlone
+turns_leave_alone k s p o x h is stranger none = go (object_at (world_after (turn s p)) o) refl
+  where
+    d : Permitted (Begun (begins_stage p) p.outer) s.world (acting p) (world_after (turn s p))
+    d = turns_act k s p h
+
+    plain : is_wizard s.world (acting p) ≡ false
+    plain = never_wizard s.world o x s.world (acting p) (plain_first s.world h.world) stranger
+
+    same : SameObject x x
+    same = (refl, ((refl, refl, refl), (refl, ((refl, refl, refl), (refl, refl)))))
+
+    gone : Taken (Begun (begins_stage p) p.outer) s.world (acting p) o → ⊥
+    gone (inl i) = no_change s.world o x s.world (acting p) x plain stranger is same i
+    gone (inr i) = none i
+
+    go : (m : Option Object) → object_at (world_after (turn s p)) o ≡ m → (y : Object) × ((object_at (world_after (turn s p)) o ≡ Some y) × SameObject x y)
+    go None e = absurd (gone (d.gone o x is e))
+    go (Some y) e =
+        (y, (e, object_same s.world o x s.world (acting p) x plain stranger is same (Begun (begins_stage p) p.outer) (world_after (turn s p)) y (d.kept o x y is e)))

@@ -9,9 +9,12 @@ use Rattle.spec_world.specs.Permissions.{wizardly, is_wizard}
 use Rattle.spec_world.proofs.Trees.{some_same}
 use Rattle.spec_moo.specs.Steps.{play}
 use Rattle.spec_rights.specs.Permitted.{Allows, SameStanding, Permitted}
-use Rattle.spec_rights.specs.Chains.{Right, to_run_as, to_take, In, Holds, Chain, starts, serves, changes, types, names, takes}
-use Rattle.spec_rights.specs.LeftAlone.{no_wizard, NoWizardsArise}
+use Rattle.spec_rights.specs.Chains.{acting, Begun, world_after, Right, to_run_as, to_take, In, Holds, Chain, starts, serves, changes, types, names, takes}
+use Rattle.spec_rights.specs.LeftAlone.{no_wizard, TurnsLeaveStanding, NoWizardsArise}
 use Rattle.spec_rights.proofs.Denied.{standing_by_wizards, administered_by_wizards, denied, not_so, same_wizards, programmed_header, programmed_greatest, beyond, within_later}
+use Rattle.spec_moo.specs.Sizes.{begins_stage}
+use Rattle.spec_moo.specs.Turn.{turn}
+use Rattle.spec_rights.proofs.Acting.{turns_act}
 use Rattle.spec_rights.proofs.Steps.{lists_permit}
 
 abbrev pub SameFlags : Object → Object → Type 0
@@ -133,3 +136,8 @@ pub no_wizards_arise : NoWizardsArise
 no_wizards_arise w ss h range all =
     let r = lists_permit (no_wizard w) w ss h range all in let p = chain_plain w h r.0 (play w ss).0 r.1.0 in
     record { same = λ o x y e d. subst (FlagsOf x) d (p.0.flags o x e); wizards = p.0.wizards }
+
+pub turns_leave_standing : TurnsLeaveStanding
+turns_leave_standing k s p h plain =
+    let q = plain_then s.world (Begun (begins_stage p) p.outer) s.world (world_after (turn s p)) (acting p) (turns_act k s p h) plain (plain_first s.world h.world) in
+    record { same = λ o x y e d. subst (FlagsOf x) d (q.flags o x e); wizards = q.wizards }

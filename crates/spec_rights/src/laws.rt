@@ -12,8 +12,8 @@ pub fn natives()
 
 ghost use Rattle.spec_rights.specs.Chains.{TurnsAct, SegmentsAct, StepsAct};
 
-/// So does each turn of a task, and each that its segment comes to: it acts as the programmer of the verb that is under way. A step changes objects by such turns, of one
-/// task, or by the program of one verb, typed by a player who is allowed to, or not at all.
+/// So does each turn of a task, and each that its segment comes to: it acts as the programmer of the verb that is under way. A step
+/// changes objects by such turns, of one task, or by the program of one verb, typed by a player who is allowed to, or not at all.
 pub fn acting()
     ensures turns { TurnsAct }
     ensures segments { SegmentsAct }
@@ -36,10 +36,20 @@ pub fn steps()
     ensures lists { ListsPermit }
 {}
 
+ghost use Rattle.spec_rights.specs.LeftAlone.{TurnsLeaveStanding, TurnsLeaveAlone, TurnsLeaveSlots};
+
+/// A turn that does not act as a wizard leaves all owners and flags; one that acts as a stranger to an object leaves it and its verbs, and
+/// one that acts as an outsider to a slot (a stranger to it and to each object above) leaves what the slot holds.
+pub fn turns()
+    ensures standing { TurnsLeaveStanding }
+    ensures alone { TurnsLeaveAlone }
+    ensures slots { TurnsLeaveSlots }
+{}
+
 ghost use Rattle.spec_rights.specs.LeftAlone.{NoWizardsArise, StrangersLeaveAlone, OutsidersLeaveSlots};
 
-/// Where no verb and no waiting task is a wizard's, nobody becomes one, and all owners and flags stay; an object and its verbs stay as
-/// they were while strangers alone run, and so does a slot while those run that are strangers to it and to each object above.
+/// Where no verb and no waiting task is a wizard's, no list of steps makes anyone one, and all owners and flags stay; an object and its
+/// verbs stay as they were while strangers alone run, and so does a slot while outsiders alone do.
 pub fn strangers()
     ensures wizards { NoWizardsArise }
     ensures alone { StrangersLeaveAlone }

@@ -1,0 +1,3 @@
+pub mod Permitted
+pub mod Chains
+pub mod LeftAlone

@@ -1,5 +1,5 @@
 //! Objects.
-ghost use Rattle.std.specs.Prelude.{◌≡◌, IfOk, OnOk, OnErr};
+ghost use Rattle.std.specs.Prelude.{◌≡◌, IfOk, OnOk, OnErr, IsTrue, IsFalse, None};
 ghost use Rattle.spec_value.specs.Datum.{fold_case};
 ghost use Rattle.spec_value.specs.Table.{named, with_name};
 ghost use Rattle.spec_world.specs.Questions.{put_part};
@@ -147,6 +147,16 @@ impl Object {
             },
         }
         Ok(())
+    }
+
+    /// Gives a slot another value where it lies, and answers whether there is such a slot. Case is ignored.
+    pub fn set_value(&mut self, name: &Text, value: Value) -> bool
+        ensures done { IsTrue result → Some self.new ≡ option_map
+            (λ s. record (self.old) { slots = with_name self.old.slots (fold_case name.now) (record s { content = Some value }) })
+            (named self.old.slots (fold_case name.now)) }
+        ensures left { IsFalse result → (named self.old.slots (fold_case name.now) ≡ None) × (self.new ≡ self.old) }
+    {
+        self.slots.set_value(name, value)
     }
 
     /// The object with another value in a slot, or None where it has no such slot.

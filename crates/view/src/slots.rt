@@ -1,5 +1,5 @@
 //! The slots of an object.
-ghost use Rattle.std.specs.Prelude.{◌≡◌, ◌<◌, ◌≤◌, ◌↔◌, IfOk, IfErr, OnOk, OnErr, IsTrue, Some, None, [], ◌∷◌, option_map, MatchOption, ℕ, slice_index_or, slice_set, insert, remove, length, vec_len};
+ghost use Rattle.std.specs.Prelude.{◌≡◌, ◌<◌, ◌≤◌, ◌↔◌, IfOk, IfErr, OnOk, OnErr, IsTrue, IsFalse, Some, None, [], ◌∷◌, option_map, MatchOption, ℕ, slice_index_or, slice_set, insert, remove, length, vec_len};
 ghost use Rattle.spec_value.specs.Datum.{Text as Characters, fold_case};
 ghost use Rattle.spec_world.specs.World.{Slot as SlotOf};
 ghost use Rattle.spec_value.specs.Table.{named, is_named, with_name, without_name};
@@ -90,6 +90,20 @@ impl Slots {
         if let Some(index) = position(&self.entries, name) {
             take_out(&mut self.entries, index);
         }
+    }
+
+    /// Gives the slot of a property another value where it lies, and answers whether there is such a slot. Case is ignored.
+    pub fn set_value(&mut self, name: &Text, value: Value) -> bool
+        ensures done { IsTrue result → Some self.new ≡ option_map
+            (λ s. with_name self.old (fold_case name.now) (record s { content = Some value }))
+            (named self.old (fold_case name.now)) }
+        ensures left { IsFalse result → (named self.old (fold_case name.now) ≡ None) × (self.new ≡ self.old) }
+    {
+        let Some(index) = position(&self.entries, name) else {
+            return false;
+        };
+        fill(&mut self.entries, index, value);
+        true
     }
 
     /// The slots with another value in one, or None where there is no such slot.

@@ -7,7 +7,7 @@ use Rattle.spec_world.specs.World.{World, Object, Slot, object_at, with_object}
 use Rattle.spec_world.specs.Inherit.{slot_of, put_slot, with_slot}
 use Rattle.spec_world.specs.Families.{change_at, change_object}
 use Rattle.spec_world.specs.Questions.{apply, new_value, put_value}
-use Rattle.world.specs.Revised.{RevisesRecord, revalued, with_content}
+use Rattle.world.specs.Revised.{RevisesRecord, revalued}
 
 -- one object changes, if it is there
 pub no_object_there : (w : World) (o : ℤ) (f : Object → Object) → None ≡ object_at w o → change_object w o f ≡ w
@@ -59,18 +59,6 @@ changed_one w o p v x (Ok y) is e = one_change w o p v x y is e
 changed_one w o p v x (Err e) is h = tt
 
 -- ---- an object that was changed where it lies
-
-abbrev with_slot_named : Object → Text → Slot → Object
-with_slot_named x p s = record x { slots = with_name x.slots (fold_case p) s }
-
-filled_mapped : (x : Object) (p : Text) (v : Datum) (s : Option Slot)
-    → option_map (with_slot_named x p) (option_map (with_content v) s) ≡ option_map (λ u. with_slot_named x p (with_content v u)) s
-filled_mapped x p v None = refl
-filled_mapped x p v (Some u) = refl
-
--- with the slot that has another value it is the object that has it
-pub refilled : (x : Object) (p : Text) (v : Datum) (t : Slot) → Some t ≡ option_map (with_content v) (named x.slots (fold_case p)) → Some (with_slot_named x p t) ≡ revalued x p v
-refilled x p v t is = ap (option_map (with_slot_named x p)) is ∙ filled_mapped x p v (named x.slots (fold_case p))
 
 pub value_revised : (w : World) (o : ℤ) (p : Text) (v : Datum) (after : Numbered Object) → RevisesRecord (λ x y. Some y ≡ revalued x p v) o w.objects after
     → record w { objects = after } ≡ apply (new_value o p v) w

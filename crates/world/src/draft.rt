@@ -451,7 +451,7 @@ impl Draft {
     {
         match change {
             Change::Part(number, part) => self.put_part(number, part),
-            Change::Value(number, name, value) => self.put_value(number, &name, value),
+            Change::Value(number, name, value) => self.put_value(number, &name, &value),
             Change::Object(number, object) => set_record(&mut self.objects, number, object),
             Change::Task(id, task) => self.tasks.put(id, task),
             Change::Link(number, link) => set_record(&mut self.links, number, link),
@@ -468,6 +468,27 @@ impl Draft {
                 Ok(())
             }
         }
+    }
+
+    /// A change that somebody else keeps.
+    pub fn put_kept(&mut self, change: &Change) -> Result<(), AllocError>
+        ensures ok { OnOk result (self.new ≡ apply (change_of change.now) self.old) }
+        ensures err { OnErr result (self.new ≡ self.old) }
+    {
+        match change {
+            Change::Value(number, name, value) => self.put_value(*number, name, value),
+            _ => self.put_copy(change),
+        }
+    }
+
+    // The same by a copy.
+    #[inline(never)]
+    fn put_copy(&mut self, change: &Change) -> Result<(), AllocError>
+        ensures ok { OnOk result (self.new ≡ apply (change_of change.now) self.old) }
+        ensures err { OnErr result (self.new ≡ self.old) }
+    {
+        let copy = change.clone()?;
+        self.put(copy)
     }
 
     // Another part of an object, if it is there.
@@ -502,13 +523,23 @@ impl Draft {
     }
 
     // Another value in a slot, if there is one.
-    fn put_value(&mut self, number: i32, name: &Text, value: Value) -> Result<(), AllocError>
-        ensures ok { OnOk result (self.new ≡ apply (new_value number name.now value) self.old) }
+    fn put_value(&mut self, number: i32, name: &Text, value: &Value) -> Result<(), AllocError>
+        ensures ok { OnOk result (self.new ≡ apply (new_value number name.now value.now) self.old) }
         ensures err { OnErr result (self.new ≡ self.old) }
     {
-        if self.revise_value(number, name, &value)? {
+        if self.revise_value(number, name, value)? {
             return Ok(());
         }
+        self.put_value_anew(number, name, value)
+    }
+
+    // The same where another draft may share the object.
+    #[inline(never)]
+    fn put_value_anew(&mut self, number: i32, name: &Text, value: &Value) -> Result<(), AllocError>
+        ensures ok { OnOk result (self.new ≡ apply (new_value number name.now value.now) self.old) }
+        ensures err { OnErr result (self.new ≡ self.old) }
+    {
+        let value = value.clone()?;
         let Some(changed) = self.with_value(number, name, value)? else {
             return Ok(());
         };
@@ -521,11 +552,7 @@ impl Draft {
         ensures left { IfOk result (λ b. b ≡ false → self.new ≡ self.old) }
         ensures err { OnErr result (self.new ≡ self.old) }
     {
-        let revision = NewValue {
-            alloc: self.alloc,
-            name,
-            value,
-        };
+        let revision = NewValue { name, value };
         let done = revise_record(&mut self.objects, number, &revision)?;
         Ok(done)
     }

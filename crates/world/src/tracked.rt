@@ -132,7 +132,7 @@ impl<'s> View for Tracked<'s> {
 
     #[tactic(auto, using(crate::proofs::History::apply_all_last))]
     fn put(&mut self, change: Change) -> Result<(), AllocError> {
-        put_on(self.snapshot, &mut self.fork, change.clone()?)?;
+        put_on(self.snapshot, &mut self.fork, &change)?;
         if self.changes.push(change).is_err() {
             forget(&mut self.fork, &mut self.changes, self.alloc);
             return Err(AllocError);
@@ -142,12 +142,12 @@ impl<'s> View for Tracked<'s> {
 }
 
 // A change of a fork of a snapshot, or of one that is begun by it.
-fn put_on(snapshot: &Snapshot, fork: &mut Option<Draft>, change: Change) -> Result<(), AllocError>
-    ensures ok { OnOk result (unwrap_or fork.new snapshot.now ≡ apply (change_of change) (unwrap_or fork.old snapshot.now)) }
+fn put_on(snapshot: &Snapshot, fork: &mut Option<Draft>, change: &Change) -> Result<(), AllocError>
+    ensures ok { OnOk result (unwrap_or fork.new snapshot.now ≡ apply (change_of change.now) (unwrap_or fork.old snapshot.now)) }
     ensures err { OnErr result (fork.new ≡ fork.old) }
 {
     match fork {
-        Some(draft) => draft.put(change),
+        Some(draft) => draft.put_kept(change),
         None => {
             *fork = Some(begun(snapshot, change)?);
             Ok(())
@@ -157,11 +157,11 @@ fn put_on(snapshot: &Snapshot, fork: &mut Option<Draft>, change: Change) -> Resu
 
 // A snapshot's records with a first change.
 #[inline(never)]
-fn begun(snapshot: &Snapshot, change: Change) -> Result<Draft, AllocError>
-    ensures { IfOk result (λ d. d ≡ apply (change_of change) snapshot.now) }
+fn begun(snapshot: &Snapshot, change: &Change) -> Result<Draft, AllocError>
+    ensures { IfOk result (λ d. d ≡ apply (change_of change.now) snapshot.now) }
 {
     let mut draft = snapshot.share()?;
-    draft.put(change)?;
+    draft.put_kept(change)?;
     Ok(draft)
 }
 

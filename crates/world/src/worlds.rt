@@ -141,7 +141,7 @@ impl World {
     {
         let mut draft = self.draft.share()?;
         for change in changes.as_slice() {
-            draft.put(change.clone()?)?;
+            draft.put_kept(change)?;
         }
         Ok(draft)
     }

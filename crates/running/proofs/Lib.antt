@@ -24,3 +24,4 @@ pub mod ToldLines
 pub mod Queueing
 pub mod Tops
 pub mod Onward
+pub mod Appending

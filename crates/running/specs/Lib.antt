@@ -13,3 +13,4 @@ pub mod Steps
 pub mod Stopping
 pub mod Closing
 pub mod Onward
+pub mod Appending

@@ -1,4 +1,5 @@
 //! The loop of the machine: tasks run over a view of the world, with the built-in functions that they are given.
+mod append;
 pub mod calling;
 mod forking;
 pub mod leaving;

@@ -1,5 +1,5 @@
 -- Each change keeps a board honest.
-use Rattle.std.proofs.Common.{◌≡◌, ℕ, zero, suc, ◌+◌, ◌<◌, ◌≤◌, List, [], ◌∷◌, ◌++◌, length, take, IsTrue, Some, None, slice_get, slice_set, inl, inr, refl, sym, ap, subst, ◌∙◌, arith, length-append, length-drop}
+use Rattle.std.proofs.Common.{Bool, true, false, if◌then◌else◌, ◌≡◌, ℕ, zero, suc, ◌+◌, ◌<◌, ◌≤◌, List, [], ◌∷◌, ◌++◌, length, take, IsTrue, Some, None, slice_get, slice_set, inl, inr, refl, sym, ap, subst, ◌∙◌, arith, length-append, length-drop}
 use Rattle.std.proofs.lemmas.List.{take_all}
 use Rattle.std.proofs.lemmas.List.Elements.{All-set, All-replicate}
 use Rattle.std.proofs.lemmas.Option.{slice_get_within, slice_get_cases}
@@ -16,7 +16,7 @@ use Rattle.speculate.specs.declared.held.Mark.{Mark}
 use Rattle.speculate.specs.declared.held.Mark.TheVariants.{Kept, Rerun, Lost}
 use Rattle.speculate.specs.Right.{Guessed, IsRight, after_guess}
 use Rattle.speculate.specs.BoardState.{BoardState, FitsStep, runs, IsHonest, IsSeen, opened_on, with_held, world_after}
-use Rattle.speculate.specs.Verbs.{SameVerbs, IsWithin, KnowsVerbs}
+use Rattle.speculate.specs.Verbs.{SameVerbs, KnowsVerbs}
 use Rattle.speculate.specs.Progress.{Committed, Commits, with_commit, IsSince, Advances, ready, rest, IsUndone, StaysPut, AdvancesInPart, AllHeld}
 use Rattle.speculate.proofs.Places.{fits_at, fits_set, fits_any, fits_empty, fits_length, ready_more, ready_all, held_at, set_back, set_get}
 use Rattle.speculate.proofs.Plays.{play_more, play_none, range_at}
@@ -241,6 +241,12 @@ ended_plays b honest end =
 
 -- ---- the next commit, by its parts
 
+-- a step that leaves the verbs, or may have changed some
+pub since_is : (b : BoardState) (w : Counted) (leaves : Bool) (at since : ℕ) → at ≡ length b.outcomes → since ≡ (if leaves then b.since else suc at)
+    → (IsTrue leaves → SameVerbs b.world.plain w.plain) → IsSince b w since
+since_is b w true at since here is same = inl (is, same refl)
+since_is b w false at since here is same = inr (is ∙ ap suc here)
+
 pub commit_at : (b : BoardState) (at : ℕ) (s : Step) (h : Held) (w : Counted) (o : Outcome) (m : Mark) (os : List Outcome) (ms : List Mark) (hs : List Held) (n : ℕ)
     → at ≡ length b.outcomes → slice_get b.steps at ≡ Some s → slice_get b.held at ≡ Some h → Committed b.world s h w o m
     → os ≡ b.outcomes ++ o ∷ [] → ms ≡ b.marks ++ m ∷ [] → hs ≡ slice_set b.held at Empty → n ≡ b.undone → (since : ℕ) → IsSince b w since
@@ -276,11 +282,11 @@ knows_verbs b at h honest is = go h (held_at (IsSeen b.base.plain b.steps) b.hel
 pub found_keeps : (b : BoardState) (at : ℕ) (s : Step) (g : Guessed) (w : Counted) (os : List Outcome) (ms : List Mark)
     → IsHonest b → at ≡ length b.outcomes → slice_get b.steps at ≡ Some s → slice_get b.held at ≡ Some Empty → g.step ≡ s → IsRight g → Agrees b.world.plain g.reads
     → w ≡ record { plain = after_guess g b.world.plain; opened = b.world.opened } → os ≡ b.outcomes ++ g.outcome ∷ [] → ms ≡ b.marks ++ Kept ∷ []
-    → IsHonest record { base = b.base; steps = b.steps; world = w; outcomes = os; marks = ms; held = b.held; undone = b.undone; since = suc at }
+    → IsHonest record { base = b.base; steps = b.steps; world = w; outcomes = os; marks = ms; held = b.held; undone = b.undone; since = at + 1 }
 found_keeps b at s g w os ms honest here s_at free same right agrees w_is os_is ms_is =
     let h : BoardState = with_held b at (Holds g None) in
     let held : IsHonest h = holding_keeps b at s (Holds g None) honest s_at (same, right) tt in
     let c = commit_at h at s (Holds g None) w g.outcome Kept os ms (slice_set h.held at Empty) b.undone here s_at (set_get b.held at (Holds g None) Empty free)
-    (inl (agrees, w_is, refl, refl)) os_is ms_is refl refl (suc at) (inr (ap suc here)) in
-    let P : List Held → Type 0 = λ x. IsHonest record { base = b.base; steps = b.steps; world = w; outcomes = os; marks = ms; held = x; undone = b.undone; since = suc at } in
+    (inl (agrees, w_is, refl, refl)) os_is ms_is refl refl (at + 1) (inr (omega (arith, here))) in
+    let P : List Held → Type 0 = λ x. IsHonest record { base = b.base; steps = b.steps; world = w; outcomes = os; marks = ms; held = x; undone = b.undone; since = at + 1 } in
     subst P (set_back b.held at Empty (Holds g None) free) (commits_keeps h _ held c)

@@ -1,5 +1,7 @@
 -- What positions hold.
-use Rattle.std.proofs.Common.{◌≡◌, ℕ, zero, suc, ◌<◌, ◌≤◌, List, [], ◌∷◌, All, length, drop, replicate, Some, None, slice_get, slice_set, refl, ap, subst, arith}
+use Rattle.std.proofs.Common.{◌∙◌, get_or, inl, inr, ◌≡◌, ℕ, zero, suc, ◌<◌, ◌≤◌, List, [], ◌∷◌, length, drop, replicate, Some, None, slice_get, slice_set, refl, ap, subst, arith}
+use Rattle.std.specs.List.{All}
+use Rattle.std.proofs.lemmas.Option.{slice_get_cases, slice_get_within}
 use Rattle.spec_world.specs.Step.{Step}
 use Rattle.speculate.specs.declared.held.Held.{Held}
 use Rattle.speculate.specs.declared.held.Held.TheVariants.{Empty, Loss, Holds}
@@ -92,10 +94,11 @@ set_not_empty (h ∷ hs) (suc k) is = set_not_empty hs k is
 
 -- what holds of each place holds of what one holds
 pub held_at : (P : Held → Type 0) (hs : List Held) (k : ℕ) (h : Held) → All P hs → slice_get hs k ≡ Some h → P h
-held_at P [] k h all is = cc
-held_at P (y ∷ hs) zero h all is =
-    let e : y ≡ h = cc in subst P e all.0
-held_at P (y ∷ hs) (suc k) h all is = held_at P hs k h all.1 is
+held_at P hs k h all is = elim (slice_get_cases hs k).1 [ inl a ↦ there a.0 a.1 a.2 a.3 | inr a ↦ absurd (omega (arith, a.0, slice_get_within hs k h is)) ]
+  where
+    there : (x : Held) → k < length hs → slice_get hs k ≡ Some x → get_or hs k x ≡ x → P h
+    there x within is_x at_x =
+        let e : x ≡ h = cc in subst P (at_x ∙ e) (all k x within)
 
 pub set_back : (hs : List Held) (k : ℕ) (h e : Held) → slice_get hs k ≡ Some h → slice_set (slice_set hs k e) k h ≡ hs
 set_back [] k h e is = cc

@@ -1,7 +1,8 @@
 -- A step run over nothing but its reads.
-use Rattle.std.proofs.Common.{◌≡◌, List, [], sym, subst}
+use Rattle.std.proofs.Common.{◌≡◌, List, [], Option, Some, None, IfSome, sym, ap, subst, ◌∙◌}
+use Rattle.std.specs.Option.{unwrap_or}
 use Rattle.spec_world.specs.World.{World}
-use Rattle.spec_world.specs.Questions.{Read, Change}
+use Rattle.spec_world.specs.Questions.{Read, Change, Agrees, apply_all}
 use Rattle.spec_world.specs.Step.{Step}
 use Rattle.spec_world.specs.Outcome.{Outcome}
 use Rattle.spec_moo.specs.Steps.{play1}
@@ -29,3 +30,17 @@ pub right_at : (home : World) (s s' : Step) (old new : Trace) (rs : List Read) (
 right_at home s s' old new rs cs o empty same reads changes goes =
     let G : Trace → Type 0 = λ t. Goes IsStart world_now t new (λ before after. StepsTo (play1 before s) after o) in
     rw (same, reads, changes) (right_guess home s new o (subst G empty goes))
+
+-- the world that it began with stays its home
+pub same_home : (now before : World) (old new : Trace) → old ≡ nothing_yet now → new.home ≡ old.home → before ≡ now → before ≡ new.home
+same_home now before old new empty home is = is ∙ sym (home ∙ ap (λ (t : Trace). t.home) empty)
+
+-- which agrees with what was read
+pub home_agrees : (before : World) (t : Trace) (rs : List Read) → before ≡ t.home → rs ≡ t.reads → Agrees t.home t.reads → Agrees before rs
+home_agrees before t rs home reads agrees = rw (home, reads) agrees
+
+-- and becomes what came of it, where records have that
+pub records_at : (before : World) (t : Trace) (cs : List Change) (fork : Option World) → before ≡ t.home → cs ≡ t.changes
+    → unwrap_or fork t.home ≡ apply_all t.changes t.home → IfSome fork (λ d. d ≡ apply_all cs before)
+records_at before t cs None home changes is = tt
+records_at before t cs (Some d) home changes is = rw (home, changes) is

@@ -1,7 +1,7 @@
 -- Over every schedule.
 use Rattle.std.proofs.Common.{None, List, [], ◌∷◌, inl, inr, refl, sym, subst}
-use Rattle.speculate.specs.declared.held.Held.TheVariants.{Loss, Holds}
-use Rattle.speculate.specs.BoardState.{BoardState, IsHonest, with_held}
+use Rattle.speculate.specs.declared.held.Held.TheVariants.{Holds}
+use Rattle.speculate.specs.BoardState.{BoardState, IsHonest}
 use Rattle.speculate.specs.Progress.{ready, rest}
 use Rattle.speculate.specs.Events.{Event, Claim, Post, Lose, Advance, Scene, Happens, IsFair, AllFair, Leads, at_start, StaysHonest, IsAdvanced}
 use Rattle.speculate.proofs.Honest.{advances_keep, part_keeps, holding_keeps, lose_keeps, opened_honest}

@@ -1,17 +1,16 @@
 -- Verbs that stay, and what agrees then.
-use Rattle.std.proofs.Common.{◌≡◌, ℤ, Bool, true, false, cond, List, [], ◌∷◌, Option, Some, None, option_map, IsTrue, IsFalse, refl, sym, ap, ◌∙◌}
+use Rattle.std.proofs.Common.{◌≡◌, ℤ, Bool, true, false, cond, List, [], ◌∷◌, Option, Some, None, option_map, IsTrue, IsFalse, refl, ap, ◌∙◌}
 use Rattle.std.specs.Ordering.{int_eq}
 use Rattle.std.specs.List.{list_all}
 use Rattle.spec_value.specs.Datum.{Datum, Text}
 use Rattle.spec_value.proofs.Entries.{first_holds, second_holds}
-use Rattle.spec_world.specs.World.{World, Object, Slot, Verb, object_at}
+use Rattle.spec_world.specs.World.{World, Object, Slot, object_at}
 use Rattle.spec_world.specs.Inherit.{slot_at, put_slot, with_slot}
 use Rattle.spec_world.specs.Families.{change_object}
 use Rattle.spec_world.specs.Questions.{Question, about_header, about_children, about_contents, about_defines, about_slot, about_verbs, about_task, about_waiting, about_link, about_readers, about_connections, about_connected, about_greatest, about_ending, the_verbs, verbs_at, Answer, ask, Read, Agrees, Part, new_header, new_children, new_contents, new_defines, new_verbs, new_slot, put_part, Change, new_part, new_value, new_object, new_task, new_link, new_greatest, new_ending, new_next, put_value, apply, apply_all}
 use Rattle.spec_world.proofs.ObjectChanges.{at_change}
 use Rattle.world.specs.Besides.{is_about_verbs, AgreesBesides}
 use Rattle.world.proofs.Local.{facet_stays}
-use Rattle.speculate.specs.Right.{Guessed, after_guess}
 use Rattle.speculate.specs.Verbs.{SameVerbs, leaves_verbs, all_leave_verbs}
 
 -- ---- changes that leave verbs as they are

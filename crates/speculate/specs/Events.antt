@@ -1,5 +1,5 @@
 -- What may happen to the positions and the board of a list, in any order.
-use Rattle.std.specs.Prelude.{◌≡◌, ℕ, suc, ◌≤◌, ◌<◌, ◌⊎◌, List, [], ◌∷◌, ◌++◌, length, Some, None, slice_get, slice_set}
+use Rattle.std.specs.Prelude.{◌≡◌, ℕ, suc, ◌<◌, ◌⊎◌, List, [], ◌∷◌, ◌++◌, length, Some, None, slice_get, slice_set}
 use Rattle.spec_world.specs.Step.{Step, RunsOn, AllInRange}
 use Rattle.world.specs.Counted.{Counted}
 use Rattle.view.specs.Sound.{IsSound}

@@ -2,7 +2,7 @@
 use Rattle.std.specs.Prelude.{◌≡◌, ℕ, ◌≤◌, ℤ, Bool, true, false, List, Option, None, Some}
 use Rattle.std.specs.List.{list_all}
 use Rattle.spec_world.specs.World.{World}
-use Rattle.spec_world.specs.Questions.{verbs_at, Change, new_part, new_object, Part, new_verbs}
+use Rattle.spec_world.specs.Questions.{verbs_at, Change, new_part, new_object, new_verbs}
 use Rattle.speculate.specs.declared.held.Held.{Held}
 use Rattle.speculate.specs.declared.held.Held.TheVariants.{Empty, Loss, Holds}
 

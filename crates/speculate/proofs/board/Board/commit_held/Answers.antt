@@ -1,9 +1,10 @@
-use Rattle.std.proofs.Common.{◌≡◌, [], ◌∷◌, ◌++◌, length, Some, slice_get, inl, refl, sym, subst, arith}
+use Rattle.std.proofs.Common.{ℕ, ◌≡◌, [], ◌∷◌, ◌++◌, length, Some, slice_get, inl, refl, sym, subst, arith}
 use Rattle.std.proofs.lemmas.Option.{slice_get_read, slice_get_within}
 use Rattle.speculate.specs.declared.held.Held.TheVariants.{Empty}
 use Rattle.speculate.specs.BoardState.{BoardState}
 use Rattle.speculate.specs.Progress.{IsNextHeld, Commits, StaysPut}
-use Rattle.speculate.proofs.Honest.{commits_keeps, commit_at, stays_keep, stays_at}
+use Rattle.speculate.specs.Verbs.{KnowsVerbs}
+use Rattle.speculate.proofs.Honest.{commits_keeps, commit_at, since_is, stays_keep, stays_at, knows_verbs}
 use Rattle.speculate.proofs.Places.{fits_at, fits_length, length_set, restored}
 use Rattle.speculate.proofs.Plays.{range_at}
 use Rattle.speculate.proofs.Seen.{seen}
@@ -48,7 +49,7 @@ commit-requires-clause-fits c =
     let at : slice_get c.self.inside.steps.items c.len-at.result ≡ Some c.index.result.now = slice_get_read c.self.inside.steps.items (length c.self.inside.steps.items) c.len-at.result c.index.result.now refl (omega arith) c.index.ensures in
     fits_at c.self.inside.steps.items c.self.inside.held.items c.len-at.result c.index.result.now c.take_out-held.result c.self.invariant.held at c.take_out-held.ensures.value
 
-made : (c : goal.After-push_reserved-in-Ok) → Commits (seen c.self.inside) record { base = c.self.inside.base.value; steps = c.self.inside.steps.items; world = c.commit.new.world; outcomes = c.push_reserved.new.self.items; marks = c.push_reserved-in-Ok.new.self.items; held = c.take_out-held.new.held.items; undone = c.commit.new.undone; since = c.self.inside.since }
+made : (c : goal.After-self-1) → Commits (seen c.self.inside) record { base = c.self.inside.base.value; steps = c.self.inside.steps.items; world = c.commit.new.world; outcomes = c.push_reserved.new.self.items; marks = c.push_reserved-in-Ok.new.self.items; held = c.take_out-held.new.held.items; undone = c.commit.new.undone; since = c.since_after-self-inside.result }
 made c =
     let w = slice_get_within c.self.inside.held.items c.len-at.result c.take_out-held.result c.take_out-held.ensures.value in
     let e = fits_length c.self.inside.steps.items c.self.inside.held.items c.self.invariant.held in
@@ -58,13 +59,15 @@ made c =
     commit_at (seen c.self.inside) c.len-at.result c.index.result.now c.take_out-held.result c.commit.new.world c.in-Ok.done.outcome c.in-Ok.done.mark
     c.push_reserved.new.self.items c.push_reserved-in-Ok.new.self.items c.take_out-held.new.held.items c.commit.new.undone
     (omega arith) at c.take_out-held.ensures.value c.in-Ok.ensures.ok.0 os ms c.take_out-held.ensures.rest c.in-Ok.ensures.ok.1
+    c.since_after-self-inside.result
+    (since_is (seen c.self.inside) c.commit.new.world c.in-Ok.done.leaves_verbs c.len-at.result c.since_after-self-inside.result (omega arith) c.since_after-self-inside.ensures c.in-Ok.ensures.verbs)
 
 pub invariant_of-self-in-Ok : goal.invariant_of-self-in-Ok
 invariant_of-self-in-Ok c = commits_keeps (seen c.self.inside) _ c.self.invariant (made c)
 
 pub returns-in-Ok-clause-ok : goal.returns-in-Ok-clause-ok
 returns-in-Ok-clause-ok c =
-    let P : BoardState → Type 0 = λ v. Commits v record { base = c.self.inside.base.value; steps = c.self.inside.steps.items; world = c.commit.new.world; outcomes = c.push_reserved.new.self.items; marks = c.push_reserved-in-Ok.new.self.items; held = c.take_out-held.new.held.items; undone = c.commit.new.undone; since = c.self.inside.since } in
+    let P : BoardState → Type 0 = λ v. Commits v record { base = c.self.inside.base.value; steps = c.self.inside.steps.items; world = c.commit.new.world; outcomes = c.push_reserved.new.self.items; marks = c.push_reserved-in-Ok.new.self.items; held = c.take_out-held.new.held.items; undone = c.commit.new.undone; since = c.since_after-self-inside.result } in
     subst P c.self.view_is (made c)
 
 pub put_back-requires : goal.put_back-requires
@@ -86,3 +89,9 @@ pub returns-in-Err-clause-err : goal.returns-in-Err-clause-err
 returns-in-Err-clause-err c =
     let P : BoardState → Type 0 = λ v. StaysPut v record { base = c.self.inside.base.value; steps = c.self.inside.steps.items; world = c.commit.new.world; outcomes = c.reserve.new.self.items; marks = c.reserve-2.new.self.items; held = c.put_back.new.held.items; undone = c.commit.new.undone; since = c.self.inside.since } in
     subst P c.self.view_is (left c)
+
+pub commit-requires-clause-steady : goal.commit-requires-clause-steady
+commit-requires-clause-steady c =
+    let here : length c.self.inside.outcomes.items ≡ c.len-at.result = omega arith in
+    let P : ℕ → Type 0 = λ n. KnowsVerbs c.take_out-held.result c.self.inside.since n c.self.inside.world.plain in
+    subst P here (knows_verbs (seen c.self.inside) c.len-at.result c.take_out-held.result c.self.invariant c.take_out-held.ensures.value)

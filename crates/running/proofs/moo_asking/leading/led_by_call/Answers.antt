@@ -1,4 +1,4 @@
-use Rattle.std.proofs.Common.{◌∙◌, ap, subst}
+use Rattle.std.proofs.Common.{◌≡◌, ◌∙◌, ap, subst}
 use Rattle.moo_task.specs.Outcomes.{around}
 use Rattle.running.specs.Called.{shown_called, HasList}
 use Rattle.running.proofs.Asked.{entered}

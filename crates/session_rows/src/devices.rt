@@ -1,6 +1,8 @@
 //! Readers and writers in memory, and calls of them that fail.
 ghost use Rattle.std.specs.Prelude.{◌≡◌, ◌+◌, IfOk};
 
+use std::alloc::{AllocError, Global};
+use std::collections::VecDeque;
 use std::io;
 use streams::sink::Sink;
 use streams::source::Source;
@@ -55,19 +57,23 @@ impl Fault {
 /// A reader of bytes, one in each read.
 #[derive(Drop)]
 pub struct Given {
-    rest: Vec<u8>,
+    rest: VecDeque<u8>,
     fault: Fault,
     failures: Count,
 }
 
 impl Given {
     /// A reader of these bytes.
-    pub fn new(rest: Vec<u8>, fault: Fault) -> Given {
-        Given {
+    pub fn new(alloc: Global, bytes: &[u8], fault: Fault) -> Result<Given, AllocError> {
+        let mut rest = VecDeque::new(alloc);
+        for byte in bytes {
+            rest.push_back(*byte)?;
+        }
+        Ok(Given {
             rest,
             fault,
             failures: Count::zero(),
-        }
+        })
     }
 }
 
@@ -81,11 +87,16 @@ impl Source for Given {
             self.failures.tick();
             return Err(io::ErrorKind::Other.into());
         }
-        if buffer.is_empty() || self.rest.is_empty() {
+        if buffer.is_empty() {
             return Ok(0);
         }
-        buffer[0] = self.rest.remove(0);
-        Ok(1)
+        match self.rest.pop_front() {
+            Some(byte) => {
+                buffer[0] = byte;
+                Ok(1)
+            }
+            None => Ok(0),
+        }
     }
 }
 
@@ -99,10 +110,10 @@ pub struct Kept {
 }
 
 impl Kept {
-    /// A writer that has room for more bytes, and nothing yet.
-    pub fn new(bytes: Vec<u8>, fault: Fault, failure: Failure) -> Kept {
+    /// A writer that has nothing yet.
+    pub fn new(alloc: Global, fault: Fault, failure: Failure) -> Kept {
         Kept {
-            bytes,
+            bytes: Vec::new(alloc),
             fault,
             failure,
             failures: Count::zero(),

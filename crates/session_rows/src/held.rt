@@ -93,11 +93,9 @@ pub fn hold<G: Gate, R: Threads + Wait + Sync + AllocGlobal>(
 
 fn sources(alloc: Global, streams: &[&[u8]], broken: Broken) -> Result<Vec<Given>, AllocError> {
     let mut sources = Vec::new(alloc);
-    let mut connection = 1;
-    for stream in streams {
-        let bytes = Vec::from_slice(alloc, *stream)?;
-        sources.push(Given::new(bytes, broken.of_reader(connection)))?;
-        connection = usize::saturating_add(connection, 1);
+    for at in 0..streams.len() {
+        let fault = broken.of_reader(at + 1);
+        sources.push(Given::new(alloc, streams[at], fault)?)?;
     }
     Ok(sources)
 }
@@ -106,7 +104,7 @@ fn sinks(alloc: Global, count: usize, broken: Broken) -> Result<Vec<Kept>, Alloc
     let mut sinks = Vec::new(alloc);
     for at in 0..count {
         let fault = broken.of_writer(at + 1);
-        sinks.push(Kept::new(Vec::new(alloc), fault, broken.failure()))?;
+        sinks.push(Kept::new(alloc, fault, broken.failure()))?;
     }
     Ok(sinks)
 }

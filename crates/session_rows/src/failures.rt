@@ -10,17 +10,20 @@ use std::thread::Threads;
 use world::worlds::Snapshot;
 use world_fixture::fixture::fixture;
 
-/// What the connections send: three lines, with a question and an option.
-const STREAMS: [&[u8]; 2] = [b"lo\xff\xf6oks\r\n", b"\xff\xfd\x01count\r\nlooks\r\n"];
+/// What the connections send: four lines, with a question and an option.
+const STREAMS: [&[u8]; 2] = [
+    b"lo\xff\xf6oks\r\n",
+    b"\xff\xfd\x01count\r\nlooks\r\nsit\r\n",
+];
 
 /// What they are written.
 const TEXTS: [&[u8]; 2] = [
     b"[Yes]\r\nI couldn't understand that.\r\n",
-    b"\xff\xfc\x01I couldn't understand that.\r\n",
+    b"\xff\xfc\x01I couldn't understand that.\r\nI couldn't understand that.\r\n",
 ];
 
-/// The number of the step after theirs: two connections are opened, say three lines and are closed.
-const NEXT: u64 = 8;
+/// The number of the step after theirs: two connections are opened, say four lines and are closed.
+const NEXT: u64 = 9;
 
 // What is written to them where a write to one of them fails after so many: to the earlier one all, to the later one nothing.
 fn texts_until(connection: usize, writes: usize) -> [&'static [u8]; 2] {
@@ -67,7 +70,7 @@ fn others<R: Threads + Wait + Sync + AllocGlobal>(
 #[test]
 fn each_read_fails(rt: HostRuntime) -> Result<(), Fail> {
     let before = fixture(rt.alloc())?.snapshot()?;
-    for (connection, reads) in [(1, 10), (2, 18)] {
+    for (connection, reads) in [(1, 10), (2, 23)] {
         for after in 0..reads {
             let broken = Broken::Read(connection, after);
             let refused = Some(Refused::Read(connection));
@@ -81,7 +84,7 @@ fn each_read_fails(rt: HostRuntime) -> Result<(), Fail> {
 #[test]
 fn each_write_fails(rt: HostRuntime) -> Result<(), Fail> {
     let world = world_after(&rt)?;
-    for (connection, writes) in [(1, 8), (2, 7)] {
+    for (connection, writes) in [(1, 8), (2, 13)] {
         for after in 0..writes {
             for failure in [Failure::Error, Failure::Nothing] {
                 let broken = Broken::Write(connection, after, failure);
@@ -102,9 +105,9 @@ fn none_fails(rt: HostRuntime) -> Result<(), Fail> {
     let world = world_after(&rt)?;
     for broken in [
         Broken::Read(1, 10),
-        Broken::Read(2, 18),
+        Broken::Read(2, 23),
         Broken::Write(1, 8, Failure::Error),
-        Broken::Write(2, 7, Failure::Nothing),
+        Broken::Write(2, 13, Failure::Nothing),
     ] {
         assert_eq!(rt; others(&rt, broken, None, &world, TEXTS)?.as_str(), "");
     }

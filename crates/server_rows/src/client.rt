@@ -1,5 +1,5 @@
 //! A client of the server.
-use std::alloc::{AllocError, Global};
+use std::alloc::Global;
 use std::io::{Read, Write};
 use std::net::{Net, SocketAddr, TcpStream};
 use std::rt::Clock;
@@ -55,8 +55,14 @@ pub fn talk<R: Net<Stream = TcpStream> + Clock>(
     Ok(others)
 }
 
-/// Has the server end, on a link of its own.
-pub fn shut_down<N: Net<Stream = TcpStream>>(net: &N, address: SocketAddr) -> io::Result<()> {
+/// Has the server end, on a link of its own. Gives all that it is told there.
+pub fn shut_down<N: Net<Stream = TcpStream>>(
+    net: &N,
+    alloc: Global,
+    address: SocketAddr,
+) -> io::Result<String> {
     let mut socket = TcpStream::connect(net, address)?;
-    socket.write_all(b"connect #4\r\n;shutdown()\r\n")
+    socket.set_read_timeout(Some(Duration::from_secs(PATIENCE)))?;
+    socket.write_all(b"connect #4\r\n;shutdown()\r\n")?;
+    io::read_to_string(alloc, socket)
 }

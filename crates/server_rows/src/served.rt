@@ -56,6 +56,6 @@ fn visit<R: Net<Stream = TcpStream> + Clock>(
     turns: &[Turn],
 ) -> io::Result<String> {
     let others = talk(rt, alloc, address, turns);
-    shut_down(rt, address)?;
+    shut_down(rt, alloc, address)?;
     others
 }

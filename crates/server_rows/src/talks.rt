@@ -25,8 +25,9 @@ fn cut_anywhere(alloc: Global) -> Result<Vec<Turn>, AllocError> {
         b";set_verb_code(#3, \"look\", {\"notify(player, verb);\"})\r\n",
         b"",
     ))?;
-    for at in 0..STREAM.len() {
-        let (first, second) = STREAM.split_at(at);
+    let stream = STREAM;
+    for at in 0..stream.len() {
+        let (first, second) = stream.split_at(at);
         turns.push(Turn {
             first,
             second,

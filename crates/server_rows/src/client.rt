@@ -21,7 +21,7 @@ pub struct Turn {
 }
 
 /// What it says in one piece.
-pub fn turn(said: &'static [u8], told: &'static [u8]) -> Turn {
+pub fn at_once(said: &'static [u8], told: &'static [u8]) -> Turn {
     Turn {
         first: said,
         second: b"",

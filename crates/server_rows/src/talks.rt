@@ -1,5 +1,5 @@
 //! What clients say and are told.
-use crate::client::{Turn, turn};
+use crate::client::{Turn, at_once};
 use crate::served::others;
 use std::alloc::{AllocError, Global};
 use std::test::Fail;
@@ -19,9 +19,9 @@ const TOLD: &[u8] = b"\xff\xfc\x01look\r\n";
 // A player logs in, has `look` tell the word by which it is called, and says the line, cut at each of its bytes in turn.
 fn cut_anywhere(alloc: Global) -> Result<Vec<Turn>, AllocError> {
     let mut turns = Vec::new(alloc);
-    turns.push(turn(b"", GREETING))?;
-    turns.push(turn(b"connect #4\r\n", CONNECTED))?;
-    turns.push(turn(
+    turns.push(at_once(b"", GREETING))?;
+    turns.push(at_once(b"connect #4\r\n", CONNECTED))?;
+    turns.push(at_once(
         b";set_verb_code(#3, \"look\", {\"notify(player, verb);\"})\r\n",
         b"",
     ))?;
@@ -45,7 +45,10 @@ fn an_option_in_a_line(rt: HostRuntime) -> Result<(), Fail> {
 
 #[test]
 fn the_wizard(rt: HostRuntime) -> Result<(), Fail> {
-    let turns = [turn(b"", GREETING), turn(b"connect #2\r\n", CONNECTED)];
+    let turns = [
+        at_once(b"", GREETING),
+        at_once(b"connect #2\r\n", CONNECTED),
+    ];
     let turns = Vec::from_slice(rt.alloc(), &turns)?;
     assert_eq!(rt; others(rt, turns)?.as_str(), "");
     Ok(())
@@ -54,9 +57,9 @@ fn the_wizard(rt: HostRuntime) -> Result<(), Fail> {
 #[test]
 fn a_player(rt: HostRuntime) -> Result<(), Fail> {
     let turns = [
-        turn(b"", GREETING),
-        turn(b"connect #5\r\n", CONNECTED),
-        turn(b"looks\r\n", b"I couldn't understand that.\r\n"),
+        at_once(b"", GREETING),
+        at_once(b"connect #5\r\n", CONNECTED),
+        at_once(b"looks\r\n", b"I couldn't understand that.\r\n"),
     ];
     let turns = Vec::from_slice(rt.alloc(), &turns)?;
     assert_eq!(rt; others(rt, turns)?.as_str(), "");

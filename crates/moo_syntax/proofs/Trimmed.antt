@@ -24,7 +24,9 @@ use Rattle.reader_frames.specs.declared.state.Part.TheVariants as part
 use Rattle.reader_frames.specs.declared.state.Next.{Next}
 use Rattle.reader_frames.specs.declared.state.Next.TheVariants as next
 use Rattle.reader_frames.specs.FrameViews.{all_begun}
-use Rattle.reader_frames.specs.StateView.{next_of}
+use Rattle.reader_frames.specs.declared.state.State.{State}
+use Rattle.reader_frames.specs.LeftView.{left_of}
+use Rattle.reader_frames.specs.StateView.{next_of, state_of}
 use Rattle.moo_syntax.specs.StandsFor.{StandsFor, PartStandsFor, NextStandsFor}
 
 pub itself : (x : meant.Next) (ts : List Placed) → StandsFor (goes x ts) (goes x ts)
@@ -104,3 +106,6 @@ operators_next x b k e d h s =
 
 pub same_next : (x : Next) → NextStandsFor x x
 same_next x gs ts = itself (next_of x gs) ts
+
+pub same_state : (s : State) → StandsFor (state_of s) (state_of s)
+same_state s = itself (next_of s.next s.begun.items) (left_of s.left)

@@ -7,7 +7,7 @@ ghost use Rattle.reader_frames.specs.StateView.{state_of};
 ghost use Rattle.moo_syntax.specs.Given.{given};
 
 use crate::ending::is_over;
-use crate::trim::trimmed;
+use crate::trim::trim;
 use moo_token::tokens::Tokens;
 use reader_frames::left::Left;
 use reader_frames::state::{Next, State};
@@ -37,8 +37,8 @@ pub fn read(alloc: Global, tokens: Tokens) -> Result<State, AllocError>
 {
     let mut state = start(alloc, tokens);
     'steps: while !is_over(&state) {
-        let next = step(alloc, state)?;
-        state = trimmed(alloc, next)?;
+        step(alloc, &mut state)?;
+        trim(alloc, &mut state)?;
     }
     Ok(state)
 }

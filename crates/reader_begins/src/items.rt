@@ -1,6 +1,6 @@
 //! What begins an argument, and an item of braces.
 
-ghost use Rattle.std.specs.Prelude.{◌≡◌, IfOk};
+ghost use Rattle.std.specs.Prelude.{◌≡◌, OnOk};
 ghost use Rattle.spec_program.specs.Frames.{some_arguments_read, some_items_read};
 ghost use Rattle.spec_program.specs.Frames as f;
 ghost use Rattle.spec_program.specs.ReadExpressions.{scatter_alone};
@@ -17,28 +17,23 @@ use moo_token::token::Sign;
 use moo_value::text::Text;
 use reader_frames::allowed::{rest_allowed, scatter_alone, with_rest};
 use reader_frames::ends::items_on;
-use reader_frames::frame::{ExpressionFrame, Frame, WithinItems};
-use reader_frames::left::{Left, Word};
+use reader_frames::frame::{ExpressionFrame, WithinItems};
+use reader_frames::left::Word;
 use reader_frames::state::{State, stuck};
 use std::alloc::{AllocError, Global};
-use std::collections::VecDeque;
 
 /// An argument.
-pub fn arguments_begin(
-    brackets: bool,
-    begun: VecDeque<Frame>,
-    mut left: Left,
-) -> Result<State, AllocError>
-    ensures { IfOk result (λ s. state_of s ≡ meant.arguments_begin brackets (all_begun begun.items some_arguments_read) (left_of left)) }
+pub fn arguments_begin(brackets: bool, state: &mut State) -> Result<(), AllocError>
+    ensures { OnOk result (state_of state.new ≡ meant.arguments_begin brackets (all_begun state.old.begun.items some_arguments_read) (left_of state.old.left)) }
 {
-    if left.take_sign(Sign::At) {
+    if state.left.take_sign(Sign::At) {
         let spliced = true;
         let frame = ExpressionFrame::Argument { brackets, spliced };
-        return part_begins(frame, brackets, 0, begun, left);
+        return part_begins(frame, brackets, 0, state);
     }
     let spliced = false;
     let frame = ExpressionFrame::Argument { brackets, spliced };
-    part_begins(frame, brackets, 0, begun, left)
+    part_begins(frame, brackets, 0, state)
 }
 
 // An item that is an expression, spliced or not.
@@ -46,18 +41,17 @@ fn expression_item(
     brackets: bool,
     allowed: Allowed,
     spliced: bool,
-    begun: VecDeque<Frame>,
-    left: Left,
-) -> Result<State, AllocError>
-    ensures { IfOk result (λ s. state_of s ≡ meant.expression_item brackets (allowed_of allowed) spliced (all_begun begun.items some_items_read)
-        (left_of left)) }
+    state: &mut State,
+) -> Result<(), AllocError>
+    ensures { OnOk result (state_of state.new ≡ meant.expression_item brackets (allowed_of allowed) spliced (all_begun state.old.begun.items some_items_read)
+        (left_of state.old.left)) }
 {
     let within = WithinItems::Value {
         brackets,
         allowed,
         spliced,
     };
-    part_begins(ExpressionFrame::Items(within), brackets, 0, begun, left)
+    part_begins(ExpressionFrame::Items(within), brackets, 0, state)
 }
 
 // An item without a sign before it.
@@ -65,17 +59,16 @@ fn plain_item(
     alloc: Global,
     brackets: bool,
     allowed: Allowed,
-    begun: VecDeque<Frame>,
-    mut left: Left,
-) -> Result<State, AllocError>
-    ensures { IfOk result (λ s. state_of s ≡ meant.plain_item brackets (allowed_of allowed) (all_begun begun.items some_items_read) (left_of left)) }
+    state: &mut State,
+) -> Result<(), AllocError>
+    ensures { OnOk result (state_of state.new ≡ meant.plain_item brackets (allowed_of allowed) (all_begun state.old.begun.items some_items_read) (left_of state.old.left)) }
 {
-    if let Some(word) = left.take_word_alone()? {
+    if let Some(word) = state.left.take_word_alone()? {
         let Word { text, line } = word;
         let item = BracedItem::Bare(text, line);
-        return items_on(alloc, brackets, allowed, item, begun, left);
+        return items_on(alloc, brackets, allowed, item, state);
     }
-    expression_item(brackets, allowed, false, begun, left)
+    expression_item(brackets, allowed, false, state)
 }
 
 // Behind `@` where a list is possible.
@@ -83,17 +76,16 @@ fn rest_item(
     alloc: Global,
     brackets: bool,
     allowed: Allowed,
-    begun: VecDeque<Frame>,
-    mut left: Left,
-) -> Result<State, AllocError>
-    ensures { IfOk result (λ s. state_of s ≡ meant.rest_item brackets (allowed_of allowed) (all_begun begun.items some_items_read) (left_of left)) }
+    state: &mut State,
+) -> Result<(), AllocError>
+    ensures { OnOk result (state_of state.new ≡ meant.rest_item brackets (allowed_of allowed) (all_begun state.old.begun.items some_items_read) (left_of state.old.left)) }
 {
-    if let Some(word) = left.take_word_alone()? {
+    if let Some(word) = state.left.take_word_alone()? {
         let Word { text, line } = word;
         let item = BracedItem::BareRest(text, line);
-        return items_on(alloc, brackets, rest_allowed(allowed), item, begun, left);
+        return items_on(alloc, brackets, rest_allowed(allowed), item, state);
     }
-    expression_item(brackets, allowed, true, begun, left)
+    expression_item(brackets, allowed, true, state)
 }
 
 // A variable of a scatter that the list may have no value for.
@@ -102,14 +94,13 @@ fn bare_optional(
     brackets: bool,
     allowed: Allowed,
     name: Text,
-    begun: VecDeque<Frame>,
-    left: Left,
-) -> Result<State, AllocError>
-    ensures { IfOk result (λ s. state_of s ≡ by.items_on brackets (scatter_alone (allowed_of allowed)) (f.bare_optional name)
-        (all_begun begun.items some_items_read) (left_of left)) }
+    state: &mut State,
+) -> Result<(), AllocError>
+    ensures { OnOk result (state_of state.new ≡ by.items_on brackets (scatter_alone (allowed_of allowed)) (f.bare_optional name)
+        (all_begun state.old.begun.items some_items_read) (left_of state.old.left)) }
 {
     let item = BracedItem::BareOptional(name);
-    items_on(alloc, brackets, scatter_alone(allowed), item, begun, left)
+    items_on(alloc, brackets, scatter_alone(allowed), item, state)
 }
 
 // Behind `?` and a name.
@@ -118,21 +109,20 @@ fn optional_named(
     brackets: bool,
     allowed: Allowed,
     name: Text,
-    begun: VecDeque<Frame>,
-    mut left: Left,
-) -> Result<State, AllocError>
-    ensures { IfOk result (λ s. state_of s ≡ meant.optional_named brackets (allowed_of allowed) (all_begun begun.items some_items_read) name
-        (left_of left)) }
+    state: &mut State,
+) -> Result<(), AllocError>
+    ensures { OnOk result (state_of state.new ≡ meant.optional_named brackets (allowed_of allowed) (all_begun state.old.begun.items some_items_read) name
+        (left_of state.old.left)) }
 {
-    if left.take_sign(Sign::Assign) {
+    if state.left.take_sign(Sign::Assign) {
         let within = WithinItems::Default {
             brackets,
             allowed,
             name,
         };
-        return part_begins(ExpressionFrame::Items(within), brackets, 0, begun, left);
+        return part_begins(ExpressionFrame::Items(within), brackets, 0, state);
     }
-    bare_optional(alloc, brackets, allowed, name, begun, left)
+    bare_optional(alloc, brackets, allowed, name, state)
 }
 
 // Behind `?`.
@@ -140,14 +130,16 @@ fn optional_item(
     alloc: Global,
     brackets: bool,
     allowed: Allowed,
-    begun: VecDeque<Frame>,
-    mut left: Left,
-) -> Result<State, AllocError>
-    ensures { IfOk result (λ s. state_of s ≡ meant.optional_item brackets (allowed_of allowed) (all_begun begun.items some_items_read) (left_of left)) }
+    state: &mut State,
+) -> Result<(), AllocError>
+    ensures { OnOk result (state_of state.new ≡ meant.optional_item brackets (allowed_of allowed) (all_begun state.old.begun.items some_items_read) (left_of state.old.left)) }
 {
-    match left.take_word()? {
-        Some(word) => optional_named(alloc, brackets, allowed, word.text, begun, left),
-        None => Ok(stuck(begun, left)),
+    match state.left.take_word()? {
+        Some(word) => optional_named(alloc, brackets, allowed, word.text, state),
+        None => {
+            stuck(state);
+            Ok(())
+        }
     }
 }
 
@@ -156,15 +148,14 @@ fn listed_item(
     alloc: Global,
     brackets: bool,
     allowed: Allowed,
-    begun: VecDeque<Frame>,
-    mut left: Left,
-) -> Result<State, AllocError>
-    ensures { IfOk result (λ s. state_of s ≡ meant.listed_item brackets (allowed_of allowed) (all_begun begun.items some_items_read) (left_of left)) }
+    state: &mut State,
+) -> Result<(), AllocError>
+    ensures { OnOk result (state_of state.new ≡ meant.listed_item brackets (allowed_of allowed) (all_begun state.old.begun.items some_items_read) (left_of state.old.left)) }
 {
-    if left.take_sign(Sign::At) {
-        rest_item(alloc, brackets, allowed, begun, left)
+    if state.left.take_sign(Sign::At) {
+        rest_item(alloc, brackets, allowed, state)
     } else {
-        plain_item(alloc, brackets, allowed, begun, left)
+        plain_item(alloc, brackets, allowed, state)
     }
 }
 
@@ -173,22 +164,22 @@ fn item_of_list(
     alloc: Global,
     brackets: bool,
     allowed: Allowed,
-    begun: VecDeque<Frame>,
-    mut left: Left,
-) -> Result<State, AllocError>
-    ensures { IfOk result (λ s. state_of s ≡ meant.item_of_list allowed.as_scatter brackets (allowed_of allowed) (all_begun begun.items some_items_read)
-        (left_of left)) }
+    state: &mut State,
+) -> Result<(), AllocError>
+    ensures { OnOk result (state_of state.new ≡ meant.item_of_list allowed.as_scatter brackets (allowed_of allowed) (all_begun state.old.begun.items some_items_read)
+        (left_of state.old.left)) }
 {
     if !allowed.as_scatter {
-        if left.begins_with(Sign::Question) {
-            return Ok(stuck(begun, left));
+        if state.left.begins_with(Sign::Question) {
+            stuck(state);
+            return Ok(());
         }
-        return listed_item(alloc, brackets, allowed, begun, left);
+        return listed_item(alloc, brackets, allowed, state);
     }
-    if left.take_sign(Sign::Question) {
-        optional_item(alloc, brackets, allowed, begun, left)
+    if state.left.take_sign(Sign::Question) {
+        optional_item(alloc, brackets, allowed, state)
     } else {
-        listed_item(alloc, brackets, allowed, begun, left)
+        listed_item(alloc, brackets, allowed, state)
     }
 }
 
@@ -197,17 +188,17 @@ fn scatter_plain(
     alloc: Global,
     brackets: bool,
     allowed: Allowed,
-    begun: VecDeque<Frame>,
-    mut left: Left,
-) -> Result<State, AllocError>
-    ensures { IfOk result (λ s. state_of s ≡ meant.scatter_plain brackets (allowed_of allowed) (all_begun begun.items some_items_read) (left_of left)) }
+    state: &mut State,
+) -> Result<(), AllocError>
+    ensures { OnOk result (state_of state.new ≡ meant.scatter_plain brackets (allowed_of allowed) (all_begun state.old.begun.items some_items_read) (left_of state.old.left)) }
 {
-    let Some(word) = left.take_word()? else {
-        return Ok(stuck(begun, left));
+    let Some(word) = state.left.take_word()? else {
+        stuck(state);
+        return Ok(());
     };
     let Word { text, line } = word;
     let item = BracedItem::Bare(text, line);
-    items_on(alloc, brackets, allowed, item, begun, left)
+    items_on(alloc, brackets, allowed, item, state)
 }
 
 // Behind `@`: a variable that takes the rest.
@@ -215,17 +206,17 @@ fn scatter_rest(
     alloc: Global,
     brackets: bool,
     allowed: Allowed,
-    begun: VecDeque<Frame>,
-    mut left: Left,
-) -> Result<State, AllocError>
-    ensures { IfOk result (λ s. state_of s ≡ meant.scatter_rest brackets (allowed_of allowed) (all_begun begun.items some_items_read) (left_of left)) }
+    state: &mut State,
+) -> Result<(), AllocError>
+    ensures { OnOk result (state_of state.new ≡ meant.scatter_rest brackets (allowed_of allowed) (all_begun state.old.begun.items some_items_read) (left_of state.old.left)) }
 {
-    let Some(word) = left.take_word()? else {
-        return Ok(stuck(begun, left));
+    let Some(word) = state.left.take_word()? else {
+        stuck(state);
+        return Ok(());
     };
     let Word { text, line } = word;
     let item = BracedItem::BareRest(text, line);
-    items_on(alloc, brackets, with_rest(allowed), item, begun, left)
+    items_on(alloc, brackets, with_rest(allowed), item, state)
 }
 
 // A variable, of which one at most takes the rest.
@@ -233,22 +224,22 @@ fn scatter_unless(
     alloc: Global,
     brackets: bool,
     allowed: Allowed,
-    begun: VecDeque<Frame>,
-    mut left: Left,
-) -> Result<State, AllocError>
-    ensures { IfOk result (λ s. state_of s ≡ meant.scatter_unless allowed.has_rest brackets (allowed_of allowed) (all_begun begun.items some_items_read)
-        (left_of left)) }
+    state: &mut State,
+) -> Result<(), AllocError>
+    ensures { OnOk result (state_of state.new ≡ meant.scatter_unless allowed.has_rest brackets (allowed_of allowed) (all_begun state.old.begun.items some_items_read)
+        (left_of state.old.left)) }
 {
     if allowed.has_rest {
-        if left.begins_with(Sign::At) {
-            return Ok(stuck(begun, left));
+        if state.left.begins_with(Sign::At) {
+            stuck(state);
+            return Ok(());
         }
-        return scatter_plain(alloc, brackets, allowed, begun, left);
+        return scatter_plain(alloc, brackets, allowed, state);
     }
-    if left.take_sign(Sign::At) {
-        scatter_rest(alloc, brackets, allowed, begun, left)
+    if state.left.take_sign(Sign::At) {
+        scatter_rest(alloc, brackets, allowed, state)
     } else {
-        scatter_plain(alloc, brackets, allowed, begun, left)
+        scatter_plain(alloc, brackets, allowed, state)
     }
 }
 
@@ -257,15 +248,14 @@ fn item_of_scatter(
     alloc: Global,
     brackets: bool,
     allowed: Allowed,
-    begun: VecDeque<Frame>,
-    mut left: Left,
-) -> Result<State, AllocError>
-    ensures { IfOk result (λ s. state_of s ≡ meant.item_of_scatter brackets (allowed_of allowed) (all_begun begun.items some_items_read) (left_of left)) }
+    state: &mut State,
+) -> Result<(), AllocError>
+    ensures { OnOk result (state_of state.new ≡ meant.item_of_scatter brackets (allowed_of allowed) (all_begun state.old.begun.items some_items_read) (left_of state.old.left)) }
 {
-    if left.take_sign(Sign::Question) {
-        optional_item(alloc, brackets, allowed, begun, left)
+    if state.left.take_sign(Sign::Question) {
+        optional_item(alloc, brackets, allowed, state)
     } else {
-        scatter_unless(alloc, brackets, allowed, begun, left)
+        scatter_unless(alloc, brackets, allowed, state)
     }
 }
 
@@ -274,15 +264,14 @@ pub fn items_begin(
     alloc: Global,
     brackets: bool,
     allowed: Allowed,
-    begun: VecDeque<Frame>,
-    left: Left,
-) -> Result<State, AllocError>
-    ensures { IfOk result (λ s. state_of s ≡ meant.item_by allowed.as_list brackets (allowed_of allowed) (all_begun begun.items some_items_read)
-        (left_of left)) }
+    state: &mut State,
+) -> Result<(), AllocError>
+    ensures { OnOk result (state_of state.new ≡ meant.item_by allowed.as_list brackets (allowed_of allowed) (all_begun state.old.begun.items some_items_read)
+        (left_of state.old.left)) }
 {
     if allowed.as_list {
-        item_of_list(alloc, brackets, allowed, begun, left)
+        item_of_list(alloc, brackets, allowed, state)
     } else {
-        item_of_scatter(alloc, brackets, allowed, begun, left)
+        item_of_scatter(alloc, brackets, allowed, state)
     }
 }

@@ -1,6 +1,6 @@
 //! What begins an operand.
 
-ghost use Rattle.std.specs.Prelude.{◌≡◌, ◌∷◌, IfOk};
+ghost use Rattle.std.specs.Prelude.{◌≡◌, ◌∷◌, OnOk};
 ghost use Rattle.spec_program.specs.Tokens as t;
 ghost use Rattle.spec_program.specs.FurtherMoves.{name_at};
 ghost use Rattle.spec_program.specs.Frames as f;
@@ -27,18 +27,16 @@ use reader_frames::frame::{
     ArgumentsFrame, ExpressionFrame, Frame, ItemsFrame, OperandFrame, WithinExpression,
     WithinOperand,
 };
-use reader_frames::left::{Left, Word};
+use reader_frames::left::Word;
 use reader_frames::state::{Next, State, begin, stuck};
 use reader_frames::words::allowed_text;
 use std::alloc::{AllocError, Global};
-use std::collections::VecDeque;
 
 // The steps behind an operand.
-fn steps(brackets: bool, operand: Operand, begun: VecDeque<Frame>, left: Left) -> State
-    ensures { state_of result ≡ goes (reads_steps brackets (operand_of operand) (all_begun begun.items an_operand)) (left_of left) }
+fn steps(brackets: bool, operand: Operand, state: &mut State)
+    ensures { state_of state.new ≡ goes (reads_steps brackets (operand_of operand) (all_begun state.old.begun.items an_operand)) (left_of state.old.left) }
 {
-    let next = Next::Steps { brackets, operand };
-    State { next, begun, left }
+    state.next = Next::Steps { brackets, operand };
 }
 
 // A literal.
@@ -47,13 +45,13 @@ fn literal_begins(
     brackets: bool,
     line: u64,
     value: Value,
-    begun: VecDeque<Frame>,
-    left: Left,
-) -> Result<State, AllocError>
-    ensures { IfOk result (λ s. state_of s ≡ literal_begins brackets line value (all_begun begun.items an_operand) (left_of left)) }
+    state: &mut State,
+) -> Result<(), AllocError>
+    ensures { OnOk result (state_of state.new ≡ literal_begins brackets line value (all_begun state.old.begun.items an_operand) (left_of state.old.left)) }
 {
     let operand = literal(alloc, line, value)?;
-    Ok(steps(brackets, operand, begun, left))
+    steps(brackets, operand, state);
+    Ok(())
 }
 
 // A variable, or a call of a function.
@@ -61,20 +59,23 @@ fn word_begins(
     alloc: Global,
     brackets: bool,
     word: Word,
-    begun: VecDeque<Frame>,
-    mut left: Left,
-) -> Result<State, AllocError>
-    ensures { IfOk result (λ s. state_of s ≡ word_begins brackets word.text word.line (all_begun begun.items an_operand) (left_of left)) }
+    state: &mut State,
+) -> Result<(), AllocError>
+    ensures { OnOk result (state_of state.new ≡ word_begins brackets word.text word.line (all_begun state.old.begun.items an_operand) (left_of state.old.left)) }
 {
     let Word { text, line } = word;
-    if left.take_sign(Sign::OpenParenthesis) {
-        let begun = begin(begun, Frame::Operand(OperandFrame::Steps { brackets }))?;
+    if state.left.take_sign(Sign::OpenParenthesis) {
+        begin(
+            &mut state.begun,
+            Frame::Operand(OperandFrame::Steps { brackets }),
+        )?;
         let frame = ArgumentsFrame::CallOf { name: text, line };
-        let begun = begin(begun, Frame::Arguments(frame))?;
-        return arguments_to(alloc, Sign::CloseParenthesis, brackets, begun, left);
+        begin(&mut state.begun, Frame::Arguments(frame))?;
+        return arguments_to(alloc, Sign::CloseParenthesis, brackets, state);
     }
     let operand = variable(alloc, line, &text)?;
-    Ok(steps(brackets, operand, begun, left))
+    steps(brackets, operand, state);
+    Ok(())
 }
 
 // A property or a verb of the system object, by its name behind `$`.
@@ -83,22 +84,25 @@ fn system_begins(
     brackets: bool,
     line: u64,
     word: Word,
-    begun: VecDeque<Frame>,
-    mut left: Left,
-) -> Result<State, AllocError>
-    ensures { IfOk result (λ s. state_of s ≡ system_begins brackets line (name_at word.line word.text) (all_begun begun.items an_operand) (left_of left)) }
+    state: &mut State,
+) -> Result<(), AllocError>
+    ensures { OnOk result (state_of state.new ≡ system_begins brackets line (name_at word.line word.text) (all_begun state.old.begun.items an_operand) (left_of state.old.left)) }
 {
     let Word { text, line: at } = word;
     let object = system(alloc, line)?;
     let name = name(alloc, at, text)?;
-    if left.take_sign(Sign::OpenParenthesis) {
-        let begun = begin(begun, Frame::Operand(OperandFrame::Steps { brackets }))?;
+    if state.left.take_sign(Sign::OpenParenthesis) {
+        begin(
+            &mut state.begun,
+            Frame::Operand(OperandFrame::Steps { brackets }),
+        )?;
         let frame = ArgumentsFrame::VerbOf { object, name };
-        let begun = begin(begun, Frame::Arguments(frame))?;
-        return arguments_to(alloc, Sign::CloseParenthesis, brackets, begun, left);
+        begin(&mut state.begun, Frame::Arguments(frame))?;
+        return arguments_to(alloc, Sign::CloseParenthesis, brackets, state);
     }
     let operand = property_of(alloc, object, name)?;
-    Ok(steps(brackets, operand, begun, left))
+    steps(brackets, operand, state);
+    Ok(())
 }
 
 // Behind `$`: a name, or in brackets nothing more.
@@ -106,19 +110,20 @@ fn dollar_begins(
     alloc: Global,
     brackets: bool,
     line: u64,
-    begun: VecDeque<Frame>,
-    mut left: Left,
-) -> Result<State, AllocError>
-    ensures { IfOk result (λ s. state_of s ≡ dollar_begins brackets line (all_begun begun.items an_operand) (left_of left)) }
+    state: &mut State,
+) -> Result<(), AllocError>
+    ensures { OnOk result (state_of state.new ≡ dollar_begins brackets line (all_begun state.old.begun.items an_operand) (left_of state.old.left)) }
 {
-    if let Some(word) = left.take_word()? {
-        return system_begins(alloc, brackets, line, word, begun, left);
+    if let Some(word) = state.left.take_word()? {
+        return system_begins(alloc, brackets, line, word, state);
     }
     if !brackets {
-        return Ok(stuck(begun, left));
+        stuck(state);
+        return Ok(());
     }
     let operand = own_length(alloc, line)?;
-    Ok(steps(brackets, operand, begun, left))
+    steps(brackets, operand, state);
+    Ok(())
 }
 
 // Behind an opening brace: items of a list, and of a scatter where any expression may stand.
@@ -127,62 +132,58 @@ fn brace_begins(
     brackets: bool,
     level: u8,
     line: u64,
-    begun: VecDeque<Frame>,
-    mut left: Left,
-) -> Result<State, AllocError>
-    ensures { IfOk result (λ s. state_of s ≡ brace_begins brackets level line (all_begun begun.items an_operand) (left_of left)) }
+    state: &mut State,
+) -> Result<(), AllocError>
+    ensures { OnOk result (state_of state.new ≡ brace_begins brackets level line (all_begun state.old.begun.items an_operand) (left_of state.old.left)) }
 {
-    if left.take_sign(Sign::CloseBrace) {
+    if state.left.take_sign(Sign::CloseBrace) {
         let operand = empty_list(alloc, line)?;
-        return Ok(steps(brackets, operand, begun, left));
+        steps(brackets, operand, state);
+        return Ok(());
     }
-    let begun = begin(begun, Frame::Operand(OperandFrame::Steps { brackets }))?;
-    let begun = begin(begun, Frame::Items(ItemsFrame::Braces { line }))?;
+    begin(
+        &mut state.begun,
+        Frame::Operand(OperandFrame::Steps { brackets }),
+    )?;
+    begin(&mut state.begun, Frame::Items(ItemsFrame::Braces { line }))?;
     let allowed = Allowed {
         as_list: true,
         as_scatter: level == 0,
         has_rest: false,
     };
-    let next = Next::Items { brackets, allowed };
-    Ok(State { next, begun, left })
+    state.next = Next::Items { brackets, allowed };
+    Ok(())
 }
 
 // An expression in parentheses.
-fn parenthesis_begins(
-    brackets: bool,
-    line: u64,
-    begun: VecDeque<Frame>,
-    left: Left,
-) -> Result<State, AllocError>
-    ensures { IfOk result (λ s. state_of s ≡ goes (reads_expression brackets 0 (push (f.in_parentheses line) (push f.as_operand
-        (push (f.steps_behind brackets) (all_begun begun.items an_operand))))) (left_of left)) }
+fn parenthesis_begins(brackets: bool, line: u64, state: &mut State) -> Result<(), AllocError>
+    ensures { OnOk result (state_of state.new ≡ goes (reads_expression brackets 0 (push (f.in_parentheses line) (push f.as_operand
+        (push (f.steps_behind brackets) (all_begun state.old.begun.items an_operand))))) (left_of state.old.left)) }
 {
-    let begun = begin(begun, Frame::Operand(OperandFrame::Steps { brackets }))?;
+    begin(
+        &mut state.begun,
+        Frame::Operand(OperandFrame::Steps { brackets }),
+    )?;
     let within = WithinOperand::Whole;
-    let begun = begin(begun, Frame::Expression(ExpressionFrame::Operand(within)))?;
+    begin(
+        &mut state.begun,
+        Frame::Expression(ExpressionFrame::Operand(within)),
+    )?;
     let within = WithinExpression::Parentheses { line };
-    part_begins(
-        ExpressionFrame::Expression(within),
-        brackets,
-        0,
-        begun,
-        left,
-    )
+    part_begins(ExpressionFrame::Expression(within), brackets, 0, state)
 }
 
 // An expression whose errors are caught.
-fn catch_begins(
-    brackets: bool,
-    line: u64,
-    begun: VecDeque<Frame>,
-    left: Left,
-) -> Result<State, AllocError>
-    ensures { IfOk result (λ s. state_of s ≡ goes (reads_expression brackets 0 (push (f.caught_in brackets line)
-        (push (f.steps_behind brackets) (all_begun begun.items an_operand)))) (left_of left)) }
+fn catch_begins(brackets: bool, line: u64, state: &mut State) -> Result<(), AllocError>
+    ensures { OnOk result (state_of state.new ≡ goes (reads_expression brackets 0 (push (f.caught_in brackets line)
+        (push (f.steps_behind brackets) (all_begun state.old.begun.items an_operand)))) (left_of state.old.left)) }
 {
-    let begun = begin(begun, Frame::Operand(OperandFrame::Steps { brackets }))?;
+    begin(
+        &mut state.begun,
+        Frame::Operand(OperandFrame::Steps { brackets }),
+    )?;
     let within = WithinOperand::Caught { brackets, line };
-    part_begins(ExpressionFrame::Operand(within), brackets, 0, begun, left)
+    part_begins(ExpressionFrame::Operand(within), brackets, 0, state)
 }
 
 // What begins with a sign.
@@ -192,30 +193,29 @@ fn sign_begins(
     level: u8,
     sign: Sign,
     line: u64,
-    begun: VecDeque<Frame>,
-    left: Left,
-) -> Result<State, AllocError>
-    ensures { IfOk result (λ s. state_of s ≡ operand_by brackets level (all_begun begun.items an_operand) (t.sign (sign_meant sign)) line (left_of left)
-        (record { token = t.sign (sign_meant sign); line = line } ∷ left_of left)) }
+    state: &mut State,
+) -> Result<(), AllocError>
+    ensures { OnOk result (state_of state.new ≡ operand_by brackets level (all_begun state.old.begun.items an_operand) (t.sign (sign_meant sign)) line (left_of state.old.left)
+        (record { token = t.sign (sign_meant sign); line = line } ∷ left_of state.old.left)) }
 {
     match sign {
         Sign::Minus => {
             let operator = UnaryOperator::Negation;
             let within = WithinOperand::Unary { operator, line };
-            part_begins(ExpressionFrame::Operand(within), brackets, 7, begun, left)
+            part_begins(ExpressionFrame::Operand(within), brackets, 7, state)
         }
         Sign::Not => {
             let operator = UnaryOperator::NotTrue;
             let within = WithinOperand::Unary { operator, line };
-            part_begins(ExpressionFrame::Operand(within), brackets, 7, begun, left)
+            part_begins(ExpressionFrame::Operand(within), brackets, 7, state)
         }
-        Sign::Dollar => dollar_begins(alloc, brackets, line, begun, left),
-        Sign::OpenParenthesis => parenthesis_begins(brackets, line, begun, left),
-        Sign::OpenBrace => brace_begins(alloc, brackets, level, line, begun, left),
-        Sign::Backquote => catch_begins(brackets, line, begun, left),
+        Sign::Dollar => dollar_begins(alloc, brackets, line, state),
+        Sign::OpenParenthesis => parenthesis_begins(brackets, line, state),
+        Sign::OpenBrace => brace_begins(alloc, brackets, level, line, state),
+        Sign::Backquote => catch_begins(brackets, line, state),
         _ => {
             let token = Token::Sign(sign);
-            stuck_before(Placed { token, line }, begun, left)
+            stuck_before(Placed { token, line }, state)
         }
     }
 }
@@ -226,40 +226,39 @@ fn operand_by(
     brackets: bool,
     level: u8,
     placed: Placed,
-    begun: VecDeque<Frame>,
-    left: Left,
-) -> Result<State, AllocError>
-    ensures { IfOk result (λ s. state_of s ≡ operand_by brackets level (all_begun begun.items an_operand) (token_meant (token_of placed.token)) placed.line
-        (left_of left) (place_meant (place_of placed) ∷ left_of left)) }
+    state: &mut State,
+) -> Result<(), AllocError>
+    ensures { OnOk result (state_of state.new ≡ operand_by brackets level (all_begun state.old.begun.items an_operand) (token_meant (token_of placed.token)) placed.line
+        (left_of state.old.left) (place_meant (place_of placed) ∷ left_of state.old.left)) }
 {
     let Placed { token, line } = placed;
     match token {
         Token::Integer(number) => {
             let value = Value::integer(integer_of(number));
-            literal_begins(alloc, brackets, line, value, begun, left)
+            literal_begins(alloc, brackets, line, value, state)
         }
         Token::Object(minus, number) => {
             let Some(number) = object_of(minus, number) else {
                 return Err(AllocError);
             };
-            literal_begins(alloc, brackets, line, Value::object(number), begun, left)
+            literal_begins(alloc, brackets, line, Value::object(number), state)
         }
         Token::Text(bytes) => {
             let value = Value::text(allowed_text(bytes)?);
-            literal_begins(alloc, brackets, line, value, begun, left)
+            literal_begins(alloc, brackets, line, value, state)
         }
         Token::Error(name) => {
             let value = Value::error(error_of(name));
-            literal_begins(alloc, brackets, line, value, begun, left)
+            literal_begins(alloc, brackets, line, value, state)
         }
         Token::Identifier(bytes) => {
             let text = allowed_text(bytes)?;
-            word_begins(alloc, brackets, Word { text, line }, begun, left)
+            word_begins(alloc, brackets, Word { text, line }, state)
         }
-        Token::Sign(sign) => sign_begins(alloc, brackets, level, sign, line, begun, left),
+        Token::Sign(sign) => sign_begins(alloc, brackets, level, sign, line, state),
         Token::Keyword(keyword) => {
             let token = Token::Keyword(keyword);
-            stuck_before(Placed { token, line }, begun, left)
+            stuck_before(Placed { token, line }, state)
         }
     }
 }
@@ -270,13 +269,15 @@ pub fn operand_begins(
     alloc: Global,
     brackets: bool,
     level: u8,
-    begun: VecDeque<Frame>,
-    mut left: Left,
-) -> Result<State, AllocError>
-    ensures { IfOk result (λ s. state_of s ≡ operand_begins brackets level (all_begun begun.items an_operand) (left_of left)) }
+    state: &mut State,
+) -> Result<(), AllocError>
+    ensures { OnOk result (state_of state.new ≡ operand_begins brackets level (all_begun state.old.begun.items an_operand) (left_of state.old.left)) }
 {
-    match left.take() {
-        Some(placed) => operand_by(alloc, brackets, level, placed, begun, left),
-        None => Ok(stuck(begun, left)),
+    match state.left.take() {
+        Some(placed) => operand_by(alloc, brackets, level, placed, state),
+        None => {
+            stuck(state);
+            Ok(())
+        }
     }
 }

@@ -21,11 +21,10 @@ use crate::parts::part_begins;
 use moo_reader::found::{Found, Join};
 use moo_token::token::{Keyword, Sign, Token};
 use moo_value::operator::BinaryOperator;
-use reader_frames::frame::{ExpressionFrame, Frame, WithinExpression};
+use reader_frames::frame::{ExpressionFrame, WithinExpression};
 use reader_frames::left::Left;
 use reader_frames::state::{Next, Part, State};
 use std::alloc::AllocError;
-use std::collections::VecDeque;
 
 /// What stands between two expressions, if anything.
 #[derive(Clone, Copy)]
@@ -118,11 +117,10 @@ fn right_of(
     found: Found,
     join: Join,
     wanted: u8,
-    begun: VecDeque<Frame>,
-    left: Left,
-) -> Result<State, AllocError>
-    ensures { IfOk result (λ s. state_of s ≡ goes (reads_expression brackets wanted
-        (push (f.right_of brackets level (found_of found) (join_of join)) (all_begun begun.items an_expression))) (left_of left)) }
+    state: &mut State,
+) -> Result<(), AllocError>
+    ensures { OnOk result (state_of state.new ≡ goes (reads_expression brackets wanted
+        (push (f.right_of brackets level (found_of found) (join_of join)) (all_begun state.old.begun.items an_expression))) (left_of state.old.left)) }
 {
     let within = WithinExpression::RightOf {
         brackets,
@@ -130,13 +128,7 @@ fn right_of(
         left: found,
         join,
     };
-    part_begins(
-        ExpressionFrame::Expression(within),
-        brackets,
-        wanted,
-        begun,
-        left,
-    )
+    part_begins(ExpressionFrame::Expression(within), brackets, wanted, state)
 }
 
 // What is read behind it.
@@ -145,44 +137,29 @@ fn behind_joint(
     level: u8,
     found: Found,
     joint: Joint,
-    begun: VecDeque<Frame>,
-    left: Left,
-) -> Result<State, AllocError>
-    ensures { IfOk result (λ s. state_of s ≡ goes (joint_next brackets level (found_of found) (all_begun begun.items an_expression) (joint_of joint))
-        (left_of left)) }
+    state: &mut State,
+) -> Result<(), AllocError>
+    ensures { OnOk result (state_of state.new ≡ goes (joint_next brackets level (found_of found) (all_begun state.old.begun.items an_expression) (joint_of joint))
+        (left_of state.old.left)) }
 {
     match joint {
         Joint::Operator(operator) => {
             let join = Join::Operator(operator);
-            right_of(
-                brackets,
-                level,
-                found,
-                join,
-                right_level(operator),
-                begun,
-                left,
-            )
+            right_of(brackets, level, found, join, right_level(operator), state)
         }
-        Joint::And => right_of(brackets, level, found, Join::Both, 3, begun, left),
-        Joint::Or => right_of(brackets, level, found, Join::Either, 3, begun, left),
+        Joint::And => right_of(brackets, level, found, Join::Both, 3, state),
+        Joint::Or => right_of(brackets, level, found, Join::Either, 3, state),
         Joint::Question => {
             let within = WithinExpression::ChosenFirst {
                 brackets,
                 level,
                 condition: found,
             };
-            part_begins(
-                ExpressionFrame::Expression(within),
-                brackets,
-                0,
-                begun,
-                left,
-            )
+            part_begins(ExpressionFrame::Expression(within), brackets, 0, state)
         }
         Joint::Nothing => {
-            let next = Next::Found(Part::Expression(found));
-            Ok(State { next, begun, left })
+            state.next = Next::Found(Part::Expression(found));
+            Ok(())
         }
     }
 }
@@ -193,11 +170,10 @@ pub fn operators_begin(
     brackets: bool,
     level: u8,
     found: Found,
-    begun: VecDeque<Frame>,
-    mut left: Left,
-) -> Result<State, AllocError>
-    ensures { IfOk result (λ s. state_of s ≡ operators_begin brackets level (found_of found) (all_begun begun.items an_expression) (left_of left)) }
+    state: &mut State,
+) -> Result<(), AllocError>
+    ensures { OnOk result (state_of state.new ≡ operators_begin brackets level (found_of found) (all_begun state.old.begun.items an_expression) (left_of state.old.left)) }
 {
-    let joint = take_joint(level, &mut left)?;
-    behind_joint(brackets, level, found, joint, begun, left)
+    let joint = take_joint(level, &mut state.left)?;
+    behind_joint(brackets, level, found, joint, state)
 }

@@ -1,6 +1,6 @@
 //! What several constructs begin with.
 
-ghost use Rattle.std.specs.Prelude.{◌≡◌, ◌∷◌, IfOk};
+ghost use Rattle.std.specs.Prelude.{◌≡◌, ◌∷◌, OnOk};
 ghost use Rattle.spec_reader.specs.Next.{goes, stops, reads_expression};
 ghost use Rattle.moo_token.specs.Views.{place_of};
 ghost use Rattle.moo_token.specs.Meaning.{place_meant};
@@ -10,34 +10,28 @@ ghost use Rattle.reader_frames.specs.StateView.{state_of};
 
 use moo_token::token::Placed;
 use reader_frames::frame::{ExpressionFrame, Frame};
-use reader_frames::left::Left;
 use reader_frames::state::{Next, State, begin, stuck};
 use std::alloc::AllocError;
-use std::collections::VecDeque;
 
 /// An expression that is a part of something, and binds at least as tightly as this level.
 pub fn part_begins(
     frame: ExpressionFrame,
     brackets: bool,
     level: u8,
-    begun: VecDeque<Frame>,
-    left: Left,
-) -> Result<State, AllocError>
-    ensures { IfOk result (λ s. state_of s ≡ goes (reads_expression brackets level (expression_begun frame (all_begun begun.items))) (left_of left)) }
+    state: &mut State,
+) -> Result<(), AllocError>
+    ensures { OnOk result (state_of state.new ≡ goes (reads_expression brackets level (expression_begun frame (all_begun state.old.begun.items))) (left_of state.old.left)) }
 {
-    let begun = begin(begun, Frame::Expression(frame))?;
-    let next = Next::Expression { brackets, level };
-    Ok(State { next, begun, left })
+    begin(&mut state.begun, Frame::Expression(frame))?;
+    state.next = Next::Expression { brackets, level };
+    Ok(())
 }
 
 /// A token that no program goes on with is put back.
-pub fn stuck_before(
-    placed: Placed,
-    begun: VecDeque<Frame>,
-    mut left: Left,
-) -> Result<State, AllocError>
-    ensures { IfOk result (λ s. state_of s ≡ stops (place_meant (place_of placed) ∷ left_of left)) }
+pub fn stuck_before(placed: Placed, state: &mut State) -> Result<(), AllocError>
+    ensures { OnOk result (state_of state.new ≡ stops (place_meant (place_of placed) ∷ left_of state.old.left)) }
 {
-    left.put_back(placed)?;
-    Ok(stuck(begun, left))
+    state.left.put_back(placed)?;
+    stuck(state);
+    Ok(())
 }

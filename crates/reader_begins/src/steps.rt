@@ -1,6 +1,6 @@
 //! What begins a step behind an operand, and a name in it.
 
-ghost use Rattle.std.specs.Prelude.{◌≡◌, ◌∷◌, true, false, IfOk};
+ghost use Rattle.std.specs.Prelude.{◌≡◌, ◌∷◌, true, false, OnOk};
 ghost use Rattle.spec_program.specs.Tokens as t;
 ghost use Rattle.spec_program.specs.Frames as f;
 ghost use Rattle.spec_program.specs.Frames.{an_expression, an_operand, push};
@@ -19,48 +19,29 @@ use moo_reader::found::{Braces, Operand};
 use moo_reader::start::name;
 use moo_token::token::{Placed, Sign, Token};
 use reader_frames::frame::{ExpressionFrame, Frame, WithinExpression, WithinOperand};
-use reader_frames::left::Left;
 use reader_frames::state::{Next, Part, State, begin, stuck};
 use reader_frames::words::allowed_text;
 use std::alloc::{AllocError, Global};
-use std::collections::VecDeque;
 
 // A name in parentheses.
-fn name_in_parentheses(
-    brackets: bool,
-    line: u64,
-    begun: VecDeque<Frame>,
-    left: Left,
-) -> Result<State, AllocError>
-    ensures { IfOk result (λ s. state_of s ≡ goes (reads_expression brackets 0 (push (f.in_parentheses line) (all_begun begun.items an_expression)))
-        (left_of left)) }
+fn name_in_parentheses(brackets: bool, line: u64, state: &mut State) -> Result<(), AllocError>
+    ensures { OnOk result (state_of state.new ≡ goes (reads_expression brackets 0 (push (f.in_parentheses line) (all_begun state.old.begun.items an_expression)))
+        (left_of state.old.left)) }
 {
     let within = WithinExpression::Parentheses { line };
-    part_begins(
-        ExpressionFrame::Expression(within),
-        brackets,
-        0,
-        begun,
-        left,
-    )
+    part_begins(ExpressionFrame::Expression(within), brackets, 0, state)
 }
 
 // A name that begins with a sign.
-fn name_by_sign(
-    brackets: bool,
-    sign: Sign,
-    line: u64,
-    begun: VecDeque<Frame>,
-    left: Left,
-) -> Result<State, AllocError>
-    ensures { IfOk result (λ s. state_of s ≡ name_by brackets (all_begun begun.items an_expression) (t.sign (sign_meant sign)) line (left_of left)
-        (record { token = t.sign (sign_meant sign); line = line } ∷ left_of left)) }
+fn name_by_sign(brackets: bool, sign: Sign, line: u64, state: &mut State) -> Result<(), AllocError>
+    ensures { OnOk result (state_of state.new ≡ name_by brackets (all_begun state.old.begun.items an_expression) (t.sign (sign_meant sign)) line (left_of state.old.left)
+        (record { token = t.sign (sign_meant sign); line = line } ∷ left_of state.old.left)) }
 {
     match sign {
-        Sign::OpenParenthesis => name_in_parentheses(brackets, line, begun, left),
+        Sign::OpenParenthesis => name_in_parentheses(brackets, line, state),
         _ => {
             let token = Token::Sign(sign);
-            stuck_before(Placed { token, line }, begun, left)
+            stuck_before(Placed { token, line }, state)
         }
     }
 }
@@ -70,37 +51,34 @@ fn name_by(
     alloc: Global,
     brackets: bool,
     placed: Placed,
-    begun: VecDeque<Frame>,
-    left: Left,
-) -> Result<State, AllocError>
-    ensures { IfOk result (λ s. state_of s ≡ name_by brackets (all_begun begun.items an_expression) (token_meant (token_of placed.token)) placed.line
-        (left_of left) (place_meant (place_of placed) ∷ left_of left)) }
+    state: &mut State,
+) -> Result<(), AllocError>
+    ensures { OnOk result (state_of state.new ≡ name_by brackets (all_begun state.old.begun.items an_expression) (token_meant (token_of placed.token)) placed.line
+        (left_of state.old.left) (place_meant (place_of placed) ∷ left_of state.old.left)) }
 {
     let Placed { token, line } = placed;
     match token {
         Token::Identifier(bytes) => {
             let found = name(alloc, line, allowed_text(bytes)?)?;
-            let next = Next::Found(Part::Expression(found));
-            Ok(State { next, begun, left })
+            state.next = Next::Found(Part::Expression(found));
+            Ok(())
         }
-        Token::Sign(sign) => name_by_sign(brackets, sign, line, begun, left),
-        token => stuck_before(Placed { token, line }, begun, left),
+        Token::Sign(sign) => name_by_sign(brackets, sign, line, state),
+        token => stuck_before(Placed { token, line }, state),
     }
 }
 
 // A name: a word, or an expression in parentheses.
 #[tactic(auto, using(crate::proofs::Ends::no_name))]
-fn name_begins(
-    alloc: Global,
-    brackets: bool,
-    begun: VecDeque<Frame>,
-    mut left: Left,
-) -> Result<State, AllocError>
-    ensures { IfOk result (λ s. state_of s ≡ name_begins brackets (all_begun begun.items an_expression) (left_of left)) }
+fn name_begins(alloc: Global, brackets: bool, state: &mut State) -> Result<(), AllocError>
+    ensures { OnOk result (state_of state.new ≡ name_begins brackets (all_begun state.old.begun.items an_expression) (left_of state.old.left)) }
 {
-    match left.take() {
-        Some(placed) => name_by(alloc, brackets, placed, begun, left),
-        None => Ok(stuck(begun, left)),
+    match state.left.take() {
+        Some(placed) => name_by(alloc, brackets, placed, state),
+        None => {
+            stuck(state);
+            Ok(())
+        }
     }
 }
 
@@ -109,48 +87,40 @@ fn part_named(
     alloc: Global,
     brackets: bool,
     within: WithinOperand,
-    begun: VecDeque<Frame>,
-    left: Left,
-) -> Result<State, AllocError>
-    ensures { IfOk result (λ s. state_of s ≡ name_begins brackets (push (within_operand within) (all_begun begun.items an_operand)) (left_of left)) }
+    state: &mut State,
+) -> Result<(), AllocError>
+    ensures { OnOk result (state_of state.new ≡ name_begins brackets (push (within_operand within) (all_begun state.old.begun.items an_operand)) (left_of state.old.left)) }
 {
-    let begun = begin(begun, Frame::Expression(ExpressionFrame::Operand(within)))?;
-    name_begins(alloc, brackets, begun, left)
+    begin(
+        &mut state.begun,
+        Frame::Expression(ExpressionFrame::Operand(within)),
+    )?;
+    name_begins(alloc, brackets, state)
 }
 
 // An index, or the first one of a range.
-fn index_begins(
-    brackets: bool,
-    list: Operand,
-    begun: VecDeque<Frame>,
-    left: Left,
-) -> Result<State, AllocError>
-    ensures { IfOk result (λ s. state_of s ≡ goes (reads_expression true 0 (push (f.index_in brackets (operand_of list)) (all_begun begun.items an_operand)))
-        (left_of left)) }
+fn index_begins(brackets: bool, list: Operand, state: &mut State) -> Result<(), AllocError>
+    ensures { OnOk result (state_of state.new ≡ goes (reads_expression true 0 (push (f.index_in brackets (operand_of list)) (all_begun state.old.begun.items an_operand)))
+        (left_of state.old.left)) }
 {
     let within = WithinOperand::Index { brackets, list };
-    part_begins(ExpressionFrame::Operand(within), true, 0, begun, left)
+    part_begins(ExpressionFrame::Operand(within), true, 0, state)
 }
 
 // The operand without a step.
-fn no_step(operand: Operand, begun: VecDeque<Frame>, left: Left) -> State
-    ensures { state_of result ≡ goes (found (all_begun begun.items an_operand) (operand_of operand)) (left_of left) }
+fn no_step(operand: Operand, state: &mut State)
+    ensures { state_of state.new ≡ goes (found (all_begun state.old.begun.items an_operand) (operand_of operand)) (left_of state.old.left) }
 {
-    let next = Next::Found(Part::Operand(operand));
-    State { next, begun, left }
+    state.next = Next::Found(Part::Operand(operand));
 }
 
 // The operand, with the next token put back.
-fn no_step_before(
-    operand: Operand,
-    placed: Placed,
-    begun: VecDeque<Frame>,
-    mut left: Left,
-) -> Result<State, AllocError>
-    ensures { IfOk result (λ s. state_of s ≡ goes (found (all_begun begun.items an_operand) (operand_of operand)) (place_meant (place_of placed) ∷ left_of left)) }
+fn no_step_before(operand: Operand, placed: Placed, state: &mut State) -> Result<(), AllocError>
+    ensures { OnOk result (state_of state.new ≡ goes (found (all_begun state.old.begun.items an_operand) (operand_of operand)) (place_meant (place_of placed) ∷ left_of state.old.left)) }
 {
-    left.put_back(placed)?;
-    Ok(no_step(operand, begun, left))
+    state.left.put_back(placed)?;
+    no_step(operand, state);
+    Ok(())
 }
 
 // A step that begins with this sign, or none.
@@ -160,27 +130,26 @@ fn step_by_sign(
     operand: Operand,
     sign: Sign,
     line: u64,
-    begun: VecDeque<Frame>,
-    left: Left,
-) -> Result<State, AllocError>
-    ensures { IfOk result (λ s. state_of s ≡ step_by brackets (operand_of operand) (all_begun begun.items an_operand) (t.sign (sign_meant sign))
-        (left_of left) (record { token = t.sign (sign_meant sign); line = line } ∷ left_of left)) }
+    state: &mut State,
+) -> Result<(), AllocError>
+    ensures { OnOk result (state_of state.new ≡ step_by brackets (operand_of operand) (all_begun state.old.begun.items an_operand) (t.sign (sign_meant sign))
+        (left_of state.old.left) (record { token = t.sign (sign_meant sign); line = line } ∷ left_of state.old.left)) }
 {
     match sign {
         Sign::Dot => {
             let object = operand;
             let within = WithinOperand::PropertyName { brackets, object };
-            part_named(alloc, brackets, within, begun, left)
+            part_named(alloc, brackets, within, state)
         }
         Sign::Colon => {
             let object = operand;
             let within = WithinOperand::VerbName { brackets, object };
-            part_named(alloc, brackets, within, begun, left)
+            part_named(alloc, brackets, within, state)
         }
-        Sign::OpenBracket => index_begins(brackets, operand, begun, left),
+        Sign::OpenBracket => index_begins(brackets, operand, state),
         _ => {
             let token = Token::Sign(sign);
-            no_step_before(operand, Placed { token, line }, begun, left)
+            no_step_before(operand, Placed { token, line }, state)
         }
     }
 }
@@ -191,16 +160,15 @@ fn step_by(
     brackets: bool,
     operand: Operand,
     placed: Placed,
-    begun: VecDeque<Frame>,
-    left: Left,
-) -> Result<State, AllocError>
-    ensures { IfOk result (λ s. state_of s ≡ step_by brackets (operand_of operand) (all_begun begun.items an_operand) (token_meant (token_of placed.token))
-        (left_of left) (place_meant (place_of placed) ∷ left_of left)) }
+    state: &mut State,
+) -> Result<(), AllocError>
+    ensures { OnOk result (state_of state.new ≡ step_by brackets (operand_of operand) (all_begun state.old.begun.items an_operand) (token_meant (token_of placed.token))
+        (left_of state.old.left) (place_meant (place_of placed) ∷ left_of state.old.left)) }
 {
     let Placed { token, line } = placed;
     match token {
-        Token::Sign(sign) => step_by_sign(alloc, brackets, operand, sign, line, begun, left),
-        token => no_step_before(operand, Placed { token, line }, begun, left),
+        Token::Sign(sign) => step_by_sign(alloc, brackets, operand, sign, line, state),
+        token => no_step_before(operand, Placed { token, line }, state),
     }
 }
 
@@ -217,14 +185,16 @@ fn step_begins(
     alloc: Global,
     brackets: bool,
     operand: Operand,
-    begun: VecDeque<Frame>,
-    mut left: Left,
-) -> Result<State, AllocError>
-    ensures { IfOk result (λ s. state_of s ≡ steps_unless false brackets (operand_of operand) (all_begun begun.items an_operand) (left_of left)) }
+    state: &mut State,
+) -> Result<(), AllocError>
+    ensures { OnOk result (state_of state.new ≡ steps_unless false brackets (operand_of operand) (all_begun state.old.begun.items an_operand) (left_of state.old.left)) }
 {
-    match left.take() {
-        Some(placed) => step_by(alloc, brackets, operand, placed, begun, left),
-        None => Ok(no_step(operand, begun, left)),
+    match state.left.take() {
+        Some(placed) => step_by(alloc, brackets, operand, placed, state),
+        None => {
+            no_step(operand, state);
+            Ok(())
+        }
     }
 }
 
@@ -233,14 +203,14 @@ pub fn steps_begin(
     alloc: Global,
     brackets: bool,
     operand: Operand,
-    begun: VecDeque<Frame>,
-    left: Left,
-) -> Result<State, AllocError>
-    ensures { IfOk result (λ s. state_of s ≡ steps_unless (is_surely_scatter (operand_of operand).braces) brackets (operand_of operand)
-        (all_begun begun.items an_operand) (left_of left)) }
+    state: &mut State,
+) -> Result<(), AllocError>
+    ensures { OnOk result (state_of state.new ≡ steps_unless (is_surely_scatter (operand_of operand).braces) brackets (operand_of operand)
+        (all_begun state.old.begun.items an_operand) (left_of state.old.left)) }
 {
     if is_surely_scatter(&operand.braces) {
-        return Ok(no_step(operand, begun, left));
+        no_step(operand, state);
+        return Ok(());
     }
-    step_begins(alloc, brackets, operand, begun, left)
+    step_begins(alloc, brackets, operand, state)
 }

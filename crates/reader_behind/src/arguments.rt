@@ -1,6 +1,6 @@
 //! Behind an argument, and behind arguments.
 
-ghost use Rattle.std.specs.Prelude.{◌≡◌, IfOk};
+ghost use Rattle.std.specs.Prelude.{◌≡◌, OnOk};
 ghost use Rattle.spec_program.specs.Frames as f;
 ghost use Rattle.spec_program.specs.Frames.{some_arguments_read};
 ghost use Rattle.spec_reader.specs.Behind.{behind, found_by, codes_of_arguments};
@@ -15,10 +15,8 @@ use moo_reader::start::function_call;
 use moo_token::token::Sign;
 use moo_tree::expression::Codes;
 use reader_frames::frame::{ArgumentsFrame, Frame};
-use reader_frames::left::Left;
 use reader_frames::state::{Next, Part, State, begin, past_sign};
 use std::alloc::{AllocError, Global};
-use std::collections::VecDeque;
 
 /// Behind an argument, spliced or not: another one behind a comma.
 pub fn behind_argument(
@@ -26,21 +24,20 @@ pub fn behind_argument(
     brackets: bool,
     spliced: bool,
     argument: Found,
-    begun: VecDeque<Frame>,
-    mut left: Left,
-) -> Result<State, AllocError>
-    ensures { IfOk result (λ s. state_of s ≡ behind (f.behind_argument brackets spliced) (all_begun begun.items some_arguments_read) (found_of argument)
-        (left_of left)) }
+    state: &mut State,
+) -> Result<(), AllocError>
+    ensures { OnOk result (state_of state.new ≡ behind (f.behind_argument brackets spliced) (all_begun state.old.begun.items some_arguments_read) (found_of argument)
+        (left_of state.old.left)) }
 {
-    if left.take_sign(Sign::Comma) {
+    if state.left.take_sign(Sign::Comma) {
         let frame = ArgumentsFrame::Behind { spliced, argument };
-        let begun = begin(begun, Frame::Arguments(frame))?;
-        let next = Next::Arguments { brackets };
-        return Ok(State { next, begun, left });
+        begin(&mut state.begun, Frame::Arguments(frame))?;
+        state.next = Next::Arguments { brackets };
+        return Ok(());
     }
     let arguments = with_argument(spliced, argument, no_arguments(alloc))?;
-    let next = Next::Found(Part::Arguments(arguments));
-    Ok(State { next, begun, left })
+    state.next = Next::Found(Part::Arguments(arguments));
+    Ok(())
 }
 
 // They are codes of errors.
@@ -59,34 +56,34 @@ pub fn behind_arguments(
     alloc: Global,
     frame: ArgumentsFrame,
     arguments: Arguments,
-    begun: VecDeque<Frame>,
-    left: Left,
-) -> Result<State, AllocError>
-    ensures { IfOk result (λ s. state_of s ≡ found_by (arguments_begun frame (all_begun begun.items)) (arguments_found arguments) (left_of left)) }
+    state: &mut State,
+) -> Result<(), AllocError>
+    ensures { OnOk result (state_of state.new ≡ found_by (arguments_begun frame (all_begun state.old.begun.items)) (arguments_found arguments) (left_of state.old.left)) }
 {
     match frame {
         ArgumentsFrame::Behind { spliced, argument } => {
             let arguments = with_argument(spliced, argument, arguments)?;
-            let next = Next::Found(Part::Arguments(arguments));
-            Ok(State { next, begun, left })
+            state.next = Next::Found(Part::Arguments(arguments));
+            Ok(())
         }
         ArgumentsFrame::To(sign) => {
             let next = Next::Found(Part::Arguments(arguments));
-            Ok(past_sign(sign, next, begun, left))
+            past_sign(sign, next, state);
+            Ok(())
         }
         ArgumentsFrame::CallOf { name, line } => {
             let operand = function_call(alloc, &name, line, arguments)?;
-            let next = Next::Found(Part::Operand(operand));
-            Ok(State { next, begun, left })
+            state.next = Next::Found(Part::Operand(operand));
+            Ok(())
         }
         ArgumentsFrame::VerbOf { object, name } => {
             let found = verb_call(alloc, object, name, arguments)?;
-            let next = Next::Found(Part::Operand(whole(found)));
-            Ok(State { next, begun, left })
+            state.next = Next::Found(Part::Operand(whole(found)));
+            Ok(())
         }
         ArgumentsFrame::Codes => {
-            let next = Next::Found(Part::Codes(as_codes(arguments)));
-            Ok(State { next, begun, left })
+            state.next = Next::Found(Part::Codes(as_codes(arguments)));
+            Ok(())
         }
     }
 }

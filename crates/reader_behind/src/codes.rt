@@ -1,6 +1,6 @@
 //! Behind codes of errors.
 
-ghost use Rattle.std.specs.Prelude.{◌≡◌, IfOk};
+ghost use Rattle.std.specs.Prelude.{◌≡◌, OnOk};
 ghost use Rattle.spec_program.specs.Frames.{an_operand};
 ghost use Rattle.spec_reader.specs.Behind.{codes_read, found_by};
 ghost use Rattle.moo_reader.specs.Views.{found_of, codes_found};
@@ -12,10 +12,8 @@ use moo_reader::build::caught;
 use moo_reader::found::{Found, FoundCodes};
 use moo_token::token::Sign;
 use reader_frames::frame::{BlockFrame, CodesFrame, ExpressionFrame, Frame, WithinOperand};
-use reader_frames::left::Left;
 use reader_frames::state::{Next, Part, State, begin, past_sign};
 use std::alloc::{AllocError, Global};
-use std::collections::VecDeque;
 
 // Behind the codes of a caught expression: a value that stands in its place, or none.
 fn caught_codes(
@@ -24,25 +22,28 @@ fn caught_codes(
     line: u64,
     found: Found,
     codes: FoundCodes,
-    begun: VecDeque<Frame>,
-    mut left: Left,
-) -> Result<State, AllocError>
-    ensures { IfOk result (λ s. state_of s ≡ codes_read brackets line (found_of found) (all_begun begun.items an_operand) (codes_found codes)
-        (left_of left)) }
+    state: &mut State,
+) -> Result<(), AllocError>
+    ensures { OnOk result (state_of state.new ≡ codes_read brackets line (found_of found) (all_begun state.old.begun.items an_operand) (codes_found codes)
+        (left_of state.old.left)) }
 {
-    if left.take_sign(Sign::Arrow) {
+    if state.left.take_sign(Sign::Arrow) {
         let within = WithinOperand::Instead {
             line,
             caught: found,
             codes,
         };
-        let begun = begin(begun, Frame::Expression(ExpressionFrame::Operand(within)))?;
-        let next = Next::Expression { brackets, level: 0 };
-        return Ok(State { next, begun, left });
+        begin(
+            &mut state.begun,
+            Frame::Expression(ExpressionFrame::Operand(within)),
+        )?;
+        state.next = Next::Expression { brackets, level: 0 };
+        return Ok(());
     }
     let operand = caught(alloc, line, found, codes)?;
     let next = Next::Found(Part::Operand(operand));
-    Ok(past_sign(Sign::Quote, next, begun, left))
+    past_sign(Sign::Quote, next, state);
+    Ok(())
 }
 
 /// Behind codes of errors.
@@ -50,21 +51,21 @@ pub fn behind_codes(
     alloc: Global,
     frame: CodesFrame,
     codes: FoundCodes,
-    begun: VecDeque<Frame>,
-    left: Left,
-) -> Result<State, AllocError>
-    ensures { IfOk result (λ s. state_of s ≡ found_by (codes_begun frame (all_begun begun.items)) (codes_found codes) (left_of left)) }
+    state: &mut State,
+) -> Result<(), AllocError>
+    ensures { OnOk result (state_of state.new ≡ found_by (codes_begun frame (all_begun state.old.begun.items)) (codes_found codes) (left_of state.old.left)) }
 {
     match frame {
         CodesFrame::Caught {
             brackets,
             line,
             caught,
-        } => caught_codes(alloc, brackets, line, caught, codes, begun, left),
+        } => caught_codes(alloc, brackets, line, caught, codes, state),
         CodesFrame::Arm { variable } => {
             let frame = BlockFrame::Arm { variable, codes };
-            let begun = begin(begun, Frame::Block(frame))?;
-            Ok(past_sign(Sign::CloseParenthesis, Next::Block, begun, left))
+            begin(&mut state.begun, Frame::Block(frame))?;
+            past_sign(Sign::CloseParenthesis, Next::Block, state);
+            Ok(())
         }
     }
 }

@@ -1,6 +1,6 @@
 //! Behind an expression that is a part of another one.
 
-ghost use Rattle.std.specs.Prelude.{◌≡◌, IfOk};
+ghost use Rattle.std.specs.Prelude.{◌≡◌, OnOk};
 ghost use Rattle.spec_program.specs.Frames as f;
 ghost use Rattle.spec_program.specs.Frames.{an_expression};
 ghost use Rattle.spec_reader.specs.Behind.{behind};
@@ -13,18 +13,16 @@ use moo_reader::build::{assignment, conditional, joined, scatter};
 use moo_reader::found::{Found, Join};
 use moo_token::token::Sign;
 use reader_frames::frame::{ExpressionFrame, Frame, WithinExpression};
-use reader_frames::left::Left;
 use reader_frames::state::{Next, Part, State, begin, past_sign};
 use std::alloc::{AllocError, Global};
-use std::collections::VecDeque;
 
 // Behind the closing parenthesis; the line is that of the opening one.
-fn in_parentheses(line: u64, found: Found, begun: VecDeque<Frame>, left: Left) -> State
-    ensures { state_of result ≡ behind (f.in_parentheses line) (all_begun begun.items an_expression) (found_of found) (left_of left) }
+fn in_parentheses(line: u64, found: Found, state: &mut State)
+    ensures { state_of state.new ≡ behind (f.in_parentheses line) (all_begun state.old.begun.items an_expression) (found_of found) (left_of state.old.left) }
 {
     let Found { tree, nodes, .. } = found;
     let next = Next::Found(Part::Expression(Found { tree, line, nodes }));
-    past_sign(Sign::CloseParenthesis, next, begun, left)
+    past_sign(Sign::CloseParenthesis, next, state)
 }
 
 // Behind the right operand.
@@ -35,19 +33,18 @@ fn right_of(
     one: Found,
     join: Join,
     other: Found,
-    begun: VecDeque<Frame>,
-    left: Left,
-) -> Result<State, AllocError>
-    ensures { IfOk result (λ s. state_of s ≡ behind (f.right_of brackets level (found_of one) (join_of join)) (all_begun begun.items an_expression)
-        (found_of other) (left_of left)) }
+    state: &mut State,
+) -> Result<(), AllocError>
+    ensures { OnOk result (state_of state.new ≡ behind (f.right_of brackets level (found_of one) (join_of join)) (all_begun state.old.begun.items an_expression)
+        (found_of other) (left_of state.old.left)) }
 {
     let found = joined(alloc, join, one, other)?;
-    let next = Next::Operators {
+    state.next = Next::Operators {
         brackets,
         level,
         left: found,
     };
-    Ok(State { next, begun, left })
+    Ok(())
 }
 
 // Behind the first value of a choice.
@@ -56,11 +53,10 @@ fn chosen_first(
     level: u8,
     condition: Found,
     first: Found,
-    begun: VecDeque<Frame>,
-    left: Left,
-) -> Result<State, AllocError>
-    ensures { IfOk result (λ s. state_of s ≡ behind (f.chosen_first brackets level (found_of condition)) (all_begun begun.items an_expression)
-        (found_of first) (left_of left)) }
+    state: &mut State,
+) -> Result<(), AllocError>
+    ensures { OnOk result (state_of state.new ≡ behind (f.chosen_first brackets level (found_of condition)) (all_begun state.old.begun.items an_expression)
+        (found_of first) (left_of state.old.left)) }
 {
     let within = WithinExpression::ChosenSecond {
         brackets,
@@ -68,12 +64,13 @@ fn chosen_first(
         condition,
         first,
     };
-    let begun = begin(
-        begun,
+    begin(
+        &mut state.begun,
         Frame::Expression(ExpressionFrame::Expression(within)),
     )?;
     let next = Next::Expression { brackets, level: 1 };
-    Ok(past_sign(Sign::Bar, next, begun, left))
+    past_sign(Sign::Bar, next, state);
+    Ok(())
 }
 
 // Behind the second value of a choice.
@@ -84,19 +81,18 @@ fn chosen_second(
     condition: Found,
     first: Found,
     second: Found,
-    begun: VecDeque<Frame>,
-    left: Left,
-) -> Result<State, AllocError>
-    ensures { IfOk result (λ s. state_of s ≡ behind (f.chosen_second brackets level (found_of condition) (found_of first))
-        (all_begun begun.items an_expression) (found_of second) (left_of left)) }
+    state: &mut State,
+) -> Result<(), AllocError>
+    ensures { OnOk result (state_of state.new ≡ behind (f.chosen_second brackets level (found_of condition) (found_of first))
+        (all_begun state.old.begun.items an_expression) (found_of second) (left_of state.old.left)) }
 {
     let found = conditional(alloc, condition, first, second)?;
-    let next = Next::Operators {
+    state.next = Next::Operators {
         brackets,
         level,
         left: found,
     };
-    Ok(State { next, begun, left })
+    Ok(())
 }
 
 /// Behind an expression that is a part of another one.
@@ -104,47 +100,50 @@ pub fn behind_within_expression(
     alloc: Global,
     within: WithinExpression,
     found: Found,
-    begun: VecDeque<Frame>,
-    left: Left,
-) -> Result<State, AllocError>
-    ensures { IfOk result (λ s. state_of s ≡ behind (within_expression within) (all_begun begun.items an_expression) (found_of found) (left_of left)) }
+    state: &mut State,
+) -> Result<(), AllocError>
+    ensures { OnOk result (state_of state.new ≡ behind (within_expression within) (all_begun state.old.begun.items an_expression) (found_of found) (left_of state.old.left)) }
 {
     match within {
-        WithinExpression::Parentheses { line } => Ok(in_parentheses(line, found, begun, left)),
+        WithinExpression::Parentheses { line } => {
+            in_parentheses(line, found, state);
+            Ok(())
+        }
         WithinExpression::RightOf {
             brackets,
             level,
             left: one,
             join,
-        } => right_of(alloc, brackets, level, one, join, found, begun, left),
+        } => right_of(alloc, brackets, level, one, join, found, state),
         WithinExpression::ChosenFirst {
             brackets,
             level,
             condition,
-        } => chosen_first(brackets, level, condition, found, begun, left),
+        } => chosen_first(brackets, level, condition, found, state),
         WithinExpression::ChosenSecond {
             brackets,
             level,
             condition,
             first,
-        } => chosen_second(alloc, brackets, level, condition, first, found, begun, left),
+        } => chosen_second(alloc, brackets, level, condition, first, found, state),
         WithinExpression::AssignedTo {
             target,
             line,
             nodes,
         } => {
             let found = assignment(alloc, target, line, nodes, found)?;
-            let next = Next::Found(Part::Expression(found));
-            Ok(State { next, begun, left })
+            state.next = Next::Found(Part::Expression(found));
+            Ok(())
         }
         WithinExpression::ScatteredTo { items, line, nodes } => {
             let found = scatter(alloc, items, line, nodes, found)?;
-            let next = Next::Found(Part::Expression(found));
-            Ok(State { next, begun, left })
+            state.next = Next::Found(Part::Expression(found));
+            Ok(())
         }
         WithinExpression::Head => {
             let next = Next::Found(Part::Expression(found));
-            Ok(past_sign(Sign::CloseParenthesis, next, begun, left))
+            past_sign(Sign::CloseParenthesis, next, state);
+            Ok(())
         }
     }
 }

@@ -1,6 +1,6 @@
 //! Behind an item of braces, and behind items.
 
-ghost use Rattle.std.specs.Prelude.{◌≡◌, IfOk};
+ghost use Rattle.std.specs.Prelude.{◌≡◌, OnOk};
 ghost use Rattle.spec_program.specs.Frames.{some_items_read};
 ghost use Rattle.spec_reader.specs.Behind.{behind, found_by};
 ghost use Rattle.moo_reader.specs.Views.{found_of, items_found};
@@ -12,21 +12,18 @@ use moo_reader::found::{BracedItem, Found, Items};
 use moo_reader::items::{braces_found, with_item};
 use reader_frames::allowed::{list_alone, scatter_alone};
 use reader_frames::ends::items_on;
-use reader_frames::frame::{Frame, ItemsFrame, WithinItems};
-use reader_frames::left::Left;
+use reader_frames::frame::{ItemsFrame, WithinItems};
 use reader_frames::state::{Next, Part, State};
 use std::alloc::{AllocError, Global};
-use std::collections::VecDeque;
 
 /// Behind an expression that is a part of an item.
 pub fn behind_within_items(
     alloc: Global,
     within: WithinItems,
     found: Found,
-    begun: VecDeque<Frame>,
-    left: Left,
-) -> Result<State, AllocError>
-    ensures { IfOk result (λ s. state_of s ≡ behind (within_items within) (all_begun begun.items some_items_read) (found_of found) (left_of left)) }
+    state: &mut State,
+) -> Result<(), AllocError>
+    ensures { OnOk result (state_of state.new ≡ behind (within_items within) (all_begun state.old.begun.items some_items_read) (found_of found) (left_of state.old.left)) }
 {
     match within {
         WithinItems::Value {
@@ -35,7 +32,7 @@ pub fn behind_within_items(
             spliced,
         } => {
             let item = BracedItem::Other(spliced, found);
-            items_on(alloc, brackets, list_alone(allowed), item, begun, left)
+            items_on(alloc, brackets, list_alone(allowed), item, state)
         }
         WithinItems::Default {
             brackets,
@@ -43,7 +40,7 @@ pub fn behind_within_items(
             name,
         } => {
             let item = BracedItem::WithDefault(name, found);
-            items_on(alloc, brackets, scatter_alone(allowed), item, begun, left)
+            items_on(alloc, brackets, scatter_alone(allowed), item, state)
         }
     }
 }
@@ -53,21 +50,20 @@ pub fn behind_items(
     alloc: Global,
     frame: ItemsFrame,
     items: Items,
-    begun: VecDeque<Frame>,
-    left: Left,
-) -> Result<State, AllocError>
-    ensures { IfOk result (λ s. state_of s ≡ found_by (items_begun frame (all_begun begun.items)) (items_found items) (left_of left)) }
+    state: &mut State,
+) -> Result<(), AllocError>
+    ensures { OnOk result (state_of state.new ≡ found_by (items_begun frame (all_begun state.old.begun.items)) (items_found items) (left_of state.old.left)) }
 {
     match frame {
         ItemsFrame::Behind(item) => {
             let items = with_item(alloc, item, items)?;
-            let next = Next::Found(Part::Items(items));
-            Ok(State { next, begun, left })
+            state.next = Next::Found(Part::Items(items));
+            Ok(())
         }
         ItemsFrame::Braces { line } => {
             let operand = braces_found(alloc, line, items)?;
-            let next = Next::Found(Part::Operand(operand));
-            Ok(State { next, begun, left })
+            state.next = Next::Found(Part::Operand(operand));
+            Ok(())
         }
     }
 }

@@ -1,6 +1,6 @@
 //! Behind an expression that is a part of an operand.
 
-ghost use Rattle.std.specs.Prelude.{◌≡◌, IfOk};
+ghost use Rattle.std.specs.Prelude.{◌≡◌, OnOk};
 ghost use Rattle.spec_program.specs.Frames as f;
 ghost use Rattle.spec_program.specs.Frames.{an_operand};
 ghost use Rattle.spec_reader.specs.Behind.{behind};
@@ -18,10 +18,8 @@ use reader_frames::ends::{arguments_to, codes_begin};
 use reader_frames::frame::{
     ArgumentsFrame, CodesFrame, ExpressionFrame, Frame, OperandFrame, WithinOperand,
 };
-use reader_frames::left::Left;
 use reader_frames::state::{Next, Part, State, begin, past_sign, stuck};
 use std::alloc::{AllocError, Global};
-use std::collections::VecDeque;
 
 // Behind the operand of a sign.
 fn unary_read(
@@ -29,15 +27,14 @@ fn unary_read(
     operator: UnaryOperator,
     line: u64,
     found: Found,
-    begun: VecDeque<Frame>,
-    left: Left,
-) -> Result<State, AllocError>
-    ensures { IfOk result (λ s. state_of s ≡ behind (f.behind_sign (unary_of operator) line) (all_begun begun.items an_operand) (found_of found)
-        (left_of left)) }
+    state: &mut State,
+) -> Result<(), AllocError>
+    ensures { OnOk result (state_of state.new ≡ behind (f.behind_sign (unary_of operator) line) (all_begun state.old.begun.items an_operand) (found_of found)
+        (left_of state.old.left)) }
 {
     let found = unary(alloc, operator, line, found)?;
-    let next = Next::Found(Part::Operand(whole(found)));
-    Ok(State { next, begun, left })
+    state.next = Next::Found(Part::Operand(whole(found)));
+    Ok(())
 }
 
 // Behind the name of a property.
@@ -46,16 +43,15 @@ fn property_named(
     brackets: bool,
     object: Operand,
     name: Found,
-    begun: VecDeque<Frame>,
-    left: Left,
-) -> Result<State, AllocError>
-    ensures { IfOk result (λ s. state_of s ≡ behind (f.property_name brackets (operand_of object)) (all_begun begun.items an_operand) (found_of name)
-        (left_of left)) }
+    state: &mut State,
+) -> Result<(), AllocError>
+    ensures { OnOk result (state_of state.new ≡ behind (f.property_name brackets (operand_of object)) (all_begun state.old.begun.items an_operand) (found_of name)
+        (left_of state.old.left)) }
 {
     let Operand { found, .. } = object;
     let operand = property_of(alloc, found, name)?;
-    let next = Next::Steps { brackets, operand };
-    Ok(State { next, begun, left })
+    state.next = Next::Steps { brackets, operand };
+    Ok(())
 }
 
 // Behind the name of a verb: its arguments.
@@ -64,23 +60,26 @@ fn verb_named(
     brackets: bool,
     object: Operand,
     name: Found,
-    begun: VecDeque<Frame>,
-    mut left: Left,
-) -> Result<State, AllocError>
-    ensures { IfOk result (λ s. state_of s ≡ behind (f.verb_name brackets (operand_of object)) (all_begun begun.items an_operand) (found_of name)
-        (left_of left)) }
+    state: &mut State,
+) -> Result<(), AllocError>
+    ensures { OnOk result (state_of state.new ≡ behind (f.verb_name brackets (operand_of object)) (all_begun state.old.begun.items an_operand) (found_of name)
+        (left_of state.old.left)) }
 {
-    if !left.take_sign(Sign::OpenParenthesis) {
-        return Ok(stuck(begun, left));
+    if !state.left.take_sign(Sign::OpenParenthesis) {
+        stuck(state);
+        return Ok(());
     }
     let Operand { found, .. } = object;
-    let begun = begin(begun, Frame::Operand(OperandFrame::Steps { brackets }))?;
+    begin(
+        &mut state.begun,
+        Frame::Operand(OperandFrame::Steps { brackets }),
+    )?;
     let frame = ArgumentsFrame::VerbOf {
         object: found,
         name,
     };
-    let begun = begin(begun, Frame::Arguments(frame))?;
-    arguments_to(alloc, Sign::CloseParenthesis, brackets, begun, left)
+    begin(&mut state.begun, Frame::Arguments(frame))?;
+    arguments_to(alloc, Sign::CloseParenthesis, brackets, state)
 }
 
 // Behind an index, or the first one of a range.
@@ -89,28 +88,31 @@ fn index_read(
     brackets: bool,
     list: Operand,
     index: Found,
-    begun: VecDeque<Frame>,
-    mut left: Left,
-) -> Result<State, AllocError>
-    ensures { IfOk result (λ s. state_of s ≡ behind (f.index_in brackets (operand_of list)) (all_begun begun.items an_operand) (found_of index)
-        (left_of left)) }
+    state: &mut State,
+) -> Result<(), AllocError>
+    ensures { OnOk result (state_of state.new ≡ behind (f.index_in brackets (operand_of list)) (all_begun state.old.begun.items an_operand) (found_of index)
+        (left_of state.old.left)) }
 {
-    if left.take_sign(Sign::DoubleDot) {
+    if state.left.take_sign(Sign::DoubleDot) {
         let within = WithinOperand::Range {
             brackets,
             list,
             first: index,
         };
-        let begun = begin(begun, Frame::Expression(ExpressionFrame::Operand(within)))?;
-        let next = Next::Expression {
+        begin(
+            &mut state.begun,
+            Frame::Expression(ExpressionFrame::Operand(within)),
+        )?;
+        state.next = Next::Expression {
             brackets: true,
             level: 0,
         };
-        return Ok(State { next, begun, left });
+        return Ok(());
     }
     let operand = index_of(alloc, list, index)?;
     let next = Next::Steps { brackets, operand };
-    Ok(past_sign(Sign::CloseBracket, next, begun, left))
+    past_sign(Sign::CloseBracket, next, state);
+    Ok(())
 }
 
 // Behind the last index of a range.
@@ -120,15 +122,15 @@ fn range_read(
     list: Operand,
     first: Found,
     last: Found,
-    begun: VecDeque<Frame>,
-    left: Left,
-) -> Result<State, AllocError>
-    ensures { IfOk result (λ s. state_of s ≡ behind (f.range_in brackets (operand_of list) (found_of first)) (all_begun begun.items an_operand)
-        (found_of last) (left_of left)) }
+    state: &mut State,
+) -> Result<(), AllocError>
+    ensures { OnOk result (state_of state.new ≡ behind (f.range_in brackets (operand_of list) (found_of first)) (all_begun state.old.begun.items an_operand)
+        (found_of last) (left_of state.old.left)) }
 {
     let operand = range_of(alloc, list, first, last)?;
     let next = Next::Steps { brackets, operand };
-    Ok(past_sign(Sign::CloseBracket, next, begun, left))
+    past_sign(Sign::CloseBracket, next, state);
+    Ok(())
 }
 
 // Behind an expression whose errors are caught: the codes.
@@ -137,21 +139,21 @@ fn caught_read(
     brackets: bool,
     line: u64,
     caught: Found,
-    begun: VecDeque<Frame>,
-    mut left: Left,
-) -> Result<State, AllocError>
-    ensures { IfOk result (λ s. state_of s ≡ behind (f.caught_in brackets line) (all_begun begun.items an_operand) (found_of caught) (left_of left)) }
+    state: &mut State,
+) -> Result<(), AllocError>
+    ensures { OnOk result (state_of state.new ≡ behind (f.caught_in brackets line) (all_begun state.old.begun.items an_operand) (found_of caught) (left_of state.old.left)) }
 {
-    if !left.take_sign(Sign::Not) {
-        return Ok(stuck(begun, left));
+    if !state.left.take_sign(Sign::Not) {
+        stuck(state);
+        return Ok(());
     }
     let frame = CodesFrame::Caught {
         brackets,
         line,
         caught,
     };
-    let begun = begin(begun, Frame::Codes(frame))?;
-    codes_begin(alloc, brackets, begun, left)
+    begin(&mut state.begun, Frame::Codes(frame))?;
+    codes_begin(alloc, brackets, state)
 }
 
 // Behind the value that stands in the place of an error.
@@ -161,15 +163,15 @@ fn instead_read(
     caught: Found,
     codes: FoundCodes,
     value: Found,
-    begun: VecDeque<Frame>,
-    left: Left,
-) -> Result<State, AllocError>
-    ensures { IfOk result (λ s. state_of s ≡ behind (f.caught_instead line (found_of caught) (codes_found codes)) (all_begun begun.items an_operand)
-        (found_of value) (left_of left)) }
+    state: &mut State,
+) -> Result<(), AllocError>
+    ensures { OnOk result (state_of state.new ≡ behind (f.caught_instead line (found_of caught) (codes_found codes)) (all_begun state.old.begun.items an_operand)
+        (found_of value) (left_of state.old.left)) }
 {
     let operand = caught_instead(alloc, line, caught, codes, value)?;
     let next = Next::Found(Part::Operand(operand));
-    Ok(past_sign(Sign::Quote, next, begun, left))
+    past_sign(Sign::Quote, next, state);
+    Ok(())
 }
 
 /// Behind an expression that is a part of an operand.
@@ -177,40 +179,39 @@ pub fn behind_within_operand(
     alloc: Global,
     within: WithinOperand,
     found: Found,
-    begun: VecDeque<Frame>,
-    left: Left,
-) -> Result<State, AllocError>
-    ensures { IfOk result (λ s. state_of s ≡ behind (within_operand within) (all_begun begun.items an_operand) (found_of found) (left_of left)) }
+    state: &mut State,
+) -> Result<(), AllocError>
+    ensures { OnOk result (state_of state.new ≡ behind (within_operand within) (all_begun state.old.begun.items an_operand) (found_of found) (left_of state.old.left)) }
 {
     match within {
         WithinOperand::Whole => {
-            let next = Next::Found(Part::Operand(whole(found)));
-            Ok(State { next, begun, left })
+            state.next = Next::Found(Part::Operand(whole(found)));
+            Ok(())
         }
         WithinOperand::Unary { operator, line } => {
-            unary_read(alloc, operator, line, found, begun, left)
+            unary_read(alloc, operator, line, found, state)
         }
         WithinOperand::PropertyName { brackets, object } => {
-            property_named(alloc, brackets, object, found, begun, left)
+            property_named(alloc, brackets, object, found, state)
         }
         WithinOperand::VerbName { brackets, object } => {
-            verb_named(alloc, brackets, object, found, begun, left)
+            verb_named(alloc, brackets, object, found, state)
         }
         WithinOperand::Index { brackets, list } => {
-            index_read(alloc, brackets, list, found, begun, left)
+            index_read(alloc, brackets, list, found, state)
         }
         WithinOperand::Range {
             brackets,
             list,
             first,
-        } => range_read(alloc, brackets, list, first, found, begun, left),
+        } => range_read(alloc, brackets, list, first, found, state),
         WithinOperand::Caught { brackets, line } => {
-            caught_read(alloc, brackets, line, found, begun, left)
+            caught_read(alloc, brackets, line, found, state)
         }
         WithinOperand::Instead {
             line,
             caught,
             codes,
-        } => instead_read(alloc, line, caught, codes, found, begun, left),
+        } => instead_read(alloc, line, caught, codes, found, state),
     }
 }

@@ -1,6 +1,6 @@
 //! Behind an operand: an assignment, or its operators.
 
-ghost use Rattle.std.specs.Prelude.{◌≡◌, IfOk};
+ghost use Rattle.std.specs.Prelude.{◌≡◌, OnOk};
 ghost use Rattle.spec_program.specs.Tokens as t;
 ghost use Rattle.spec_program.specs.Tree.{own_length};
 ghost use Rattle.spec_program.specs.ReadExpressions as by;
@@ -26,7 +26,6 @@ use reader_frames::frame::{ExpressionFrame, Frame, OperandFrame, WithinExpressio
 use reader_frames::left::Left;
 use reader_frames::state::{Next, State, begin, past_sign, stuck};
 use std::alloc::{AllocError, Global};
-use std::collections::VecDeque;
 
 // Whether any expression may stand at this level.
 #[tactic(auto, using(crate::proofs::Assigning::any_level))]
@@ -44,15 +43,14 @@ fn is_assigned(level: u8, left: &Left) -> bool
 }
 
 // The operators behind an expression.
-fn operators(brackets: bool, level: u8, found: Found, begun: VecDeque<Frame>, left: Left) -> State
-    ensures { state_of result ≡ goes (reads_operators brackets level (found_of found) (all_begun begun.items an_expression)) (left_of left) }
+fn operators(brackets: bool, level: u8, found: Found, state: &mut State)
+    ensures { state_of state.new ≡ goes (reads_operators brackets level (found_of found) (all_begun state.old.begun.items an_expression)) (left_of state.old.left) }
 {
-    let next = Next::Operators {
+    state.next = Next::Operators {
         brackets,
         level,
         left: found,
     };
-    State { next, begun, left }
 }
 
 // The value of an assignment.
@@ -61,24 +59,24 @@ fn assigned(
     target: Target,
     line: u64,
     nodes: Vec<Node>,
-    begun: VecDeque<Frame>,
-    left: Left,
-) -> Result<State, AllocError>
-    ensures { IfOk result (λ s. state_of s ≡ ends.past_sign t.assign (reads_expression brackets 0
-        (push (f.assigned_to (record { tree = own_length; line = line; nodes = nodes_of nodes.items }) target) (all_begun begun.items an_expression)))
-        (left_of left)) }
+    state: &mut State,
+) -> Result<(), AllocError>
+    ensures { OnOk result (state_of state.new ≡ ends.past_sign t.assign (reads_expression brackets 0
+        (push (f.assigned_to (record { tree = own_length; line = line; nodes = nodes_of nodes.items }) target) (all_begun state.old.begun.items an_expression)))
+        (left_of state.old.left)) }
 {
     let within = WithinExpression::AssignedTo {
         target,
         line,
         nodes,
     };
-    let begun = begin(
-        begun,
+    begin(
+        &mut state.begun,
         Frame::Expression(ExpressionFrame::Expression(within)),
     )?;
     let next = Next::Expression { brackets, level: 0 };
-    Ok(past_sign(Sign::Assign, next, begun, left))
+    past_sign(Sign::Assign, next, state);
+    Ok(())
 }
 
 // The value of a scatter.
@@ -87,19 +85,19 @@ fn scattered(
     items: Vec<Item>,
     line: u64,
     nodes: Vec<Node>,
-    begun: VecDeque<Frame>,
-    left: Left,
-) -> Result<State, AllocError>
-    ensures { IfOk result (λ s. state_of s ≡ ends.past_sign t.assign (reads_expression brackets 0
-        (push (f.scattered_to line (items_of items.items) (nodes_of nodes.items)) (all_begun begun.items an_expression))) (left_of left)) }
+    state: &mut State,
+) -> Result<(), AllocError>
+    ensures { OnOk result (state_of state.new ≡ ends.past_sign t.assign (reads_expression brackets 0
+        (push (f.scattered_to line (items_of items.items) (nodes_of nodes.items)) (all_begun state.old.begun.items an_expression))) (left_of state.old.left)) }
 {
     let within = WithinExpression::ScatteredTo { items, line, nodes };
-    let begun = begin(
-        begun,
+    begin(
+        &mut state.begun,
         Frame::Expression(ExpressionFrame::Expression(within)),
     )?;
     let next = Next::Expression { brackets, level: 0 };
-    Ok(past_sign(Sign::Assign, next, begun, left))
+    past_sign(Sign::Assign, next, state);
+    Ok(())
 }
 
 // Behind what is no scatter.
@@ -110,21 +108,21 @@ fn behind_target(
     level: u8,
     found: Found,
     is_target: bool,
-    begun: VecDeque<Frame>,
-    left: Left,
-) -> Result<State, AllocError>
-    ensures { IfOk result (λ s. state_of s ≡ target_read brackets level (found_of found) (target_if is_target found.tree)
-        (all_begun begun.items an_expression) (left_of left)) }
+    state: &mut State,
+) -> Result<(), AllocError>
+    ensures { OnOk result (state_of state.new ≡ target_read brackets level (found_of found) (target_if is_target found.tree)
+        (all_begun state.old.begun.items an_expression) (left_of state.old.left)) }
 {
-    let is_read = is_target && is_assigned(level, &left);
+    let is_read = is_target && is_assigned(level, &state.left);
     if !is_read {
-        return Ok(operators(brackets, level, found, begun, left));
+        operators(brackets, level, found, state);
+        return Ok(());
     }
     let Found { tree, line, nodes } = found;
     let Some(target) = target_of(alloc, tree)? else {
         return Err(AllocError);
     };
-    assigned(brackets, target, line, nodes, begun, left)
+    assigned(brackets, target, line, nodes, state)
 }
 
 // Behind braces that may be a scatter.
@@ -135,16 +133,16 @@ fn behind_perhaps(
     found: Found,
     items: Vec<Item>,
     nodes: Vec<Node>,
-    begun: VecDeque<Frame>,
-    left: Left,
-) -> Result<State, AllocError>
-    ensures { IfOk result (λ s. state_of s ≡ braces_read brackets level (by.whole (found_of found))
-        (by.perhaps_scatter (items_of items.items) (nodes_of nodes.items)) (all_begun begun.items an_expression) (left_of left)) }
+    state: &mut State,
+) -> Result<(), AllocError>
+    ensures { OnOk result (state_of state.new ≡ braces_read brackets level (by.whole (found_of found))
+        (by.perhaps_scatter (items_of items.items) (nodes_of nodes.items)) (all_begun state.old.begun.items an_expression) (left_of state.old.left)) }
 {
-    if is_assigned(level, &left) {
-        return scattered(brackets, items, found.line, nodes, begun, left);
+    if is_assigned(level, &state.left) {
+        return scattered(brackets, items, found.line, nodes, state);
     }
-    Ok(operators(brackets, level, found, begun, left))
+    operators(brackets, level, found, state);
+    Ok(())
 }
 
 // Behind braces that are a scatter.
@@ -154,17 +152,17 @@ fn behind_surely(
     line: u64,
     items: Vec<Item>,
     nodes: Vec<Node>,
-    begun: VecDeque<Frame>,
-    left: Left,
-) -> Result<State, AllocError>
-    ensures { IfOk result (λ s. state_of s ≡ scattered_or_stuck (reads_expression brackets 0
-        (push (f.scattered_to line (items_of items.items) (nodes_of nodes.items)) (all_begun begun.items an_expression)))
-        (is_any_level level) (left_of left)) }
+    state: &mut State,
+) -> Result<(), AllocError>
+    ensures { OnOk result (state_of state.new ≡ scattered_or_stuck (reads_expression brackets 0
+        (push (f.scattered_to line (items_of items.items) (nodes_of nodes.items)) (all_begun state.old.begun.items an_expression)))
+        (is_any_level level) (left_of state.old.left)) }
 {
     if is_any_level(level) {
-        return scattered(brackets, items, line, nodes, begun, left);
+        return scattered(brackets, items, line, nodes, state);
     }
-    Ok(stuck(begun, left))
+    stuck(state);
+    Ok(())
 }
 
 fn behind_value(
@@ -172,11 +170,10 @@ fn behind_value(
     brackets: bool,
     level: u8,
     operand: Operand,
-    begun: VecDeque<Frame>,
-    left: Left,
-) -> Result<State, AllocError>
-    ensures { IfOk result (λ s. state_of s ≡ braces_read brackets level (operand_of operand) (operand_of operand).braces
-        (all_begun begun.items an_expression) (left_of left)) }
+    state: &mut State,
+) -> Result<(), AllocError>
+    ensures { OnOk result (state_of state.new ≡ braces_read brackets level (operand_of operand) (operand_of operand).braces
+        (all_begun state.old.begun.items an_expression) (left_of state.old.left)) }
 {
     let Operand {
         found,
@@ -185,12 +182,12 @@ fn behind_value(
         ..
     } = operand;
     match braces {
-        Braces::NoScatter => behind_target(alloc, brackets, level, found, is_target, begun, left),
+        Braces::NoScatter => behind_target(alloc, brackets, level, found, is_target, state),
         Braces::PerhapsScatter(items, nodes) => {
-            behind_perhaps(brackets, level, found, items, nodes, begun, left)
+            behind_perhaps(brackets, level, found, items, nodes, state)
         }
         Braces::SurelyScatter(items, nodes) => {
-            behind_surely(brackets, level, found.line, items, nodes, begun, left)
+            behind_surely(brackets, level, found.line, items, nodes, state)
         }
     }
 }
@@ -200,18 +197,17 @@ pub fn behind_operand(
     alloc: Global,
     frame: OperandFrame,
     operand: Operand,
-    begun: VecDeque<Frame>,
-    left: Left,
-) -> Result<State, AllocError>
-    ensures { IfOk result (λ s. state_of s ≡ found_by (operand_begun frame (all_begun begun.items)) (operand_of operand) (left_of left)) }
+    state: &mut State,
+) -> Result<(), AllocError>
+    ensures { OnOk result (state_of state.new ≡ found_by (operand_begun frame (all_begun state.old.begun.items)) (operand_of operand) (left_of state.old.left)) }
 {
     match frame {
         OperandFrame::Steps { brackets } => {
-            let next = Next::Steps { brackets, operand };
-            Ok(State { next, begun, left })
+            state.next = Next::Steps { brackets, operand };
+            Ok(())
         }
         OperandFrame::Value { brackets, level } => {
-            behind_value(alloc, brackets, level, operand, begun, left)
+            behind_value(alloc, brackets, level, operand, state)
         }
     }
 }

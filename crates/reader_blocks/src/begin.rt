@@ -1,6 +1,6 @@
 //! What begins a statement, a branch and a handler.
 
-ghost use Rattle.std.specs.Prelude.{◌≡◌, ◌∷◌, IfOk};
+ghost use Rattle.std.specs.Prelude.{◌≡◌, ◌∷◌, OnOk};
 ghost use Rattle.spec_program.specs.Tokens as t;
 ghost use Rattle.spec_program.specs.Frames as f;
 ghost use Rattle.spec_program.specs.Frames.{a_block, some_arms_read, some_branches_read, push};
@@ -22,84 +22,69 @@ use moo_token::token::{Keyword, Placed, Sign, Token};
 use moo_value::text::Text;
 use reader_frames::ends::codes_begin;
 use reader_frames::frame::{CodesFrame, ExpressionFrame, Frame, WithinExpression, WithinStatement};
-use reader_frames::left::Left;
 use reader_frames::state::{Next, Part, State, begin, past_sign, stuck};
 use std::alloc::{AllocError, Global};
-use std::collections::VecDeque;
 
 /// A branch: its condition in parentheses.
-pub fn branches_begin(begun: VecDeque<Frame>, left: Left) -> Result<State, AllocError>
-    ensures { IfOk result (λ s. state_of s ≡ meant.branches_begin (all_begun begun.items some_branches_read) (left_of left)) }
+pub fn branches_begin(state: &mut State) -> Result<(), AllocError>
+    ensures { OnOk result (state_of state.new ≡ meant.branches_begin (all_begun state.old.begun.items some_branches_read) (left_of state.old.left)) }
 {
-    let begun = begin(begun, Frame::Expression(ExpressionFrame::Condition))?;
+    begin(
+        &mut state.begun,
+        Frame::Expression(ExpressionFrame::Condition),
+    )?;
     let within = WithinExpression::Head;
-    let begun = begin(
-        begun,
+    begin(
+        &mut state.begun,
         Frame::Expression(ExpressionFrame::Expression(within)),
     )?;
     let next = Next::Expression {
         brackets: false,
         level: 0,
     };
-    Ok(past_sign(Sign::OpenParenthesis, next, begun, left))
+    past_sign(Sign::OpenParenthesis, next, state);
+    Ok(())
 }
 
 // A handler: the codes in parentheses.
-fn arm_named(
-    alloc: Global,
-    variable: Option<Text>,
-    begun: VecDeque<Frame>,
-    mut left: Left,
-) -> Result<State, AllocError>
-    ensures { IfOk result (λ s. state_of s ≡ meant.arm_named variable (all_begun begun.items some_arms_read) (left_of left)) }
+fn arm_named(alloc: Global, variable: Option<Text>, state: &mut State) -> Result<(), AllocError>
+    ensures { OnOk result (state_of state.new ≡ meant.arm_named variable (all_begun state.old.begun.items some_arms_read) (left_of state.old.left)) }
 {
-    if !left.take_sign(Sign::OpenParenthesis) {
-        return Ok(stuck(begun, left));
+    if !state.left.take_sign(Sign::OpenParenthesis) {
+        stuck(state);
+        return Ok(());
     }
-    let begun = begin(begun, Frame::Codes(CodesFrame::Arm { variable }))?;
-    codes_begin(alloc, false, begun, left)
+    begin(&mut state.begun, Frame::Codes(CodesFrame::Arm { variable }))?;
+    codes_begin(alloc, false, state)
 }
 
 /// A handler: the variable that gets the error, if any, and the codes in parentheses.
 #[tactic(auto, using(crate::proofs::Words::arm_by_name))]
-pub fn arms_begin(
-    alloc: Global,
-    begun: VecDeque<Frame>,
-    mut left: Left,
-) -> Result<State, AllocError>
-    ensures { IfOk result (λ s. state_of s ≡ meant.arms_begin (all_begun begun.items some_arms_read) (left_of left)) }
+pub fn arms_begin(alloc: Global, state: &mut State) -> Result<(), AllocError>
+    ensures { OnOk result (state_of state.new ≡ meant.arms_begin (all_begun state.old.begun.items some_arms_read) (left_of state.old.left)) }
 {
-    let variable = perhaps_name(alloc, &mut left)?;
-    arm_named(alloc, variable, begun, left)
+    let variable = perhaps_name(alloc, &mut state.left)?;
+    arm_named(alloc, variable, state)
 }
 
 // Statements end before the next token, which is put back.
-fn ends_before(
-    alloc: Global,
-    placed: Placed,
-    begun: VecDeque<Frame>,
-    mut left: Left,
-) -> Result<State, AllocError>
-    ensures { IfOk result (λ s. state_of s ≡ goes (found (all_begun begun.items a_block) by.no_statements) (place_meant (place_of placed) ∷ left_of left)) }
+fn ends_before(alloc: Global, placed: Placed, state: &mut State) -> Result<(), AllocError>
+    ensures { OnOk result (state_of state.new ≡ goes (found (all_begun state.old.begun.items a_block) by.no_statements) (place_meant (place_of placed) ∷ left_of state.old.left)) }
 {
-    left.put_back(placed)?;
-    let next = Next::Found(Part::Block(no_statements(alloc)));
-    Ok(State { next, begun, left })
+    state.left.put_back(placed)?;
+    state.next = Next::Found(Part::Block(no_statements(alloc)));
+    Ok(())
 }
 
 // An expression, which begins with the next token.
-fn expression_begins(
-    placed: Placed,
-    begun: VecDeque<Frame>,
-    mut left: Left,
-) -> Result<State, AllocError>
-    ensures { IfOk result (λ s. state_of s ≡ meant.expression_statement (push f.block_behind (all_begun begun.items a_block)) placed.line
-        (place_meant (place_of placed) ∷ left_of left)) }
+fn expression_begins(placed: Placed, state: &mut State) -> Result<(), AllocError>
+    ensures { OnOk result (state_of state.new ≡ meant.expression_statement (push f.block_behind (all_begun state.old.begun.items a_block)) placed.line
+        (place_meant (place_of placed) ∷ left_of state.old.left)) }
 {
     let line = placed.line;
-    left.put_back(placed)?;
-    let begun = begin(begun, Frame::Statement)?;
-    part_begins(WithinStatement::Evaluated { line }, begun, left)
+    state.left.put_back(placed)?;
+    begin(&mut state.begun, Frame::Statement)?;
+    part_begins(WithinStatement::Evaluated { line }, state)
 }
 
 // A statement that begins with a word of the language, or the end of the statements.
@@ -107,24 +92,47 @@ fn statement_by_keyword(
     alloc: Global,
     keyword: Keyword,
     line: u64,
-    begun: VecDeque<Frame>,
-    left: Left,
-) -> Result<State, AllocError>
-    ensures { IfOk result (λ s. state_of s ≡ meant.statement_by_keyword (all_begun begun.items a_block) (push f.block_behind (all_begun begun.items a_block))
-        (keyword_meant keyword) line (left_of left) (record { token = t.keyword (keyword_meant keyword); line = line } ∷ left_of left)) }
+    state: &mut State,
+) -> Result<(), AllocError>
+    ensures { OnOk result (state_of state.new ≡ meant.statement_by_keyword (all_begun state.old.begun.items a_block) (push f.block_behind (all_begun state.old.begun.items a_block))
+        (keyword_meant keyword) line (left_of state.old.left) (record { token = t.keyword (keyword_meant keyword); line = line } ∷ left_of state.old.left)) }
 {
     match keyword {
-        Keyword::If => if_begins(line, begin(begun, Frame::Statement)?, left),
-        Keyword::For => for_begins(alloc, line, begin(begun, Frame::Statement)?, left),
-        Keyword::While => while_begins(alloc, line, begin(begun, Frame::Statement)?, left),
-        Keyword::Fork => fork_begins(alloc, line, begin(begun, Frame::Statement)?, left),
-        Keyword::Try => try_begins(line, begin(begun, Frame::Statement)?, left),
-        Keyword::Break => break_begins(alloc, line, begin(begun, Frame::Statement)?, left),
-        Keyword::Continue => continue_begins(alloc, line, begin(begun, Frame::Statement)?, left),
-        Keyword::Return => return_begins(alloc, line, begin(begun, Frame::Statement)?, left),
+        Keyword::If => {
+            begin(&mut state.begun, Frame::Statement)?;
+            if_begins(line, state)
+        }
+        Keyword::For => {
+            begin(&mut state.begun, Frame::Statement)?;
+            for_begins(alloc, line, state)
+        }
+        Keyword::While => {
+            begin(&mut state.begun, Frame::Statement)?;
+            while_begins(alloc, line, state)
+        }
+        Keyword::Fork => {
+            begin(&mut state.begun, Frame::Statement)?;
+            fork_begins(alloc, line, state)
+        }
+        Keyword::Try => {
+            begin(&mut state.begun, Frame::Statement)?;
+            try_begins(line, state)
+        }
+        Keyword::Break => {
+            begin(&mut state.begun, Frame::Statement)?;
+            break_begins(alloc, line, state)
+        }
+        Keyword::Continue => {
+            begin(&mut state.begun, Frame::Statement)?;
+            continue_begins(alloc, line, state)
+        }
+        Keyword::Return => {
+            begin(&mut state.begun, Frame::Statement)?;
+            return_begins(alloc, line, state)
+        }
         _ => {
             let token = Token::Keyword(keyword);
-            ends_before(alloc, Placed { token, line }, begun, left)
+            ends_before(alloc, Placed { token, line }, state)
         }
     }
 }
@@ -133,16 +141,15 @@ fn statement_by_sign(
     alloc: Global,
     sign: Sign,
     line: u64,
-    begun: VecDeque<Frame>,
-    left: Left,
-) -> Result<State, AllocError>
-    ensures { IfOk result (λ s. state_of s ≡ meant.statement_by_sign (all_begun begun.items a_block) (push f.block_behind (all_begun begun.items a_block))
-        (sign_meant sign) line (left_of left) (record { token = t.sign (sign_meant sign); line = line } ∷ left_of left)) }
+    state: &mut State,
+) -> Result<(), AllocError>
+    ensures { OnOk result (state_of state.new ≡ meant.statement_by_sign (all_begun state.old.begun.items a_block) (push f.block_behind (all_begun state.old.begun.items a_block))
+        (sign_meant sign) line (left_of state.old.left) (record { token = t.sign (sign_meant sign); line = line } ∷ left_of state.old.left)) }
 {
     match sign {
         Sign::Semicolon => {
-            let next = Next::Block;
-            Ok(State { next, begun, left })
+            state.next = Next::Block;
+            Ok(())
         }
         Sign::OpenParenthesis
         | Sign::OpenBrace
@@ -151,46 +158,37 @@ fn statement_by_sign(
         | Sign::Minus
         | Sign::Not => {
             let token = Token::Sign(sign);
-            expression_begins(Placed { token, line }, begun, left)
+            expression_begins(Placed { token, line }, state)
         }
         _ => {
             let token = Token::Sign(sign);
-            ends_before(alloc, Placed { token, line }, begun, left)
+            ends_before(alloc, Placed { token, line }, state)
         }
     }
 }
 
-fn statement_by(
-    alloc: Global,
-    placed: Placed,
-    begun: VecDeque<Frame>,
-    left: Left,
-) -> Result<State, AllocError>
-    ensures { IfOk result (λ s. state_of s ≡ meant.statement_by (all_begun begun.items a_block) (push f.block_behind (all_begun begun.items a_block))
-        (token_meant (token_of placed.token)) placed.line (left_of left) (place_meant (place_of placed) ∷ left_of left)) }
+fn statement_by(alloc: Global, placed: Placed, state: &mut State) -> Result<(), AllocError>
+    ensures { OnOk result (state_of state.new ≡ meant.statement_by (all_begun state.old.begun.items a_block) (push f.block_behind (all_begun state.old.begun.items a_block))
+        (token_meant (token_of placed.token)) placed.line (left_of state.old.left) (place_meant (place_of placed) ∷ left_of state.old.left)) }
 {
     let Placed { token, line } = placed;
     match token {
-        Token::Keyword(keyword) => statement_by_keyword(alloc, keyword, line, begun, left),
-        Token::Sign(sign) => statement_by_sign(alloc, sign, line, begun, left),
-        token => expression_begins(Placed { token, line }, begun, left),
+        Token::Keyword(keyword) => statement_by_keyword(alloc, keyword, line, state),
+        Token::Sign(sign) => statement_by_sign(alloc, sign, line, state),
+        token => expression_begins(Placed { token, line }, state),
     }
 }
 
 /// A statement and those behind it, or their end.
 #[tactic(auto, using(crate::proofs::Words::no_block))]
-pub fn block_begins(
-    alloc: Global,
-    begun: VecDeque<Frame>,
-    mut left: Left,
-) -> Result<State, AllocError>
-    ensures { IfOk result (λ s. state_of s ≡ meant.block_begins (all_begun begun.items a_block) (left_of left)) }
+pub fn block_begins(alloc: Global, state: &mut State) -> Result<(), AllocError>
+    ensures { OnOk result (state_of state.new ≡ meant.block_begins (all_begun state.old.begun.items a_block) (left_of state.old.left)) }
 {
-    match left.take() {
-        Some(placed) => statement_by(alloc, placed, begun, left),
+    match state.left.take() {
+        Some(placed) => statement_by(alloc, placed, state),
         None => {
-            let next = Next::Found(Part::Block(no_statements(alloc)));
-            Ok(State { next, begun, left })
+            state.next = Next::Found(Part::Block(no_statements(alloc)));
+            Ok(())
         }
     }
 }

@@ -1,6 +1,6 @@
 //! Behind a block.
 
-ghost use Rattle.std.specs.Prelude.{◌≡◌, IfOk};
+ghost use Rattle.std.specs.Prelude.{◌≡◌, OnOk};
 ghost use Rattle.spec_program.specs.Frames.{a_statement, some_arms_read, some_branches_read};
 ghost use Rattle.spec_program.specs.ReadPrograms as by;
 ghost use Rattle.spec_program.specs.Tokens as t;
@@ -22,25 +22,23 @@ use moo_reader::statement::{
 use moo_token::token::Keyword;
 use moo_value::text::Text;
 use reader_frames::frame::{ArmsFrame, BlockFrame, BranchesFrame, Frame};
-use reader_frames::left::Left;
 use reader_frames::state::{Next, Part, State, begin, past_keyword};
 use std::alloc::{AllocError, Global};
-use std::collections::VecDeque;
 
 // Behind the block of a branch, up to the end of the branches.
 fn last_branch(
     alloc: Global,
     condition: Found,
     block: Block,
-    begun: VecDeque<Frame>,
-    left: Left,
-) -> Result<State, AllocError>
-    ensures { IfOk result (λ s. state_of s ≡ past_keyword t.endif_word (found (all_begun begun.items some_branches_read)
-        (by.with_branch (found_of condition) (block_found block) by.no_more_branches)) (left_of left)) }
+    state: &mut State,
+) -> Result<(), AllocError>
+    ensures { OnOk result (state_of state.new ≡ past_keyword t.endif_word (found (all_begun state.old.begun.items some_branches_read)
+        (by.with_branch (found_of condition) (block_found block) by.no_more_branches)) (left_of state.old.left)) }
 {
     let branches = with_branch(condition, block, no_more_branches(alloc))?;
     let next = Next::Found(Part::Branches(branches));
-    Ok(past_keyword(Keyword::EndIf, next, begun, left))
+    past_keyword(Keyword::EndIf, next, state);
+    Ok(())
 }
 
 // Behind the block of a branch.
@@ -48,27 +46,29 @@ fn branch_read(
     alloc: Global,
     condition: Found,
     block: Block,
-    begun: VecDeque<Frame>,
-    mut left: Left,
-) -> Result<State, AllocError>
-    ensures { IfOk result (λ s. state_of s ≡ branch_read (found_of condition) (all_begun begun.items some_branches_read) (block_found block)
-        (left_of left)) }
+    state: &mut State,
+) -> Result<(), AllocError>
+    ensures { OnOk result (state_of state.new ≡ branch_read (found_of condition) (all_begun state.old.begun.items some_branches_read) (block_found block)
+        (left_of state.old.left)) }
 {
-    if left.take_keyword(Keyword::ElseIf) {
+    if state.left.take_keyword(Keyword::ElseIf) {
         let frame = BranchesFrame::Behind { condition, block };
-        let begun = begin(begun, Frame::Branches(frame))?;
-        let next = Next::Branches;
-        return Ok(State { next, begun, left });
+        begin(&mut state.begun, Frame::Branches(frame))?;
+        state.next = Next::Branches;
+        return Ok(());
     }
-    if left.take_keyword(Keyword::Else) {
+    if state.left.take_keyword(Keyword::Else) {
         let frame = BranchesFrame::Behind { condition, block };
-        let begun = begin(begun, Frame::Branches(frame))?;
-        let begun = begin(begun, Frame::Block(BlockFrame::Else))?;
-        let begun = begin(begun, Frame::Block(BlockFrame::To(Keyword::EndIf)))?;
-        let next = Next::Block;
-        return Ok(State { next, begun, left });
+        begin(&mut state.begun, Frame::Branches(frame))?;
+        begin(&mut state.begun, Frame::Block(BlockFrame::Else))?;
+        begin(
+            &mut state.begun,
+            Frame::Block(BlockFrame::To(Keyword::EndIf)),
+        )?;
+        state.next = Next::Block;
+        return Ok(());
     }
-    last_branch(alloc, condition, block, begun, left)
+    last_branch(alloc, condition, block, state)
 }
 
 // Behind the block of a handler.
@@ -77,47 +77,49 @@ fn arm_read(
     variable: Option<Text>,
     codes: FoundCodes,
     block: Block,
-    begun: VecDeque<Frame>,
-    mut left: Left,
-) -> Result<State, AllocError>
-    ensures { IfOk result (λ s. state_of s ≡ arm_read variable (codes_found codes) (all_begun begun.items some_arms_read) (block_found block)
-        (left_of left)) }
+    state: &mut State,
+) -> Result<(), AllocError>
+    ensures { OnOk result (state_of state.new ≡ arm_read variable (codes_found codes) (all_begun state.old.begun.items some_arms_read) (block_found block)
+        (left_of state.old.left)) }
 {
-    if left.take_keyword(Keyword::Except) {
+    if state.left.take_keyword(Keyword::Except) {
         let frame = ArmsFrame::Behind {
             variable,
             codes,
             block,
         };
-        let begun = begin(begun, Frame::Arms(frame))?;
-        let next = Next::Arms;
-        return Ok(State { next, begun, left });
+        begin(&mut state.begun, Frame::Arms(frame))?;
+        state.next = Next::Arms;
+        return Ok(());
     }
     let arms = with_arm(variable, codes, block, no_more_arms(alloc))?;
     let next = Next::Found(Part::Arms(arms));
-    Ok(past_keyword(Keyword::EndTry, next, begun, left))
+    past_keyword(Keyword::EndTry, next, state);
+    Ok(())
 }
 
 // Behind what is tried: what is done finally, or handlers.
-fn tried_read(
-    line: u64,
-    block: Block,
-    begun: VecDeque<Frame>,
-    mut left: Left,
-) -> Result<State, AllocError>
-    ensures { IfOk result (λ s. state_of s ≡ tried line (all_begun begun.items a_statement) (block_found block) (left_of left)) }
+fn tried_read(line: u64, block: Block, state: &mut State) -> Result<(), AllocError>
+    ensures { OnOk result (state_of state.new ≡ tried line (all_begun state.old.begun.items a_statement) (block_found block) (left_of state.old.left)) }
 {
-    if left.take_keyword(Keyword::Finally) {
-        let begun = begin(
-            begun,
+    if state.left.take_keyword(Keyword::Finally) {
+        begin(
+            &mut state.begun,
             Frame::Block(BlockFrame::Finally { line, tried: block }),
         )?;
-        let begun = begin(begun, Frame::Block(BlockFrame::To(Keyword::EndTry)))?;
-        let next = Next::Block;
-        return Ok(State { next, begun, left });
+        begin(
+            &mut state.begun,
+            Frame::Block(BlockFrame::To(Keyword::EndTry)),
+        )?;
+        state.next = Next::Block;
+        return Ok(());
     }
-    let begun = begin(begun, Frame::Arms(ArmsFrame::Try { line, tried: block }))?;
-    Ok(past_keyword(Keyword::Except, Next::Arms, begun, left))
+    begin(
+        &mut state.begun,
+        Frame::Arms(ArmsFrame::Try { line, tried: block }),
+    )?;
+    past_keyword(Keyword::Except, Next::Arms, state);
+    Ok(())
 }
 
 /// Behind a block.
@@ -125,39 +127,37 @@ pub fn behind_block(
     alloc: Global,
     frame: BlockFrame,
     block: Block,
-    begun: VecDeque<Frame>,
-    left: Left,
-) -> Result<State, AllocError>
-    ensures { IfOk result (λ s. state_of s ≡ found_by (block_begun frame (all_begun begun.items)) (block_found block) (left_of left)) }
+    state: &mut State,
+) -> Result<(), AllocError>
+    ensures { OnOk result (state_of state.new ≡ found_by (block_begun frame (all_begun state.old.begun.items)) (block_found block) (left_of state.old.left)) }
 {
     match frame {
         BlockFrame::Behind(statement) => {
             let block = and_block(statement, block)?;
-            let next = Next::Found(Part::Block(block));
-            Ok(State { next, begun, left })
+            state.next = Next::Found(Part::Block(block));
+            Ok(())
         }
         BlockFrame::To(keyword) => {
             let next = Next::Found(Part::Block(block));
-            Ok(past_keyword(keyword, next, begun, left))
+            past_keyword(keyword, next, state);
+            Ok(())
         }
-        BlockFrame::Branch { condition } => branch_read(alloc, condition, block, begun, left),
+        BlockFrame::Branch { condition } => branch_read(alloc, condition, block, state),
         BlockFrame::Else => {
-            let next = Next::Found(Part::Branches(else_block(alloc, block)));
-            Ok(State { next, begun, left })
+            state.next = Next::Found(Part::Branches(else_block(alloc, block)));
+            Ok(())
         }
         BlockFrame::Body { line, body } => {
             let statement = with_body(alloc, line, body, block)?;
-            let next = Next::Found(Part::Statement(statement));
-            Ok(State { next, begun, left })
+            state.next = Next::Found(Part::Statement(statement));
+            Ok(())
         }
-        BlockFrame::Tried { line } => tried_read(line, block, begun, left),
+        BlockFrame::Tried { line } => tried_read(line, block, state),
         BlockFrame::Finally { line, tried } => {
             let statement = finished_of(alloc, line, tried, block)?;
-            let next = Next::Found(Part::Statement(statement));
-            Ok(State { next, begun, left })
+            state.next = Next::Found(Part::Statement(statement));
+            Ok(())
         }
-        BlockFrame::Arm { variable, codes } => {
-            arm_read(alloc, variable, codes, block, begun, left)
-        }
+        BlockFrame::Arm { variable, codes } => { arm_read(alloc, variable, codes, block, state) }
     }
 }

@@ -1,6 +1,6 @@
 //! Behind branches, and behind handlers.
 
-ghost use Rattle.std.specs.Prelude.{◌≡◌, IfOk};
+ghost use Rattle.std.specs.Prelude.{◌≡◌, OnOk};
 ghost use Rattle.spec_reader.specs.Behind.{found_by};
 ghost use Rattle.moo_reader.specs.BlockViews.{branches_found, arms_found};
 ghost use Rattle.reader_frames.specs.LeftView.{left_of};
@@ -9,32 +9,29 @@ ghost use Rattle.reader_frames.specs.StateView.{state_of};
 
 use moo_reader::block::{Arms, Branches};
 use moo_reader::statement::{branch_of, guarded_of, with_arm, with_branch};
-use reader_frames::frame::{ArmsFrame, BranchesFrame, Frame};
-use reader_frames::left::Left;
+use reader_frames::frame::{ArmsFrame, BranchesFrame};
 use reader_frames::state::{Next, Part, State};
 use std::alloc::{AllocError, Global};
-use std::collections::VecDeque;
 
 /// Behind branches.
 pub fn behind_branches(
     alloc: Global,
     frame: BranchesFrame,
     branches: Branches,
-    begun: VecDeque<Frame>,
-    left: Left,
-) -> Result<State, AllocError>
-    ensures { IfOk result (λ s. state_of s ≡ found_by (branches_begun frame (all_begun begun.items)) (branches_found branches) (left_of left)) }
+    state: &mut State,
+) -> Result<(), AllocError>
+    ensures { OnOk result (state_of state.new ≡ found_by (branches_begun frame (all_begun state.old.begun.items)) (branches_found branches) (left_of state.old.left)) }
 {
     match frame {
         BranchesFrame::If { line } => {
             let statement = branch_of(alloc, line, branches)?;
-            let next = Next::Found(Part::Statement(statement));
-            Ok(State { next, begun, left })
+            state.next = Next::Found(Part::Statement(statement));
+            Ok(())
         }
         BranchesFrame::Behind { condition, block } => {
             let branches = with_branch(condition, block, branches)?;
-            let next = Next::Found(Part::Branches(branches));
-            Ok(State { next, begun, left })
+            state.next = Next::Found(Part::Branches(branches));
+            Ok(())
         }
     }
 }
@@ -44,16 +41,15 @@ pub fn behind_arms(
     alloc: Global,
     frame: ArmsFrame,
     arms: Arms,
-    begun: VecDeque<Frame>,
-    left: Left,
-) -> Result<State, AllocError>
-    ensures { IfOk result (λ s. state_of s ≡ found_by (arms_begun frame (all_begun begun.items)) (arms_found arms) (left_of left)) }
+    state: &mut State,
+) -> Result<(), AllocError>
+    ensures { OnOk result (state_of state.new ≡ found_by (arms_begun frame (all_begun state.old.begun.items)) (arms_found arms) (left_of state.old.left)) }
 {
     match frame {
         ArmsFrame::Try { line, tried } => {
             let statement = guarded_of(alloc, line, tried, arms)?;
-            let next = Next::Found(Part::Statement(statement));
-            Ok(State { next, begun, left })
+            state.next = Next::Found(Part::Statement(statement));
+            Ok(())
         }
         ArmsFrame::Behind {
             variable,
@@ -61,8 +57,8 @@ pub fn behind_arms(
             block,
         } => {
             let arms = with_arm(variable, codes, block, arms)?;
-            let next = Next::Found(Part::Arms(arms));
-            Ok(State { next, begun, left })
+            state.next = Next::Found(Part::Arms(arms));
+            Ok(())
         }
     }
 }

@@ -1,6 +1,6 @@
 //! What begins a statement behind its first word.
 
-ghost use Rattle.std.specs.Prelude.{◌≡◌, false, IfOk};
+ghost use Rattle.std.specs.Prelude.{◌≡◌, false, OnOk};
 ghost use Rattle.spec_program.specs.Frames as f;
 ghost use Rattle.spec_program.specs.Frames.{a_statement, push};
 ghost use Rattle.spec_reader.specs.Next.{goes, reads_block, reads_branches, reads_expression};
@@ -18,134 +18,106 @@ use reader_frames::ends::head_begins;
 use reader_frames::frame::{
     BlockFrame, BranchesFrame, ExpressionFrame, Frame, Head, WithinStatement,
 };
-use reader_frames::left::Left;
 use reader_frames::state::{Next, Part, State, begin, stuck};
 use std::alloc::{AllocError, Global};
-use std::collections::VecDeque;
 
 /// An expression that is a part of a statement.
-pub fn part_begins(
-    within: WithinStatement,
-    begun: VecDeque<Frame>,
-    left: Left,
-) -> Result<State, AllocError>
-    ensures { IfOk result (λ s. state_of s ≡ goes (reads_expression false 0 (push (within_statement within) (all_begun begun.items a_statement)))
-        (left_of left)) }
+pub fn part_begins(within: WithinStatement, state: &mut State) -> Result<(), AllocError>
+    ensures { OnOk result (state_of state.new ≡ goes (reads_expression false 0 (push (within_statement within) (all_begun state.old.begun.items a_statement)))
+        (left_of state.old.left)) }
 {
-    let begun = begin(begun, Frame::Expression(ExpressionFrame::Statement(within)))?;
-    let next = Next::Expression {
+    begin(
+        &mut state.begun,
+        Frame::Expression(ExpressionFrame::Statement(within)),
+    )?;
+    state.next = Next::Expression {
         brackets: false,
         level: 0,
     };
-    Ok(State { next, begun, left })
+    Ok(())
 }
 
 /// Behind `if`.
-pub fn if_begins(line: u64, begun: VecDeque<Frame>, left: Left) -> Result<State, AllocError>
-    ensures { IfOk result (λ s. state_of s ≡ goes (reads_branches (push (f.branches_of line) (all_begun begun.items a_statement))) (left_of left)) }
+pub fn if_begins(line: u64, state: &mut State) -> Result<(), AllocError>
+    ensures { OnOk result (state_of state.new ≡ goes (reads_branches (push (f.branches_of line) (all_begun state.old.begun.items a_statement))) (left_of state.old.left)) }
 {
-    let begun = begin(begun, Frame::Branches(BranchesFrame::If { line }))?;
-    let next = Next::Branches;
-    Ok(State { next, begun, left })
+    begin(
+        &mut state.begun,
+        Frame::Branches(BranchesFrame::If { line }),
+    )?;
+    state.next = Next::Branches;
+    Ok(())
 }
 
 // Behind `for x in`.
-fn for_in(
-    line: u64,
-    variable: Text,
-    begun: VecDeque<Frame>,
-    mut left: Left,
-) -> Result<State, AllocError>
-    ensures { IfOk result (λ s. state_of s ≡ meant.for_in line variable (all_begun begun.items a_statement) (left_of left)) }
+fn for_in(line: u64, variable: Text, state: &mut State) -> Result<(), AllocError>
+    ensures { OnOk result (state_of state.new ≡ meant.for_in line variable (all_begun state.old.begun.items a_statement) (left_of state.old.left)) }
 {
-    if left.take_sign(Sign::OpenBracket) {
+    if state.left.take_sign(Sign::OpenBracket) {
         let within = WithinStatement::RangeFirst { line, variable };
-        return part_begins(within, begun, left);
+        return part_begins(within, state);
     }
-    head_begins(line, Head::For(variable), begun, left)
+    head_begins(line, Head::For(variable), state)
 }
 
 // Behind `for x`.
-fn for_named(
-    line: u64,
-    variable: Text,
-    begun: VecDeque<Frame>,
-    mut left: Left,
-) -> Result<State, AllocError>
-    ensures { IfOk result (λ s. state_of s ≡ meant.for_named line variable (all_begun begun.items a_statement) (left_of left)) }
+fn for_named(line: u64, variable: Text, state: &mut State) -> Result<(), AllocError>
+    ensures { OnOk result (state_of state.new ≡ meant.for_named line variable (all_begun state.old.begun.items a_statement) (left_of state.old.left)) }
 {
-    if !left.take_keyword(Keyword::In) {
-        return Ok(stuck(begun, left));
+    if !state.left.take_keyword(Keyword::In) {
+        stuck(state);
+        return Ok(());
     }
-    for_in(line, variable, begun, left)
+    for_in(line, variable, state)
 }
 
 /// Behind `for`.
-pub fn for_begins(
-    alloc: Global,
-    line: u64,
-    begun: VecDeque<Frame>,
-    mut left: Left,
-) -> Result<State, AllocError>
-    ensures { IfOk result (λ s. state_of s ≡ meant.for_begins line (all_begun begun.items a_statement) (left_of left)) }
+pub fn for_begins(alloc: Global, line: u64, state: &mut State) -> Result<(), AllocError>
+    ensures { OnOk result (state_of state.new ≡ meant.for_begins line (all_begun state.old.begun.items a_statement) (left_of state.old.left)) }
 {
-    let Some(word) = left.take_word()? else {
-        return Ok(stuck(begun, left));
+    let Some(word) = state.left.take_word()? else {
+        stuck(state);
+        return Ok(());
     };
     let variable = lower_case(alloc, &word.text)?;
-    for_named(line, variable, begun, left)
+    for_named(line, variable, state)
 }
 
 /// Behind `while`.
 #[tactic(auto, using(crate::proofs::Words::while_by_name))]
-pub fn while_begins(
-    alloc: Global,
-    line: u64,
-    begun: VecDeque<Frame>,
-    mut left: Left,
-) -> Result<State, AllocError>
-    ensures { IfOk result (λ s. state_of s ≡ meant.while_begins line (all_begun begun.items a_statement) (left_of left)) }
+pub fn while_begins(alloc: Global, line: u64, state: &mut State) -> Result<(), AllocError>
+    ensures { OnOk result (state_of state.new ≡ meant.while_begins line (all_begun state.old.begun.items a_statement) (left_of state.old.left)) }
 {
-    let name = perhaps_name(alloc, &mut left)?;
-    head_begins(line, Head::While(name), begun, left)
+    let name = perhaps_name(alloc, &mut state.left)?;
+    head_begins(line, Head::While(name), state)
 }
 
 /// Behind `fork`.
 #[tactic(auto, using(crate::proofs::Words::fork_by_name))]
-pub fn fork_begins(
-    alloc: Global,
-    line: u64,
-    begun: VecDeque<Frame>,
-    mut left: Left,
-) -> Result<State, AllocError>
-    ensures { IfOk result (λ s. state_of s ≡ meant.fork_begins line (all_begun begun.items a_statement) (left_of left)) }
+pub fn fork_begins(alloc: Global, line: u64, state: &mut State) -> Result<(), AllocError>
+    ensures { OnOk result (state_of state.new ≡ meant.fork_begins line (all_begun state.old.begun.items a_statement) (left_of state.old.left)) }
 {
-    let name = perhaps_name(alloc, &mut left)?;
-    head_begins(line, Head::Fork(name), begun, left)
+    let name = perhaps_name(alloc, &mut state.left)?;
+    head_begins(line, Head::Fork(name), state)
 }
 
 /// Behind `try`.
-pub fn try_begins(line: u64, begun: VecDeque<Frame>, left: Left) -> Result<State, AllocError>
-    ensures { IfOk result (λ s. state_of s ≡ goes (reads_block (push (f.tried line) (all_begun begun.items a_statement))) (left_of left)) }
+pub fn try_begins(line: u64, state: &mut State) -> Result<(), AllocError>
+    ensures { OnOk result (state_of state.new ≡ goes (reads_block (push (f.tried line) (all_begun state.old.begun.items a_statement))) (left_of state.old.left)) }
 {
-    let begun = begin(begun, Frame::Block(BlockFrame::Tried { line }))?;
-    let next = Next::Block;
-    Ok(State { next, begun, left })
+    begin(&mut state.begun, Frame::Block(BlockFrame::Tried { line }))?;
+    state.next = Next::Block;
+    Ok(())
 }
 
 /// Behind `return`.
-pub fn return_begins(
-    alloc: Global,
-    line: u64,
-    begun: VecDeque<Frame>,
-    mut left: Left,
-) -> Result<State, AllocError>
-    ensures { IfOk result (λ s. state_of s ≡ meant.return_begins line (all_begun begun.items a_statement) (left_of left)) }
+pub fn return_begins(alloc: Global, line: u64, state: &mut State) -> Result<(), AllocError>
+    ensures { OnOk result (state_of state.new ≡ meant.return_begins line (all_begun state.old.begun.items a_statement) (left_of state.old.left)) }
 {
-    if left.take_sign(Sign::Semicolon) {
+    if state.left.take_sign(Sign::Semicolon) {
         let statement = returned_zero(alloc, line)?;
-        let next = Next::Found(Part::Statement(statement));
-        return Ok(State { next, begun, left });
+        state.next = Next::Found(Part::Statement(statement));
+        return Ok(());
     }
-    part_begins(WithinStatement::Returned { line }, begun, left)
+    part_begins(WithinStatement::Returned { line }, state)
 }

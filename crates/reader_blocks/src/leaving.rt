@@ -20,11 +20,9 @@ use moo_reader::text::lower_case;
 use moo_tree::statement::{Statement, StatementNode};
 use moo_value::text::Text;
 use reader_frames::ends::statement_ended;
-use reader_frames::frame::Frame;
 use reader_frames::left::Left;
 use reader_frames::state::State;
 use std::alloc::{AllocError, Global};
-use std::collections::VecDeque;
 
 /// Takes a word, if there is one: its text in lower case.
 pub fn perhaps_name(alloc: Global, left: &mut Left) -> Result<Option<Text>, AllocError>
@@ -63,32 +61,24 @@ fn stray(
 
 /// `break`.
 #[tactic(auto, using(crate::proofs::Words::leaving_by_name))]
-pub fn break_begins(
-    alloc: Global,
-    line: u64,
-    begun: VecDeque<Frame>,
-    mut left: Left,
-) -> Result<State, AllocError>
-    ensures { IfOk result (λ s. state_of s ≡ leaving_begins tree.leave_loop line (all_begun begun.items a_statement) (left_of left)) }
+pub fn break_begins(alloc: Global, line: u64, state: &mut State) -> Result<(), AllocError>
+    ensures { OnOk result (state_of state.new ≡ leaving_begins tree.leave_loop line (all_begun state.old.begun.items a_statement) (left_of state.old.left)) }
 {
-    let name = perhaps_name(alloc, &mut left)?;
+    let name = perhaps_name(alloc, &mut state.left)?;
     let copy = copied(&name)?;
     let statement = stray(alloc, line, name, StatementNode::Break(copy))?;
-    Ok(statement_ended(statement, begun, left))
+    statement_ended(statement, state);
+    Ok(())
 }
 
 /// `continue`.
 #[tactic(auto, using(crate::proofs::Words::leaving_by_name))]
-pub fn continue_begins(
-    alloc: Global,
-    line: u64,
-    begun: VecDeque<Frame>,
-    mut left: Left,
-) -> Result<State, AllocError>
-    ensures { IfOk result (λ s. state_of s ≡ leaving_begins tree.next_turn line (all_begun begun.items a_statement) (left_of left)) }
+pub fn continue_begins(alloc: Global, line: u64, state: &mut State) -> Result<(), AllocError>
+    ensures { OnOk result (state_of state.new ≡ leaving_begins tree.next_turn line (all_begun state.old.begun.items a_statement) (left_of state.old.left)) }
 {
-    let name = perhaps_name(alloc, &mut left)?;
+    let name = perhaps_name(alloc, &mut state.left)?;
     let copy = copied(&name)?;
     let statement = stray(alloc, line, name, StatementNode::Continue(copy))?;
-    Ok(statement_ended(statement, begun, left))
+    statement_ended(statement, state);
+    Ok(())
 }

@@ -1,6 +1,6 @@
 //! Behind an expression that is a part of a statement, and behind a statement.
 
-ghost use Rattle.std.specs.Prelude.{◌≡◌, IfOk};
+ghost use Rattle.std.specs.Prelude.{◌≡◌, OnOk};
 ghost use Rattle.spec_program.specs.Frames as f;
 ghost use Rattle.spec_program.specs.Frames.{a_block, a_statement, some_branches_read};
 ghost use Rattle.spec_reader.specs.Behind.{behind};
@@ -17,10 +17,8 @@ use moo_token::token::Sign;
 use moo_value::text::Text;
 use reader_frames::ends::{body_begins, statement_ended};
 use reader_frames::frame::{BlockFrame, Body, ExpressionFrame, Frame, Head, WithinStatement};
-use reader_frames::left::Left;
 use reader_frames::state::{Next, State, begin, past_sign, stuck};
 use std::alloc::{AllocError, Global};
-use std::collections::VecDeque;
 
 // The loop or fork behind its head.
 fn body_of(head: Head, found: Found) -> Body
@@ -34,26 +32,24 @@ fn body_of(head: Head, found: Found) -> Body
 }
 
 // Behind the first value of a range.
-fn range_first(
-    line: u64,
-    variable: Text,
-    first: Found,
-    begun: VecDeque<Frame>,
-    left: Left,
-) -> Result<State, AllocError>
-    ensures { IfOk result (λ s. state_of s ≡ behind (f.range_first line variable) (all_begun begun.items a_statement) (found_of first) (left_of left)) }
+fn range_first(line: u64, variable: Text, first: Found, state: &mut State) -> Result<(), AllocError>
+    ensures { OnOk result (state_of state.new ≡ behind (f.range_first line variable) (all_begun state.old.begun.items a_statement) (found_of first) (left_of state.old.left)) }
 {
     let within = WithinStatement::RangeLast {
         line,
         variable,
         first,
     };
-    let begun = begin(begun, Frame::Expression(ExpressionFrame::Statement(within)))?;
+    begin(
+        &mut state.begun,
+        Frame::Expression(ExpressionFrame::Statement(within)),
+    )?;
     let next = Next::Expression {
         brackets: false,
         level: 0,
     };
-    Ok(past_sign(Sign::DoubleDot, next, begun, left))
+    past_sign(Sign::DoubleDot, next, state);
+    Ok(())
 }
 
 // Behind the last value of a range.
@@ -62,16 +58,16 @@ fn range_last(
     variable: Text,
     first: Found,
     last: Found,
-    begun: VecDeque<Frame>,
-    mut left: Left,
-) -> Result<State, AllocError>
-    ensures { IfOk result (λ s. state_of s ≡ behind (f.range_last line variable (found_of first)) (all_begun begun.items a_statement) (found_of last)
-        (left_of left)) }
+    state: &mut State,
+) -> Result<(), AllocError>
+    ensures { OnOk result (state_of state.new ≡ behind (f.range_last line variable (found_of first)) (all_begun state.old.begun.items a_statement) (found_of last)
+        (left_of state.old.left)) }
 {
-    if !left.take_sign(Sign::CloseBracket) {
-        return Ok(stuck(begun, left));
+    if !state.left.take_sign(Sign::CloseBracket) {
+        stuck(state);
+        return Ok(());
     }
-    body_begins(line, Body::Range(variable, first, last), begun, left)
+    body_begins(line, Body::Range(variable, first, last), state)
 }
 
 /// Behind an expression that is a part of a statement.
@@ -79,56 +75,53 @@ pub fn behind_within_statement(
     alloc: Global,
     within: WithinStatement,
     found: Found,
-    begun: VecDeque<Frame>,
-    left: Left,
-) -> Result<State, AllocError>
-    ensures { IfOk result (λ s. state_of s ≡ behind (within_statement within) (all_begun begun.items a_statement) (found_of found) (left_of left)) }
+    state: &mut State,
+) -> Result<(), AllocError>
+    ensures { OnOk result (state_of state.new ≡ behind (within_statement within) (all_begun state.old.begun.items a_statement) (found_of found) (left_of state.old.left)) }
 {
     match within {
         WithinStatement::Evaluated { line } => {
             let statement = evaluated(alloc, line, found)?;
-            Ok(statement_ended(statement, begun, left))
+            statement_ended(statement, state);
+            Ok(())
         }
         WithinStatement::Returned { line } => {
             let statement = returned(alloc, line, found)?;
-            Ok(statement_ended(statement, begun, left))
+            statement_ended(statement, state);
+            Ok(())
         }
-        WithinStatement::HeadOf { line, head } => {
-            body_begins(line, body_of(head, found), begun, left)
-        }
+        WithinStatement::HeadOf { line, head } => { body_begins(line, body_of(head, found), state) }
         WithinStatement::RangeFirst { line, variable } => {
-            range_first(line, variable, found, begun, left)
+            range_first(line, variable, found, state)
         }
         WithinStatement::RangeLast {
             line,
             variable,
             first,
-        } => range_last(line, variable, first, found, begun, left),
+        } => range_last(line, variable, first, found, state),
     }
 }
 
 /// Behind the condition of a branch.
-pub fn behind_condition(
-    condition: Found,
-    begun: VecDeque<Frame>,
-    left: Left,
-) -> Result<State, AllocError>
-    ensures { IfOk result (λ s. state_of s ≡ behind f.condition (all_begun begun.items some_branches_read) (found_of condition) (left_of left)) }
+pub fn behind_condition(condition: Found, state: &mut State) -> Result<(), AllocError>
+    ensures { OnOk result (state_of state.new ≡ behind f.condition (all_begun state.old.begun.items some_branches_read) (found_of condition) (left_of state.old.left)) }
 {
-    let begun = begin(begun, Frame::Block(BlockFrame::Branch { condition }))?;
-    let next = Next::Block;
-    Ok(State { next, begun, left })
+    begin(
+        &mut state.begun,
+        Frame::Block(BlockFrame::Branch { condition }),
+    )?;
+    state.next = Next::Block;
+    Ok(())
 }
 
 /// Behind a statement: those behind it.
-pub fn behind_statement(
-    statement: FoundStatement,
-    begun: VecDeque<Frame>,
-    left: Left,
-) -> Result<State, AllocError>
-    ensures { IfOk result (λ s. state_of s ≡ behind f.block_behind (all_begun begun.items a_block) (statement_found statement) (left_of left)) }
+pub fn behind_statement(statement: FoundStatement, state: &mut State) -> Result<(), AllocError>
+    ensures { OnOk result (state_of state.new ≡ behind f.block_behind (all_begun state.old.begun.items a_block) (statement_found statement) (left_of state.old.left)) }
 {
-    let begun = begin(begun, Frame::Block(BlockFrame::Behind(statement)))?;
-    let next = Next::Block;
-    Ok(State { next, begun, left })
+    begin(
+        &mut state.begun,
+        Frame::Block(BlockFrame::Behind(statement)),
+    )?;
+    state.next = Next::Block;
+    Ok(())
 }

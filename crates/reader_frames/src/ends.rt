@@ -1,6 +1,6 @@
 //! Parts that several constructs share: arguments, items, codes, and the heads and bodies of statements.
 
-ghost use Rattle.std.specs.Prelude.{◌≡◌, false, IfOk};
+ghost use Rattle.std.specs.Prelude.{◌≡◌, false, OnOk};
 ghost use Rattle.spec_program.specs.Frames.{some_arguments_read, some_items_read, some_codes_read, a_statement, end_word};
 ghost use Rattle.spec_reader.specs.Ends as by;
 ghost use Rattle.spec_reader.specs.Next.{goes};
@@ -15,7 +15,6 @@ use crate::frame::{
     ArgumentsFrame, BlockFrame, Body, ExpressionFrame, Frame, Head, ItemsFrame, WithinExpression,
     WithinStatement,
 };
-use crate::left::Left;
 use crate::state::{Next, Part, State, begin, past_sign};
 use moo_reader::block::FoundStatement;
 use moo_reader::build::no_arguments;
@@ -24,25 +23,23 @@ use moo_reader::items::{no_more, with_item};
 use moo_token::token::{Keyword, Sign};
 use moo_tree::expression::Codes;
 use std::alloc::{AllocError, Global};
-use std::collections::VecDeque;
 
 /// Arguments up to this sign.
 pub fn arguments_to(
     alloc: Global,
     sign: Sign,
     brackets: bool,
-    begun: VecDeque<Frame>,
-    mut left: Left,
-) -> Result<State, AllocError>
-    ensures { IfOk result (λ s. state_of s ≡ by.arguments_to (sign_meant sign) brackets (all_begun begun.items some_arguments_read) (left_of left)) }
+    state: &mut State,
+) -> Result<(), AllocError>
+    ensures { OnOk result (state_of state.new ≡ by.arguments_to (sign_meant sign) brackets (all_begun state.old.begun.items some_arguments_read) (left_of state.old.left)) }
 {
-    if left.take_sign(sign) {
-        let next = Next::Found(Part::Arguments(no_arguments(alloc)));
-        return Ok(State { next, begun, left });
+    if state.left.take_sign(sign) {
+        state.next = Next::Found(Part::Arguments(no_arguments(alloc)));
+        return Ok(());
     }
-    let begun = begin(begun, Frame::Arguments(ArgumentsFrame::To(sign)))?;
-    let next = Next::Arguments { brackets };
-    Ok(State { next, begun, left })
+    begin(&mut state.begun, Frame::Arguments(ArgumentsFrame::To(sign)))?;
+    state.next = Next::Arguments { brackets };
+    Ok(())
 }
 
 /// What goes on behind an item of braces: another one, or the closing brace.
@@ -51,73 +48,67 @@ pub fn items_on(
     brackets: bool,
     allowed: Allowed,
     item: BracedItem,
-    begun: VecDeque<Frame>,
-    mut left: Left,
-) -> Result<State, AllocError>
-    ensures { IfOk result (λ s. state_of s ≡ by.items_on brackets (allowed_of allowed) (item_of item) (all_begun begun.items some_items_read)
-        (left_of left)) }
+    state: &mut State,
+) -> Result<(), AllocError>
+    ensures { OnOk result (state_of state.new ≡ by.items_on brackets (allowed_of allowed) (item_of item) (all_begun state.old.begun.items some_items_read)
+        (left_of state.old.left)) }
 {
-    if left.take_sign(Sign::Comma) {
-        let begun = begin(begun, Frame::Items(ItemsFrame::Behind(item)))?;
-        let next = Next::Items { brackets, allowed };
-        return Ok(State { next, begun, left });
+    if state.left.take_sign(Sign::Comma) {
+        begin(&mut state.begun, Frame::Items(ItemsFrame::Behind(item)))?;
+        state.next = Next::Items { brackets, allowed };
+        return Ok(());
     }
     let items = with_item(alloc, item, no_more(alloc, allowed))?;
     let next = Next::Found(Part::Items(items));
-    Ok(past_sign(Sign::CloseBrace, next, begun, left))
+    past_sign(Sign::CloseBrace, next, state);
+    Ok(())
 }
 
 /// The codes of errors: every one, or those of a list.
-pub fn codes_begin(
-    alloc: Global,
-    brackets: bool,
-    begun: VecDeque<Frame>,
-    mut left: Left,
-) -> Result<State, AllocError>
-    ensures { IfOk result (λ s. state_of s ≡ by.codes_begin brackets (all_begun begun.items some_codes_read) (left_of left)) }
+pub fn codes_begin(alloc: Global, brackets: bool, state: &mut State) -> Result<(), AllocError>
+    ensures { OnOk result (state_of state.new ≡ by.codes_begin brackets (all_begun state.old.begun.items some_codes_read) (left_of state.old.left)) }
 {
-    if left.take_keyword(Keyword::Any) {
+    if state.left.take_keyword(Keyword::Any) {
         let codes = FoundCodes {
             tree: Codes::Any,
             nodes: Vec::new(alloc),
         };
-        let next = Next::Found(Part::Codes(codes));
-        return Ok(State { next, begun, left });
+        state.next = Next::Found(Part::Codes(codes));
+        return Ok(());
     }
-    let begun = begin(begun, Frame::Arguments(ArgumentsFrame::Codes))?;
-    let next = Next::Arguments { brackets };
-    Ok(State { next, begun, left })
+    begin(&mut state.begun, Frame::Arguments(ArgumentsFrame::Codes))?;
+    state.next = Next::Arguments { brackets };
+    Ok(())
 }
 
 /// A statement, which ends with a semicolon.
-pub fn statement_ended(statement: FoundStatement, begun: VecDeque<Frame>, left: Left) -> State
-    ensures { state_of result ≡ by.statement_ended (statement_found statement) (all_begun begun.items a_statement) (left_of left) }
+pub fn statement_ended(statement: FoundStatement, state: &mut State)
+    ensures { state_of state.new ≡ by.statement_ended (statement_found statement) (all_begun state.old.begun.items a_statement) (left_of state.old.left) }
 {
     let next = Next::Found(Part::Statement(statement));
-    past_sign(Sign::Semicolon, next, begun, left)
+    past_sign(Sign::Semicolon, next, state)
 }
 
 /// The expression of a head in its parentheses.
-pub fn head_begins(
-    line: u64,
-    head: Head,
-    begun: VecDeque<Frame>,
-    left: Left,
-) -> Result<State, AllocError>
-    ensures { IfOk result (λ s. state_of s ≡ by.head_begins line (head_of head) (all_begun begun.items a_statement) (left_of left)) }
+pub fn head_begins(line: u64, head: Head, state: &mut State) -> Result<(), AllocError>
+    ensures { OnOk result (state_of state.new ≡ by.head_begins line (head_of head) (all_begun state.old.begun.items a_statement) (left_of state.old.left)) }
 {
     let within = WithinStatement::HeadOf { line, head };
-    let begun = begin(begun, Frame::Expression(ExpressionFrame::Statement(within)))?;
+    begin(
+        &mut state.begun,
+        Frame::Expression(ExpressionFrame::Statement(within)),
+    )?;
     let within = WithinExpression::Head;
-    let begun = begin(
-        begun,
+    begin(
+        &mut state.begun,
         Frame::Expression(ExpressionFrame::Expression(within)),
     )?;
     let next = Next::Expression {
         brackets: false,
         level: 0,
     };
-    Ok(past_sign(Sign::OpenParenthesis, next, begun, left))
+    past_sign(Sign::OpenParenthesis, next, state);
+    Ok(())
 }
 
 // The word that ends a body.
@@ -132,17 +123,15 @@ fn end_word(body: &Body) -> Keyword
 }
 
 /// The body of a loop or a fork.
-pub fn body_begins(
-    line: u64,
-    body: Body,
-    begun: VecDeque<Frame>,
-    left: Left,
-) -> Result<State, AllocError>
-    ensures { IfOk result (λ s. state_of s ≡ goes (by.body_begins line (body_of body) (all_begun begun.items a_statement)) (left_of left)) }
+pub fn body_begins(line: u64, body: Body, state: &mut State) -> Result<(), AllocError>
+    ensures { OnOk result (state_of state.new ≡ goes (by.body_begins line (body_of body) (all_begun state.old.begun.items a_statement)) (left_of state.old.left)) }
 {
     let end = end_word(&body);
-    let begun = begin(begun, Frame::Block(BlockFrame::Body { line, body }))?;
-    let begun = begin(begun, Frame::Block(BlockFrame::To(end)))?;
-    let next = Next::Block;
-    Ok(State { next, begun, left })
+    begin(
+        &mut state.begun,
+        Frame::Block(BlockFrame::Body { line, body }),
+    )?;
+    begin(&mut state.begun, Frame::Block(BlockFrame::To(end)))?;
+    state.next = Next::Block;
+    Ok(())
 }

@@ -1,6 +1,6 @@
 //! What a reader reads next.
 
-ghost use Rattle.std.specs.Prelude.{◌≡◌, ◌∷◌, IfOk};
+ghost use Rattle.std.specs.Prelude.{◌≡◌, ◌∷◌, OnOk};
 ghost use Rattle.spec_reader.specs.Next.{stops};
 ghost use Rattle.spec_reader.specs.Ends as by;
 ghost use Rattle.moo_token.specs.Meaning.{sign_meant, keyword_meant};
@@ -71,56 +71,39 @@ pub struct State {
     pub left: Left,
 }
 
-/// Something more that was begun.
-pub fn begin(mut begun: VecDeque<Frame>, frame: Frame) -> Result<VecDeque<Frame>, AllocError>
-    ensures { IfOk result (λ g. g.items ≡ frame ∷ begun.items) }
+/// Something more is begun.
+pub fn begin(begun: &mut VecDeque<Frame>, frame: Frame) -> Result<(), AllocError>
+    ensures { OnOk result (begun.new.items ≡ frame ∷ begun.old.items) }
 {
     begun.push_front(frame)?;
-    Ok(begun)
+    Ok(())
 }
 
 /// No program goes on with the next token.
-pub fn stuck(begun: VecDeque<Frame>, left: Left) -> State
-    ensures { state_of result ≡ stops (left_of left) }
+pub fn stuck(state: &mut State)
+    ensures { state_of state.new ≡ stops (left_of state.old.left) }
 {
-    State {
-        next: Next::Sticks,
-        begun,
-        left,
-    }
-}
-
-// What was found is let go of.
-fn discard_part(_part: Part) {}
-
-// What was to be read next is let go of.
-fn discard(next: Next) {
-    match next {
-        Next::Found(part) => discard_part(part),
-        _ => {}
-    }
+    state.next = Next::Sticks;
 }
 
 /// What is next behind a sign that has to be there.
-pub fn past_sign(sign: Sign, next: Next, begun: VecDeque<Frame>, mut left: Left) -> State
-    ensures { state_of result ≡ by.past_sign (sign_meant sign) (next_of next begun.items) (left_of left) }
+pub fn past_sign(sign: Sign, next: Next, state: &mut State)
+    ensures { state_of state.new ≡ by.past_sign (sign_meant sign) (next_of next state.old.begun.items) (left_of state.old.left) }
 {
-    if left.take_sign(sign) {
-        State { next, begun, left }
-    } else {
-        discard(next);
-        stuck(begun, left)
+    if !state.left.take_sign(sign) {
+        stuck(state);
+        return;
     }
+    state.next = next;
 }
 
 /// What is next behind a word that has to be there.
-pub fn past_keyword(keyword: Keyword, next: Next, begun: VecDeque<Frame>, mut left: Left) -> State
-    ensures { state_of result ≡ by.past_keyword (keyword_meant keyword) (next_of next begun.items) (left_of left) }
+pub fn past_keyword(keyword: Keyword, next: Next, state: &mut State)
+    ensures { state_of state.new ≡ by.past_keyword (keyword_meant keyword) (next_of next state.old.begun.items) (left_of state.old.left) }
 {
-    if left.take_keyword(keyword) {
-        State { next, begun, left }
-    } else {
-        discard(next);
-        stuck(begun, left)
+    if !state.left.take_keyword(keyword) {
+        stuck(state);
+        return;
     }
+    state.next = next;
 }

@@ -1,6 +1,6 @@
 //! The step.
 
-ghost use Rattle.std.specs.Prelude.{◌≡◌, IfOk};
+ghost use Rattle.std.specs.Prelude.{◌≡◌, OnOk};
 ghost use Rattle.spec_program.specs.Frames as f;
 ghost use Rattle.spec_program.specs.Frames.{an_expression, push};
 ghost use Rattle.spec_reader.specs.Begins.{operand_begins};
@@ -16,50 +16,45 @@ use reader_begins::operators::operators_begin;
 use reader_begins::steps::steps_begin;
 use reader_blocks::begin::{arms_begin, block_begins, branches_begin};
 use reader_frames::frame::{Frame, OperandFrame};
-use reader_frames::left::Left;
-use reader_frames::state::{Next, State, begin, stuck};
+use reader_frames::state::{Next, State, begin};
 use std::alloc::{AllocError, Global};
-use std::collections::VecDeque;
 
 // An expression begins with an operand.
 fn expression_begins(
     alloc: Global,
     brackets: bool,
     level: u8,
-    begun: VecDeque<Frame>,
-    left: Left,
-) -> Result<State, AllocError>
-    ensures { IfOk result (λ s. state_of s ≡ operand_begins brackets level (push (f.value_behind brackets level) (all_begun begun.items an_expression))
-        (left_of left)) }
+    state: &mut State,
+) -> Result<(), AllocError>
+    ensures { OnOk result (state_of state.new ≡ operand_begins brackets level (push (f.value_behind brackets level) (all_begun state.old.begun.items an_expression))
+        (left_of state.old.left)) }
 {
-    let begun = begin(
-        begun,
+    begin(
+        &mut state.begun,
         Frame::Operand(OperandFrame::Value { brackets, level }),
     )?;
-    operand_begins(alloc, brackets, level, begun, left)
+    operand_begins(alloc, brackets, level, state)
 }
 
 /// What is read next, or was found, one step on. The step of a state that no text leads to is answered as a lack of memory.
-pub fn step(alloc: Global, state: State) -> Result<State, AllocError>
-    ensures { IfOk result (λ s. state_of s ≡ step (state_of state)) }
+pub fn step(alloc: Global, state: &mut State) -> Result<(), AllocError>
+    ensures { OnOk result (state_of state.new ≡ step (state_of state.old)) }
 {
-    let State { next, begun, left } = state;
+    let next = std::mem::replace(&mut state.next, Next::Sticks);
     match next {
-        Next::Found(part) => behind_found(alloc, part, begun, left),
-        Next::Expression { brackets, level } => {
-            expression_begins(alloc, brackets, level, begun, left)
-        }
-        Next::Steps { brackets, operand } => steps_begin(alloc, brackets, operand, begun, left),
+        Next::Found(part) => behind_found(alloc, part, state),
+        Next::Expression { brackets, level } => expression_begins(alloc, brackets, level, state),
+        Next::Steps { brackets, operand } => steps_begin(alloc, brackets, operand, state),
         Next::Operators {
             brackets,
             level,
             left: found,
-        } => operators_begin(brackets, level, found, begun, left),
-        Next::Arguments { brackets } => arguments_begin(brackets, begun, left),
-        Next::Items { brackets, allowed } => items_begin(alloc, brackets, allowed, begun, left),
-        Next::Block => block_begins(alloc, begun, left),
-        Next::Branches => branches_begin(begun, left),
-        Next::Arms => arms_begin(alloc, begun, left),
-        Next::Sticks => Ok(stuck(begun, left)),
+        } => operators_begin(brackets, level, found, state),
+        Next::Arguments { brackets } => arguments_begin(brackets, state),
+        Next::Items { brackets, allowed } => items_begin(alloc, brackets, allowed, state),
+        Next::Block => block_begins(alloc, state),
+        Next::Branches => branches_begin(state),
+        Next::Arms => arms_begin(alloc, state),
+        Next::Sticks => Ok(()),
     }
 }

@@ -1,7 +1,7 @@
 #!/usr/bin/env python3
 """links.py PORT PID GROUP: measures a server of lines on this port, whose process is known: moo-server over the fixture, or what answers as it does. Prints
 one line a measurement: what, unit, and the amount in seconds, bytes, or bytes and steps a second. What this client takes itself is in each. The groups are
-`lines` and `floods`."""
+`lines` and `floods`, and `tinymux`, of a TinyMUX over the world that comes with it: those of `lines` that it has too."""
 import os
 import selectors
 import socket
@@ -15,16 +15,26 @@ ANSWER = b"I couldn't understand that.\r\n"
 GREETING = b"Type connect #n\r\n"
 CONNECTED = b"*** Connected ***\r\n"
 SECONDS = 60
+# What TinyMUX answers to the same line, and how its wizard logs in. What it tells before has no end that is known, so it is over when nothing comes.
+MUX_ANSWER = b'Huh?  (Type "help" for help.)\r\n'
+MUX_LOGIN = b"connect wizard potrzebie\r\n"
+QUIET = 0.5
 
 
 def sized(full, short):
     return short if IS_SHORT else full
 
 
-def connect():
-    """A link on which nobody has logged in."""
+def opened():
+    """A link of which nothing is read yet."""
     link = socket.create_connection(("127.0.0.1", port), timeout=SECONDS)
     link.setsockopt(socket.IPPROTO_TCP, socket.TCP_NODELAY, 1)
+    return link
+
+
+def connect():
+    """A link on which nobody has logged in."""
+    link = opened()
     read(link, len(GREETING))
     return link
 
@@ -35,6 +45,24 @@ def log_in():
     link.sendall(b"connect #4\r\n")
     read(link, len(CONNECTED))
     return link
+
+
+def log_in_to_mux():
+    """A link on which TinyMUX's wizard has logged in."""
+    link = opened()
+    read_until_quiet(link)
+    link.sendall(MUX_LOGIN)
+    read_until_quiet(link)
+    return link
+
+
+def read_until_quiet(link):
+    link.settimeout(QUIET)
+    try:
+        while link.recv(65536):
+            pass
+    except TimeoutError:
+        link.settimeout(SECONDS)
 
 
 def read(link, count):
@@ -69,13 +97,13 @@ def ticks():
     return int(fields[11]) + int(fields[12])
 
 
-def ping_pong():
+def ping_pong(link, answer):
     """The median time of a line and its answer, and the ninety-ninth hundredth."""
-    link, times = log_in(), []
+    times = []
     for _ in range(sized(20000, 50)):
         start = time.perf_counter()
         link.sendall(LINE)
-        read(link, len(ANSWER))
+        read(link, len(answer))
         times.append(time.perf_counter() - start)
     close(link)
     times.sort()
@@ -83,14 +111,14 @@ def ping_pong():
     tell("a line and its answer on one link, 99 of 100", "us", times[len(times) * 99 // 100])
 
 
-def pipelined():
+def pipelined(link, answer, most):
     """Lines on one link, 64 on their way at a time."""
-    link, count, most = log_in(), 0, sized(500000, 200)
+    count = 0
     link.sendall(64 * LINE)
     rest, start = 0, time.perf_counter()
     while count < most:
         rest += len(link.recv(65536))
-        lines, rest = divmod(rest, len(ANSWER))
+        lines, rest = divmod(rest, len(answer))
         count += lines
         link.sendall(lines * LINE)
     tell("lines on one link, 64 on their way", "steps/s", count / (time.perf_counter() - start))
@@ -154,10 +182,15 @@ def flood(what, unit, count, answer=b""):
 
 
 def lines():
-    ping_pong()
-    pipelined()
+    ping_pong(log_in(), ANSWER)
+    pipelined(log_in(), ANSWER, sized(500000, 200))
     many()
     idle()
+
+
+def tinymux():
+    ping_pong(log_in_to_mux(), MUX_ANSWER)
+    pipelined(log_in_to_mux(), MUX_ANSWER, sized(20000, 200))
 
 
 def floods():
@@ -168,4 +201,4 @@ def floods():
 
 if __name__ == "__main__":
     port, pid = int(sys.argv[1]), int(sys.argv[2])
-    {"lines": lines, "floods": floods}[sys.argv[3]]()
+    {"lines": lines, "floods": floods, "tinymux": tinymux}[sys.argv[3]]()

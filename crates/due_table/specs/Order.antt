@@ -1,6 +1,7 @@
 -- Lists in a strictly rising order R, each item once.
 use Rattle.std.specs.Prelude.{not, List, [], ◌∷◌, Option, filter, find}
-use Rattle.std.specs.Ordering.{Ordering, is_le, eq_by_cmp}
+use Rattle.std.specs.declared.cmp.Ordering.{Ordering}
+use Rattle.std.specs.Ordering.{is_le, eq_by_cmp}
 use Rattle.std.specs.FinMap.Entries.{by_order}
 
 -- an item more, in its place, unless it is there

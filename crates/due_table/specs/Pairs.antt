@@ -1,6 +1,7 @@
 -- Pairs of a moment and a key, in the order of moments, and at one moment of keys.
 use Rattle.std.specs.Prelude.{ℕ, List, Option}
-use Rattle.std.specs.Ordering.{Ordering, nat_cmp, ordering_then}
+use Rattle.std.specs.declared.cmp.Ordering.{Ordering}
+use Rattle.std.specs.Ordering.{nat_cmp, ordering_then}
 use Rattle.due_table.specs.Order.{with_item, without_item, first_item_from}
 
 -- with keys in the order R

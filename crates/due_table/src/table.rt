@@ -1,8 +1,11 @@
 //! Pairs of a moment and a key.
-ghost use Rattle.std.specs.Prelude.{◌≡◌, ◌<◌, ◌==◌, [], length, IfOk, IfSome};
+ghost use Rattle.std.specs.Prelude.{◌≡◌, ◌+◌, ◌<◌, ◌==◌, [], length, unwrap_or, IfOk, IfSome};
 ghost use Rattle.std.specs.List.{All};
 ghost use Rattle.std.specs.List.Sorted.{IsStrictlySortedBy};
 ghost use Rattle.std.specs.Ordering.{nat_cmp};
+ghost use Rattle.std.specs.FinMap.{put};
+ghost use Rattle.due_table.specs.Held.{IsSound, pairs_of, keys_at, kept_at};
+ghost use Rattle.due_table.specs.Order.{with_item, without_item, first_item_from};
 ghost use Rattle.due_table.specs.Pairs.{pair_cmp, with_pair, without_pair, first_pair_from};
 
 use crate::keys::Keys;
@@ -60,7 +63,10 @@ impl DueTable {
         ensures value { result ≡ first_pair_from (moment, key) self.now }
         ensures within { IfSome result (λ p. p.1 < 4294967296) }
     {
-        None
+        match key_from(&self.moments, moment, key) {
+            Some(found) => Some((moment, found)),
+            None => first_after(&self.moments, moment),
+        }
     }
 
     /// The same pairs, with one more owner.
@@ -78,13 +84,94 @@ impl DueTable {
         requires { key < 4294967296 }
         ensures { IfOk result (λ t. t ≡ with_pair (moment, key) self.now) }
     {
-        Err(AllocError)
+        let moments = with_key(&self.moments, self.alloc, moment, key)?;
+        Ok(DueTable {
+            moments,
+            alloc: self.alloc,
+        })
     }
 
     /// The table without this pair.
     pub fn without(&self, moment: u32, key: u64) -> Result<DueTable, AllocError>
         ensures { IfOk result (λ t. t ≡ without_pair (moment, key) self.now) }
     {
-        Err(AllocError)
+        let moments = without_key(&self.moments, moment, key)?;
+        Ok(DueTable {
+            moments,
+            alloc: self.alloc,
+        })
+    }
+}
+
+// The first key of a moment that is this one or after it.
+fn key_from(moments: &Table<Keys, 7>, moment: u32, key: u64) -> Option<u64>
+    ensures { result ≡ first_item_from nat_cmp key (keys_at moment moments.now.entries) }
+{
+    match moments.get(moment as u64) {
+        Some(keys) => keys.next_from(key),
+        None => None,
+    }
+}
+
+// The first pair of the moments after this one.
+fn first_after(moments: &Table<Keys, 7>, moment: u32) -> Option<(u32, u64)>
+    requires { IsSound moments.now.entries }
+    ensures { result ≡ first_pair_from (moment + 1, 0) (pairs_of moments.now.entries) }
+{
+    let (later, keys) = moments.next_from(moment as u64 + 1)?;
+    let first = keys.next_from(0)?;
+    Some((later as u32, first))
+}
+
+fn with_key(
+    moments: &Table<Keys, 7>,
+    alloc: Global,
+    moment: u32,
+    key: u64,
+) -> Result<Table<Keys, 7>, AllocError>
+    requires { key < 4294967296 }
+    ensures { IfOk result (λ t. t.entries ≡ put nat_cmp moment (with_item nat_cmp key (keys_at moment moments.now.entries)) moments.now.entries) }
+{
+    let _sorted = moments.len();
+    match moments.get(moment as u64) {
+        None => moments.with(moment as u64, Keys::one(key)),
+        Some(keys) => if keys.has(key) {
+            moments.share()
+        } else {
+            moments.with(moment as u64, keys.with(alloc, key)?)
+        }
+    }
+}
+
+fn without_key(
+    moments: &Table<Keys, 7>,
+    moment: u32,
+    key: u64,
+) -> Result<Table<Keys, 7>, AllocError>
+    requires { IsSound moments.now.entries }
+    ensures { IfOk result (λ t. t.entries ≡ kept_at moment (without_item nat_cmp key (keys_at moment moments.now.entries)) moments.now.entries) }
+{
+    match moments.get(moment as u64) {
+        None => moments.share(),
+        Some(keys) => if keys.has(key) {
+            kept(moments, moment, keys.without(key)?)
+        } else {
+            moments.share()
+        }
+    }
+}
+
+// The moments with these keys at one of them, or without it where there are none.
+fn kept(
+    moments: &Table<Keys, 7>,
+    moment: u32,
+    keys: Option<Keys>,
+) -> Result<Table<Keys, 7>, AllocError>
+    requires { IfSome keys (λ ks. 0 < length ks) }
+    ensures { IfOk result (λ t. t.entries ≡ kept_at moment (unwrap_or keys []) moments.now.entries) }
+{
+    match keys {
+        None => moments.without(moment as u64),
+        Some(keys) => moments.with(moment as u64, keys),
     }
 }

@@ -21,12 +21,12 @@ abbrev Moments : Type 0
 Moments = List (ℕ × List ℕ)
 
 -- the keys that are found at a moment, by how it stands to the first
-abbrev found_at : Ordering → ℕ × List ℕ → List ℕ → List ℕ
+abbrev pub found_at : Ordering → ℕ × List ℕ → List ℕ → List ℕ
 found_at Less e ks = ks
 found_at Equal e ks = e.1
 found_at Greater e ks = ks
 
-found : (m : ℕ) (e : ℕ × List ℕ) (es : Moments) (r : Ordering) → nat_cmp m e.0 ≡ r → keys_at m (e ∷ es) ≡ found_at r e (keys_at m es)
+pub found : (m : ℕ) (e : ℕ × List ℕ) (es : Moments) (r : Ordering) → nat_cmp m e.0 ≡ r → keys_at m (e ∷ es) ≡ found_at r e (keys_at m es)
 found m e es Less h = ap (λ r. unwrap_or (cond (is_eq r) (Some e.1) (find nat_cmp m es)) []) h
 found m e es Equal h = ap (λ r. unwrap_or (cond (is_eq r) (Some e.1) (find nat_cmp m es)) []) h
 found m e es Greater h = ap (λ r. unwrap_or (cond (is_eq r) (Some e.1) (find nat_cmp m es)) []) h
@@ -34,7 +34,7 @@ found m e es Greater h = ap (λ r. unwrap_or (cond (is_eq r) (Some e.1) (find na
 put_by : (m : ℕ) (ks : List ℕ) (e : ℕ × List ℕ) (es : Moments) (r : Ordering) → nat_cmp m e.0 ≡ r → put nat_cmp m ks (e ∷ es) ≡ by_order r ((m, ks) ∷ e ∷ es) ((e.0, ks) ∷ es) (e ∷ put nat_cmp m ks es)
 put_by m ks e es r h = ap (λ r. by_order r ((m, ks) ∷ e ∷ es) ((e.0, ks) ∷ es) (e ∷ put nat_cmp m ks es)) h
 
-none_below : (m low high : ℕ) (es : Moments) → m < low → Rises low high es → keys_at m es ≡ []
+pub none_below : (m low high : ℕ) (es : Moments) → m < low → Rises low high es → keys_at m es ≡ []
 none_below m low high es p h = ap (λ o. unwrap_or o []) (find_below m low high es p h)
 
 pub pairs_with : (low high m k : ℕ) (es : Moments) → Rises low high es → pairs_of (put nat_cmp m (with_item nat_cmp k (keys_at m es)) es) ≡ with_pair (m, k) (pairs_of es)

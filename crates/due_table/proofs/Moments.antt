@@ -1,5 +1,5 @@
 -- What a change of one moment's keys makes of the pairs.
-use Rattle.std.proofs.Common.{◌≡◌, ◌≢◌, ℕ, ◌+◌, ◌<◌, ◌≤◌, Bool, true, false, cond, not, T, List, [], ◌∷◌, ◌++◌, length, map, Option, Some, None, is_some, unwrap_or, option_map, IfSome, refl, sym, ap, subst, ◌∙◌, arith, Ordering, Less, Equal, Greater}
+use Rattle.std.proofs.Common.{◌≡◌, ◌≢◌, ℕ, ◌+◌, ◌<◌, ◌≤◌, Bool, true, false, cond, not, T, List, [], ◌∷◌, ◌++◌, length, map, Option, Some, None, is_some, unwrap_or, option_map, IfSome, Result, Ok, Err, IfOk, refl, sym, ap, subst, ◌∙◌, arith, Ordering, Less, Equal, Greater}
 use Rattle.std.specs.List.{AllByRecursion, All}
 use Rattle.std.specs.List.Sorted.{IsStrictlySortedBy}
 use Rattle.std.specs.Option.{option_or, option_and_then}
@@ -8,6 +8,7 @@ use Rattle.std.specs.Cmp.{ranked}
 use Rattle.std.specs.FinMap.{find, put}
 use Rattle.std.specs.FinMap.Entries.{by_order}
 use Rattle.world_table.specs.Branch.{Rises}
+use Rattle.world_table.specs.Contents.{Contents}
 use Rattle.world_table.specs.Entries.{without, first_from}
 use Rattle.world_table.proofs.Roots.{without_absent}
 use Rattle.world_table.proofs.Rising.{find_below, put_below, without_below, Rises-put, Rises-without}
@@ -140,3 +141,8 @@ kept_none m k es none = ap (λ o. kept_at m (without_item nat_cmp k (unwrap_or o
 pub kept_some : (m : ℕ) (ks : List ℕ) (es : Moments) → 0 < length ks → put nat_cmp m ks es ≡ kept_at m ks es
 kept_some m [] es p = absurd (omega arith)
 kept_some m (k ∷ ks) es p = refl
+
+-- a table that is shared in place of a changed one
+pub shared : {E : Type 0} (r : Result (Contents (List ℕ)) E) (t : Contents (List ℕ)) (es : Moments) → es ≡ t.entries → IfOk r (λ s. s ≡ t) → IfOk r (λ s. s.entries ≡ es)
+shared (Ok s) t es is h = ap (λ (s : Contents (List ℕ)). s.entries) h ∙ sym is
+shared (Err e) t es is h = tt

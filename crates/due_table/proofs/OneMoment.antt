@@ -1,6 +1,7 @@
 -- The keys of a table's entries.
 use Rattle.std.proofs.Common.{◌≡◌, ℕ, ◌<◌, ◌≤◌, Bool, true, false, cond, not, ◌&&◌, T, IsTrue, List, [], ◌∷◌, map, Option, Some, None, is_some, option_map, refl, sym, ap, subst, ◌∙◌, arith, nat_le, nat_lt, Ordering, Less, Equal, Greater}
 use Rattle.std.specs.List.{filter, find as first}
+use Rattle.std.specs.Bool.{OnTrue, OnFalse}
 use Rattle.std.specs.Ordering.{nat_cmp, eq_by_cmp, is_le, is_lt, is_eq}
 use Rattle.std.specs.Cmp.{ranked}
 use Rattle.std.specs.FinMap.{find, put, is_sorted}
@@ -11,10 +12,10 @@ use Rattle.world_table.proofs.Rising.{cmp_less, eq_by_apart}
 use Rattle.due_table.specs.Order.{with_item, without_item, first_item_from}
 use Rattle.due_table.proofs.Ranked.{le_from_cmp, gt_from_cmp}
 
-abbrev Entries : Type 0
+abbrev pub Entries : Type 0
 Entries = List (ℕ × Unit {0})
 
-abbrev keys : Entries → List ℕ
+abbrev pub keys : Entries → List ℕ
 keys = map (λ e. e.0)
 
 pub keys_put : (k : ℕ) (u : Unit {0}) (es : Entries) → keys (put nat_cmp k u es) ≡ with_item nat_cmp k (keys es)
@@ -90,3 +91,15 @@ key_absent k (e ∷ es) none =
       | true ↦ λ f. absurd (subst T f tt)
       | false ↦ λ f. ap (λ ks. e.0 ∷ ks) (key_absent k es f)
     ] none
+
+pub is_some-now : {A B : Type 0} (f : A → B) (o : Option A) → is_some (option_map f o) ≡ is_some o
+is_some-now f None = refl
+is_some-now f (Some x) = refl
+
+pub tells_there : (k : ℕ) (es : Entries) (b : Bool) → b ≡ is_some (find nat_cmp k es) → IsTrue (is_sorted nat_cmp es) → OnTrue b (with_item nat_cmp k (keys es) ≡ keys es)
+tells_there k es true is h = key_there k es (subst T (sym h) tt) (subst T is tt)
+tells_there k es false is h = tt
+
+pub tells_absent : (k : ℕ) (es : Entries) (b : Bool) → b ≡ is_some (find nat_cmp k es) → OnFalse b (without_item nat_cmp k (keys es) ≡ keys es)
+tells_absent k es true is = tt
+tells_absent k es false is = key_absent k es (sym is)

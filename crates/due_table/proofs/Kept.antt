@@ -1,5 +1,5 @@
 -- Tables stay sound, and what a sound table is.
-use Rattle.std.proofs.Common.{◌≡◌, ℕ, ◌+◌, ◌<◌, ◌≤◌, ◌==◌, suc, Bool, true, false, cond, not, List, [], ◌∷◌, ◌++◌, length, refl, sym, ap, subst, ◌∙◌, arith, Ordering, Less, Equal, Greater, Some, unwrap_or}
+use Rattle.std.proofs.Common.{◌≡◌, ℕ, ◌+◌, ◌<◌, ◌==◌, suc, Bool, true, false, cond, not, List, [], ◌∷◌, ◌++◌, length, refl, sym, ◌∙◌, arith, Ordering, Less, Equal, Greater, Some, unwrap_or}
 use Rattle.std.specs.List.{AllByRecursion, All}
 use Rattle.std.specs.List.Sorted.{IsStrictlySortedBy}
 use Rattle.std.specs.Ordering.{nat_cmp, eq_by_cmp}
@@ -8,7 +8,6 @@ use Rattle.std.specs.FinMap.Entries.{by_order}
 use Rattle.std.proofs.lemmas.Bool.Decides.{nat_tests}
 use Rattle.std.proofs.lemmas.List.Elements.{All-from_recursion}
 use Rattle.world_table.specs.Branch.{Rises}
-use Rattle.world_table.specs.Entries.{without}
 use Rattle.world_table.proofs.Rising.{Rises-put, Rises-without, bounds}
 use Rattle.due_table.specs.Order.{with_item, without_item}
 use Rattle.due_table.specs.Pairs.{pair_cmp}

@@ -1,22 +1,19 @@
 -- What a change of one moment's keys makes of the pairs.
-use Rattle.std.proofs.Common.{◌≡◌, ◌≢◌, ℕ, ◌+◌, ◌<◌, ◌≤◌, Bool, true, false, cond, not, T, List, [], ◌∷◌, ◌++◌, length, map, Option, Some, None, is_some, unwrap_or, option_map, IfSome, Result, Ok, Err, IfOk, refl, sym, ap, subst, ◌∙◌, arith, Ordering, Less, Equal, Greater}
-use Rattle.std.specs.List.{AllByRecursion, All}
-use Rattle.std.specs.List.Sorted.{IsStrictlySortedBy}
-use Rattle.std.specs.Option.{option_or, option_and_then}
+use Rattle.std.proofs.Common.{◌≡◌, ℕ, ◌+◌, ◌<◌, Bool, true, false, cond, not, T, List, [], ◌∷◌, ◌++◌, length, Option, Some, None, is_some, unwrap_or, Result, Ok, Err, IfOk, refl, sym, ap, subst, ◌∙◌, arith, Ordering, Less, Equal, Greater}
+use Rattle.std.specs.List.{AllByRecursion}
 use Rattle.std.specs.Ordering.{nat_cmp, eq_by_cmp, is_eq}
 use Rattle.std.specs.Cmp.{ranked}
 use Rattle.std.specs.FinMap.{find, put}
 use Rattle.std.specs.FinMap.Entries.{by_order}
 use Rattle.world_table.specs.Branch.{Rises}
 use Rattle.world_table.specs.Contents.{Contents}
-use Rattle.world_table.specs.Entries.{without, first_from}
+use Rattle.world_table.specs.Entries.{without}
 use Rattle.world_table.proofs.Roots.{without_absent}
-use Rattle.world_table.proofs.Rising.{find_below, put_below, without_below, Rises-put, Rises-without}
-use Rattle.due_table.specs.Order.{with_item, without_item, first_item_from}
-use Rattle.due_table.specs.Pairs.{pair_cmp, with_pair, without_pair, first_pair_from}
+use Rattle.world_table.proofs.Rising.{find_below, without_below}
+use Rattle.due_table.specs.Order.{with_item, without_item}
+use Rattle.due_table.specs.Pairs.{with_pair, without_pair}
 use Rattle.due_table.specs.Held.{AreKeys, IsSound, at_moment, pairs_of, keys_at, kept_at}
-use Rattle.due_table.proofs.Ranked.{all_kept, first_key, keys_with, keys_without}
-use Rattle.due_table.proofs.Later.{pairs_later, put_first, put_own, put_behind, none_later, left_own, left_behind, first_at_or_after, first_of_later, from_behind, from_own}
+use Rattle.due_table.proofs.Later.{pairs_later, put_first, put_own, put_behind, none_later, left_own, left_behind}
 
 abbrev Moments : Type 0
 Moments = List (ℕ × List ℕ)

@@ -1,6 +1,5 @@
 -- The keys of a table's entries.
-use Rattle.std.proofs.Common.{◌≡◌, ℕ, ◌<◌, ◌≤◌, Bool, true, false, cond, not, ◌&&◌, T, IsTrue, List, [], ◌∷◌, map, Option, Some, None, is_some, option_map, refl, sym, ap, subst, ◌∙◌, arith, nat_le, nat_lt, Ordering, Less, Equal, Greater}
-use Rattle.std.specs.List.{filter, find as first}
+use Rattle.std.proofs.Common.{◌≡◌, ℕ, ◌<◌, ◌≤◌, Bool, true, false, cond, not, ◌&&◌, T, IsTrue, List, [], ◌∷◌, map, Option, Some, None, is_some, option_map, refl, sym, ap, subst, ◌∙◌, arith, nat_le, Ordering, Less, Equal, Greater}
 use Rattle.std.specs.Bool.{OnTrue, OnFalse}
 use Rattle.std.specs.Ordering.{nat_cmp, eq_by_cmp, is_le, is_lt, is_eq}
 use Rattle.std.specs.Cmp.{ranked}
@@ -8,7 +7,7 @@ use Rattle.std.specs.FinMap.{find, put, is_sorted}
 use Rattle.std.specs.FinMap.Entries.{by_order, below_all}
 use Rattle.std.proofs.lemmas.Bool.Decides.{nat_tests}
 use Rattle.world_table.specs.Entries.{without, first_from}
-use Rattle.world_table.proofs.Rising.{cmp_less, eq_by_apart}
+use Rattle.world_table.proofs.Rising.{eq_by_apart}
 use Rattle.due_table.specs.Order.{with_item, without_item, first_item_from}
 use Rattle.due_table.proofs.Ranked.{le_from_cmp, gt_from_cmp}
 

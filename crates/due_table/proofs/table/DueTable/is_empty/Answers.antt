@@ -1,4 +1,4 @@
-use Rattle.std.proofs.Common.{◌≡◌, sym, subst, ap, ◌∙◌}
+use Rattle.std.proofs.Common.{◌∙◌}
 use Rattle.due_table.proofs.Kept.{no_pairs, sorted_pairs, pairs_within}
 use Rattle.due_table.proofs.table.DueTable.is_empty.Goals as goal
 

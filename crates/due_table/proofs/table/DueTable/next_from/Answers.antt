@@ -1,5 +1,4 @@
-use Rattle.std.proofs.Common.{◌≡◌, Some, sym, subst, ap, ◌∙◌}
-use Rattle.due_table.specs.Pairs.{first_pair_from}
+use Rattle.std.proofs.Common.{Some}
 use Rattle.due_table.proofs.Walks.{found_own, found_later, pair_within}
 use Rattle.due_table.proofs.table.DueTable.next_from.Goals as goal
 

@@ -1,4 +1,4 @@
-use Rattle.std.proofs.Common.{◌≡◌, sym, subst, ap, ◌∙◌}
+use Rattle.std.proofs.Common.{sym, subst, ap, ◌∙◌}
 use Rattle.due_table.specs.Pairs.{without_pair}
 use Rattle.due_table.specs.Held.{IsSound, pairs_of}
 use Rattle.due_table.proofs.Moments.{pairs_without}

@@ -15,6 +15,9 @@ ANSWER = b"I couldn't understand that.\r\n"
 GREETING = b"Type connect #n\r\n"
 CONNECTED = b"*** Connected ***\r\n"
 SECONDS = 60
+# A line that leaves so many tasks, which wait for weeks, and has no answer.
+TASKS = 60
+FORKS = b';eval("for i in [1..60] fork (2000000) endfork endfor")\r\n'
 # What TinyMUX answers to the same line, and how its wizard logs in. What it tells before has no end that is known, so it is over when nothing comes.
 MUX_ANSWER = b'Huh?  (Type "help" for help.)\r\n'
 MUX_LOGIN = b"connect wizard potrzebie\r\n"
@@ -97,7 +100,7 @@ def ticks():
     return int(fields[11]) + int(fields[12])
 
 
-def ping_pong(link, answer):
+def ping_pong(link, answer, where="on one link"):
     """The median time of a line and its answer, and the ninety-ninth hundredth."""
     times = []
     for _ in range(sized(20000, 50)):
@@ -107,8 +110,8 @@ def ping_pong(link, answer):
         times.append(time.perf_counter() - start)
     close(link)
     times.sort()
-    tell("a line and its answer on one link, median", "us", times[len(times) // 2])
-    tell("a line and its answer on one link, 99 of 100", "us", times[len(times) * 99 // 100])
+    tell(f"a line and its answer {where}, median", "us", times[len(times) // 2])
+    tell(f"a line and its answer {where}, 99 of 100", "us", times[len(times) * 99 // 100])
 
 
 def pipelined(link, answer, most):
@@ -155,6 +158,14 @@ def many():
     close(*links)
 
 
+def beside_tasks():
+    """The same while many tasks wait for a moment. Each round leaves as many more."""
+    link, count = log_in(), sized(300, 2)
+    link.sendall(count * FORKS + LINE)
+    read(link, len(ANSWER))
+    ping_pong(link, ANSWER, f"beside {count * TASKS:,} tasks that wait")
+
+
 def idle():
     """Processor time of idle seconds, with a link that says nothing."""
     link, seconds = log_in(), sized(10, 1)
@@ -186,6 +197,7 @@ def lines():
     pipelined(log_in(), ANSWER, sized(500000, 200))
     many()
     idle()
+    beside_tasks()
 
 
 def tinymux():

@@ -13,3 +13,4 @@ pub mod Picked
 pub mod Listed
 pub mod Gathered
 pub mod TasksKept
+pub mod DueRows

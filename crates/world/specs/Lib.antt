@@ -9,3 +9,4 @@ pub mod Objects
 pub mod Picked
 pub mod Tasks
 pub mod Revised
+pub mod Due

@@ -14,3 +14,6 @@ pub mod Listed
 pub mod Gathered
 pub mod TasksKept
 pub mod DueRows
+pub mod Ordered
+pub mod DueKept
+pub mod DueWalks

@@ -1,7 +1,10 @@
 -- Which tasks are due, and in what order.
-use Rattle.std.specs.Prelude.{ℕ, ℤ, ◌==◌, nat_lt, nat_le, int_le, ◌&&◌, ◌||◌, if◌then◌else◌, List, [], ◌∷◌, map, filter, Option, Some, None}
+use Rattle.std.specs.Prelude.{ℕ, ℤ, nat_lt, nat_le, if◌then◌else◌, List, [], ◌∷◌, map, filter, Option, Some, None}
+use Rattle.std.specs.Ordering.{int_cmp}
 use Rattle.spec_world.specs.World.{Task}
 use Rattle.moo_task.specs.Waits.{due_at}
+use Rattle.due_table.specs.Order.{first_item_from}
+use Rattle.due_table.specs.Pairs.{pair_cmp}
 
 -- something with its moment, before the first that is not due earlier
 abbrev pub put_due : {K : Type 0} → ℕ → K → List (ℕ × K) → List (ℕ × K)
@@ -19,10 +22,12 @@ by_moment [] = []
 by_moment (t ∷ ts) = put_if_due (due_at (t.1).waiting) t.0 (by_moment ts)
 
 -- those whose moment has come
+abbrev pub due_of : {K : Type 0} → ℕ → List (ℕ × K) → List K
+due_of now ds = map (λ d. d.1) (filter (λ d. nat_le d.0 now) ds)
+
 abbrev pub due_ids : {K : Type 0} → ℕ → List (K × Task) → List K
-due_ids now ts = map (λ d. d.1) (filter (λ d. nat_le d.0 now) (by_moment ts))
+due_ids now ts = due_of now (by_moment ts)
 
 -- the first of this moment and this id, or after it
 abbrev pub first_due_from : ℕ → ℤ → List (ℕ × ℤ) → Option (ℕ × ℤ)
-first_due_from m i [] = None
-first_due_from m i (d ∷ ds) = if nat_lt m d.0 || ((m == d.0) && int_le i d.1) then Some d else first_due_from m i ds
+first_due_from m i = first_item_from (pair_cmp int_cmp) (m, i)

@@ -10,3 +10,4 @@ pub mod Picked
 pub mod Tasks
 pub mod Revised
 pub mod Due
+pub mod Moved

@@ -5,13 +5,13 @@ ghost use Rattle.std.specs.Ordering.{nat_cmp};
 ghost use Rattle.spec_value.specs.Table.{at};
 ghost use Rattle.spec_world.specs.Links.{reads_on};
 ghost use Rattle.spec_world.specs.Questions.{put_task};
-ghost use Rattle.moo_task.specs.Waits.{read_on, due_at};
+ghost use Rattle.moo_task.specs.Waits.{read_on};
 ghost use Rattle.world.specs.Due.{by_moment, due_ids, first_due_from};
 ghost use Rattle.world.specs.Numbered.{signed_key};
 ghost use Rattle.world.specs.Picked.{changed};
 
 use crate::choice::{AllIds, ReadersOf, gather, is_gathered};
-use crate::moments::{gather_due, moved};
+use crate::moments::{gather_due, moment_of, replace, with_moved};
 use crate::records::same_entries;
 use due_table::DueTable;
 use moo_task::task::Task;
@@ -78,12 +78,12 @@ impl Tasks {
         let key = key_of(id);
         let _sorted = self.tasks.len();
         let readers = changed_reader(&self.readers, key, &task)?;
-        let moments = moved(&self.moments, key, moment_of(self.tasks.get(key)), moment_of(task.as_ref()))?;
+        let old = moment_of(self.tasks.get(key));
+        let new = moment_of(task.as_ref());
+        let moments = with_moved(&self.moments, key, old, new)?;
         changed_task(&mut self.tasks, key, task)?;
         self.readers = readers;
-        if let Some(moments) = moments {
-            self.moments = moments;
-        }
+        replace(&mut self.moments, moments);
         Ok(())
     }
 

@@ -7,7 +7,8 @@ use Rattle.spec_world.specs.World.{Task}
 use Rattle.moo_task.specs.Waits.{due_at}
 use Rattle.due_table.specs.Pairs.{pair_cmp, first_pair_from}
 use Rattle.world.specs.Due.{put_due, put_if_due, by_moment, due_of, due_ids, first_due_from}
-use Rattle.world.specs.Numbered.{keyed}
+use Rattle.world.specs.Numbered.{keyed, signed_key, signed}
+use Rattle.world.proofs.Maps.{signed_cmp}
 use Rattle.world.proofs.Ordered as ordered
 use Rattle.world.proofs.DueKept.{pairs_total, pairs_exact, AreSorted}
 
@@ -56,6 +57,19 @@ module _ (f : ℕ → ℤ) where
 
   pub all_due : (now : ℕ) (es : List (ℕ × Task)) → map f (due_of now (by_moment es)) ≡ due_ids now (keyed f es)
   all_due now es = due_named now (by_moment es) ∙ ap (due_of now) (sym (moments_named es))
+
+-- the next one of ids, from that of keys
+pub next_is : (m : ℕ) (i : ℤ) (k : ℕ) (ds : List (ℕ × ℕ)) (found : Option (ℕ × ℕ)) → signed_key k ≡ i → found ≡ first_pair_from (m, k) ds
+    → option_map (λ d. (d.0, signed_key d.1)) found ≡ first_due_from m i (map (λ d. (d.0, signed_key d.1)) ds)
+next_is m i k ds found is found_is =
+    ap (option_map (named signed_key)) found_is ∙ sym (first_named signed_key signed_cmp m k ds) ∙ ap (λ j. first_due_from m j (map (named signed_key) ds)) is
+
+-- the same from the moments that are known
+pub known_moments : (es : List (ℕ × Task)) (ds : List (ℕ × ℕ)) → ds ≡ by_moment es → map (λ d. (d.0, signed_key d.1)) ds ≡ by_moment (signed es)
+known_moments es ds is = ap (map (named signed_key)) is ∙ sym (moments_named signed_key es)
+
+pub known_due : (now : ℕ) (es : List (ℕ × Task)) (ds : List (ℕ × ℕ)) → ds ≡ by_moment es → map signed_key (due_of now ds) ≡ due_ids now (signed es)
+known_due now es ds is = ap (λ xs. map signed_key (due_of now xs)) is ∙ all_due signed_key now es
 
 -- ---- a walk
 

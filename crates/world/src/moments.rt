@@ -3,11 +3,11 @@ ghost use Rattle.std.specs.Prelude.{◌≡◌, ◌<◌, None, IfOk, MatchOption,
 ghost use Rattle.std.specs.List.{AllByRecursion};
 ghost use Rattle.std.specs.Option.{option_and_then};
 ghost use Rattle.moo_task.specs.Waits.{due_at};
-ghost use Rattle.world.specs.Due.{due_of};
+ghost use Rattle.world.specs.Due.{due_of, first_due_from};
 ghost use Rattle.world.specs.Moved.{moved};
 ghost use Rattle.world.specs.Numbered.{signed_key};
 
-use crate::tasks::id_of;
+use crate::tasks::{id_of, key_of};
 use due_table::DueTable;
 use moo_task::task::Task;
 use std::alloc::{AllocError, Global};
@@ -47,6 +47,16 @@ pub(crate) fn replace(moments: &mut DueTable, changed: Option<DueTable>)
 {
     if let Some(changed) = changed {
         *moments = changed;
+    }
+}
+
+/// The first task of this moment and this id, or after it, with its moment. No other is looked at.
+pub(crate) fn next_due(moments: &DueTable, moment: u32, id: i32) -> Option<(u32, i32)>
+    ensures { result ≡ first_due_from moment id (map (λ d. (d.0, signed_key d.1)) moments.now) }
+{
+    match moments.next_from(moment, key_of(id)) {
+        Some((found, key)) => Some((found, id_of(key))),
+        None => None,
     }
 }
 

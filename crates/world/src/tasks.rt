@@ -11,7 +11,7 @@ ghost use Rattle.world.specs.Numbered.{signed_key};
 ghost use Rattle.world.specs.Picked.{changed};
 
 use crate::choice::{AllIds, ReadersOf, gather, is_gathered};
-use crate::moments::{gather_due, moment_of, replace, with_moved};
+use crate::moments::{gather_due, moment_of, next_due, replace, with_moved};
 use crate::records::same_entries;
 use due_table::DueTable;
 use moo_task::task::Task;
@@ -140,8 +140,7 @@ impl Tasks {
     pub(crate) fn next_due(&self, moment: u32, id: i32) -> Option<(u32, i32)>
         ensures { result ≡ first_due_from moment id (by_moment self.now) }
     {
-        let (found, key) = self.moments.next_from(moment, key_of(id))?;
-        Some((found, id_of(key)))
+        next_due(&self.moments, moment, id)
     }
 
     /// The ids of those whose moment has come, by their moments and then by their ids. No other task is looked at.
@@ -190,8 +189,8 @@ fn connection_read(task: &Option<Task>) -> Option<i32>
     }
 }
 
-// The key of an id.
-fn key_of(id: i32) -> u64
+/// The key of an id.
+pub(crate) fn key_of(id: i32) -> u64
     ensures read { signed_key result ≡ id }
     ensures within { result < 4294967296 }
 {

@@ -112,8 +112,10 @@ fn only_from(one: u64, key: u64) -> Option<u64>
 fn next_in(table: &Table<(), 7>, key: u64) -> Option<u64>
     ensures { result ≡ first_item_from nat_cmp key (map (λ e. e.0) table.now.entries) }
 {
-    let (found, _) = table.next_from(key)?;
-    Some(found)
+    match table.next_from(key) {
+        Some((found, _)) => Some(found),
+        None => None,
+    }
 }
 
 fn both(alloc: Global, one: u32, key: u64) -> Result<Table<(), 7>, AllocError>

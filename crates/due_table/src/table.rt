@@ -118,9 +118,13 @@ fn first_after(moments: &Table<Keys, 7>, moment: u32) -> Option<(u32, u64)>
     requires { IsSound moments.now.entries }
     ensures { result ≡ first_pair_from (moment + 1, 0) (pairs_of moments.now.entries) }
 {
-    let (later, keys) = moments.next_from(moment as u64 + 1)?;
-    let first = keys.next_from(0)?;
-    Some((later as u32, first))
+    match moments.next_from(moment as u64 + 1) {
+        Some((later, keys)) => match keys.next_from(0) {
+            Some(key) => Some((later as u32, key)),
+            None => None,
+        },
+        None => None,
+    }
 }
 
 fn with_key(
@@ -129,10 +133,10 @@ fn with_key(
     moment: u32,
     key: u64,
 ) -> Result<Table<Keys, 7>, AllocError>
-    requires { key < 4294967296 }
+    requires bound { key < 4294967296 }
+    requires sound { IsSound moments.now.entries }
     ensures { IfOk result (λ t. t.entries ≡ put nat_cmp moment (with_item nat_cmp key (keys_at moment moments.now.entries)) moments.now.entries) }
 {
-    let _sorted = moments.len();
     match moments.get(moment as u64) {
         None => moments.with(moment as u64, Keys::one(key)),
         Some(keys) => if keys.has(key) {

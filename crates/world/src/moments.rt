@@ -14,7 +14,7 @@ use std::alloc::{AllocError, Global};
 
 /// The moment for which a task waits, if there is a task and it waits for one.
 pub(crate) fn moment_of(task: Option<&Task>) -> Option<u32>
-    ensures { result ≡ option_and_then (λ t. due_at t.waiting) (option_map (λ t. t.now) task) }
+    ensures { result ≡ option_and_then (λ t. due_at t.waiting) (option_map (λ t. t.now) task.entry) }
 {
     task?.due()
 }

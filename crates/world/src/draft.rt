@@ -269,14 +269,14 @@ impl Draft {
     }
 
     /// The first task of this moment and this id, or after it, in the order in which tasks are due, with its moment. No other task is looked at.
-    pub fn next_due(&self, moment: u32, id: i32) -> Option<(u32, i32)>
+    pub(crate) fn next_due(&self, moment: u32, id: i32) -> Option<(u32, i32)>
         ensures { result ≡ first_due_from moment id (by_moment self.now.tasks) }
     {
         self.tasks.next_due(moment, id)
     }
 
     /// The ids of the tasks whose moment has come, by their moments and then by their ids. No other task is looked at.
-    pub fn due(&self, alloc: Global, moment: u32) -> Result<Vec<i32>, AllocError>
+    pub(crate) fn due(&self, alloc: Global, moment: u32) -> Result<Vec<i32>, AllocError>
         ensures { IfOk result (λ ids. ids.items ≡ due_ids moment self.now.tasks) }
     {
         let ids = self.tasks.due(alloc, moment)?;

@@ -2,4 +2,6 @@
 #![tactic(auto)]
 
 #[cfg(test)]
+mod due;
+#[cfg(test)]
 mod tables;

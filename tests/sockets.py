@@ -310,7 +310,7 @@ def a_task_between_links():
 
 
 def many_tasks_that_wait():
-    """Of more tasks than are looked at between two lists each goes on that is resumed, and none that is killed; those that are due go on meanwhile."""
+    """Of many tasks each goes on that is resumed, and none that is killed; those that are due go on meanwhile."""
     server = Server(program, "fixture")
     with Client(server, "#4") as link:
         for name, code in (
@@ -329,6 +329,20 @@ def many_tasks_that_wait():
         link.says("tasks that are resumed and killed", "wake\r\nlooks", UNKNOWN)
         waits_for("tasks that go on", lambda: tasks_of(link) == "{}")
         link.wants_value("what they did", "#3.n", str(800 + 60_000))
+
+
+def the_order_of_tasks():
+    """Tasks go on by the moments for which they wait, and of one moment in the order of their ids; one that is resumed is due at once."""
+    server = Server(program, "fixture")
+    with Client(server, "#4") as link:
+        code = (
+            "fork (3)", 'notify(player, "d");', "endfork", "fork t (0)", "suspend(4);", 'notify(player, "a");', "endfork",
+            "fork (2)", 'notify(player, "b");', "endfork", "fork (3)", 'notify(player, "e");', "endfork", "fork (2)", 'notify(player, "c");', "endfork",
+            "suspend(1);", "resume(t);",
+        )
+        lines = ", ".join("\"" + it.replace('"', '\\"') + "\"" for it in code)
+        link.says("a verb", f';{{add_verb(#3, {{#2, "xd", "queue"}}, {{"any", "any", "any"}}), set_verb_code(#3, "queue", {{{lines}}}), notify(player, "made")}}', "made")
+        link.says("tasks", "queue", "a", "b", "c", "d", "e")
 
 
 def programming():
@@ -388,7 +402,7 @@ def a_login_that_fails():
 ROWS = [
     a_data_byte_255, options, what_is_kept_of_a_line, long_lines, many_lines_at_once, last_lines, a_slow_reader, one_that_never_reads,
     one_that_is_told_and_never_reads, a_half_closed_link, links_do_not_mix, a_line_between_players,
-    a_second_login, an_older_link_that_waits, a_read_of_a_closed_link, a_task_between_links, many_tasks_that_wait,
+    a_second_login, an_older_link_that_waits, a_read_of_a_closed_link, a_task_between_links, many_tasks_that_wait, the_order_of_tasks,
     programming, cut_at_every_byte, a_login_that_fails,
 ]
 sys.exit(play_rows("tests/sockets.py", ROWS))

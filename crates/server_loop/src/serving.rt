@@ -1,7 +1,6 @@
 //! The loop.
 ghost use Rattle.std.specs.Prelude.{◌≡◌, ◌⊎◌};
 
-use crate::agenda::Agenda;
 use crate::left::close_left;
 use crate::pace::Pace;
 use crate::playing::{End, Plan, Reached};
@@ -133,9 +132,6 @@ fn run_turns<
 ) -> (World, End) {
     let mut pace = Pace::new();
     let mut reached = close_left(&rt, alloc, gate, clock, plan, world);
-    let Ok(mut agenda) = Agenda::new(alloc, &reached.world) else {
-        return (reached.world, End::Memory(0));
-    };
     'turn: for _ in rt.forever() {
         let Reached { world, asks, end } = reached;
         if let Some(end) = end {
@@ -144,17 +140,7 @@ fn run_turns<
         if let Some(saver) = &mut edge.saver {
             saver.tend(&rt, &world, asks, errors);
         }
-        reached = run_turn(
-            rt,
-            alloc,
-            gate,
-            clock,
-            plan,
-            world,
-            &mut pace,
-            &mut agenda,
-            edge,
-        );
+        reached = run_turn(rt, alloc, gate, clock, plan, world, &mut pace, edge);
     }
     unreachable!()
 }

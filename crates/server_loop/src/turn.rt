@@ -1,5 +1,5 @@
 //! One turn of the loop.
-use crate::agenda::Agenda;
+use crate::agenda::{add_due, next_moment};
 use crate::draft::Draft;
 use crate::gather::gather;
 use crate::pace::Pace;
@@ -44,7 +44,6 @@ pub fn run_turn<G: Gate, R: Threads + Wait + Copy + Send + Sync + 'static, C: Cl
     plan: Plan,
     world: World,
     pace: &mut Pace,
-    agenda: &mut Agenda,
     edge: &mut Edge,
 ) -> Reached {
     let next = match next_number(&world) {
@@ -61,7 +60,7 @@ pub fn run_turn<G: Gate, R: Threads + Wait + Copy + Send + Sync + 'static, C: Cl
         ..
     } = edge;
     let is_watching = links.watch(second(clock));
-    if agenda.look(&world).is_err() || agenda.add_due(&mut draft, &world).is_err() {
+    if add_due(&mut draft, &world).is_err() {
         return Reached::end(world, false, End::Memory(0));
     }
     if gather(rt, alloc, &mut draft, door, links, bell).is_err() {
@@ -69,10 +68,8 @@ pub fn run_turn<G: Gate, R: Threads + Wait + Copy + Send + Sync + 'static, C: Cl
     }
     links.sweep(&rt);
     if draft.steps.is_empty() {
-        if agenda.is_current() {
-            let next_due = agenda.next_moment();
-            wait(&rt, bell, patience(next_due, draft.moment(), is_watching));
-        }
+        let next_due = next_moment(&world);
+        wait(&rt, bell, patience(next_due, draft.moment(), is_watching));
         return Reached {
             world,
             asks: false,
@@ -93,8 +90,7 @@ pub fn run_turn<G: Gate, R: Threads + Wait + Copy + Send + Sync + 'static, C: Cl
         pace.learn(outcomes.as_slice());
     }
     let asks = asks_checkpoint(outcomes.as_slice());
-    let learned = agenda.learn(outcomes.as_slice());
-    if tell_all(&rt, links, outcomes).is_err() || learned.is_err() {
+    if tell_all(&rt, links, outcomes).is_err() {
         return Reached::end(world, asks, End::Memory(0));
     }
     'closed: for number in &draft.closed {

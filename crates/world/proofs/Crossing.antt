@@ -6,6 +6,7 @@ use denote.Model.Cut.{split_one}
 use denote.Model.Local.{Parts, rows}
 use denote.Struct.Field.{i32-field}
 use Rattle.std.proofs.Crossing.{crosses}
+use Rattle.due_table.proofs.Crossing.{due_send, due_sync}
 use Rattle.moo_task.proofs.Crossing.{task_send, task_sync}
 use Rattle.moo_task.specs.contracts.task.Task as task
 use Rattle.view.proofs.PartsCrossing.{object_send, object_sync, link_send, link_sync}
@@ -31,13 +32,13 @@ tasks_send : IsSend tasks.the_row
 tasks_send =
     let found = table_send task.the_row task_send task_sync in
     let readers = table_send i32-field.row number_send number_sync in
-    search (sendable, crosses, found, readers) depth 60
+    search (sendable, crosses, found, readers, due_send) depth 60
 
 tasks_sync : IsSync tasks.the_row
 tasks_sync =
     let found = table_sync task.the_row task_send task_sync in
     let readers = table_sync i32-field.row number_send number_sync in
-    search (sendable, crosses, found, readers) depth 60
+    search (sendable, crosses, found, readers, due_sync) depth 60
 
 pub draft_send : IsSend draft.the_row
 draft_send =

@@ -13,3 +13,7 @@ pub mod Picked
 pub mod Listed
 pub mod Gathered
 pub mod TasksKept
+pub mod DueRows
+pub mod Ordered
+pub mod DueKept
+pub mod DueWalks

@@ -41,12 +41,12 @@ reading_ids (e ∷ es) h = go (reading_ids es h.1) (read_on (e.1).waiting)
     go rest (Some c) = (h.0, rest)
 
 -- the same from the readers that are known
-pub known_ids : (es : List (ℕ × Task)) (rs : List (ℕ × ℤ)) → AreTasks es rs → AreIds rs
-known_ids es rs h = subst (λ (ds : List (ℕ × ℤ)). AreIds ds) (sym h.readers) (reading_ids es h.ids)
+pub known_ids : (es : List (ℕ × Task)) (rs : List (ℕ × ℤ)) (ds : List (ℕ × ℕ)) → AreTasks es rs ds → AreIds rs
+known_ids es rs ds h = subst (λ (xs : List (ℕ × ℤ)). AreIds xs) (sym h.readers) (reading_ids es h.ids)
 
-pub known_readers : (c : ℤ) (es : List (ℕ × Task)) (rs : List (ℕ × ℤ)) → AreTasks es rs
+pub known_readers : (c : ℤ) (es : List (ℕ × Task)) (rs : List (ℕ × ℤ)) (ds : List (ℕ × ℕ)) → AreTasks es rs ds
     → chosen (λ k d. cond (int_eq c d) (Some (signed_key k)) None) rs ≡ map (λ e. e.0) (filter (λ e. reads_on c (e.1).waiting) (signed es))
-known_readers c es rs h = ap (λ (ds : List (ℕ × ℤ)). chosen (λ k d. cond (int_eq c d) (Some (signed_key k)) None) ds) h.readers ∙ readers_of c es
+known_readers c es rs ds h = ap (λ (xs : List (ℕ × ℤ)). chosen (λ k d. cond (int_eq c d) (Some (signed_key k)) None) xs) h.readers ∙ readers_of c es
 
 -- ---- numbers
 

@@ -9,7 +9,7 @@ use Rattle.spec_value.proofs.Keys.{as_type, as_test, still_sorted}
 use Rattle.world.specs.Picked.{pick, picked, changed}
 
 -- what is less is neither equal nor greater
-less_is : (r : Ordering) → IsTrue (is_lt r) → r ≡ Less
+pub less_is : (r : Ordering) → IsTrue (is_lt r) → r ≡ Less
 less_is Less h = refl
 less_is Equal h = cc
 less_is Greater h = cc
@@ -17,7 +17,7 @@ less_is Greater h = cc
 module _ {K : Type 0} {R : K → K → Ordering} (o : IsTotalOrder R) (exact : IsAntisymmetric R) where
   -- ---- a key below all others
 
-  below_less : {X : Type 0} (j k : K) (es : List (K × X)) → R j k ≡ Less → IsTrue (below_all R k es) → IsTrue (below_all R j es)
+  pub below_less : {X : Type 0} (j k : K) (es : List (K × X)) → R j k ≡ Less → IsTrue (below_all R k es) → IsTrue (below_all R j es)
   below_less j k [] e h = refl
   below_less j k (d ∷ es) e h =
       both_hold (is_lt (R j d.0)) (below_all R j es) (ap is_lt (o.trans j k d.0 e (less_is (R k d.0) (first_holds _ _ h)))) (below_less j k es e (second_holds _ _ h))
@@ -34,18 +34,18 @@ module _ {K : Type 0} {R : K → K → Ordering} (o : IsTotalOrder R) (exact : I
   none_removed k (e ∷ es) h =
       (λ i. cond (not (is_eq (less_is (R k e.0) (first_holds _ _ h) i))) (e ∷ removed k es) (removed k es)) ∙ ap (λ ds. e ∷ ds) (none_removed k es (second_holds _ _ h))
 
-  changed_first : {X : Type 0} (k : K) (x : Option X) (es : List (K × X)) → IsTrue (below_all R k es) → changed R k x es ≡ pick k x es
+  pub changed_first : {X : Type 0} (k : K) (x : Option X) (es : List (K × X)) → IsTrue (below_all R k es) → changed R k x es ≡ pick k x es
   changed_first k None es h = none_removed k es h
   changed_first k (Some x) es h = put_first k x es h
 
   -- ---- behind a first entry
 
-  changed_behind : {X : Type 0} (k j : K) (x y : Option X) (es : List (K × X)) → R k j ≡ Greater → changed R k x (pick j y es) ≡ pick j y (changed R k x es)
+  pub changed_behind : {X : Type 0} (k j : K) (x y : Option X) (es : List (K × X)) → R k j ≡ Greater → changed R k x (pick j y es) ≡ pick j y (changed R k x es)
   changed_behind k j x None es e = refl
   changed_behind k j None (Some y) es e = ap (λ r. cond (not (is_eq r)) ((j, y) ∷ removed k es) (removed k es)) e
   changed_behind k j (Some x) (Some y) es e = ap (λ r. by_order r ((k, x) ∷ (j, y) ∷ es) ((j, x) ∷ es) ((j, y) ∷ put R k x es)) e
 
-  changed_there : {X : Type 0} (k j : K) (x y : Option X) (es : List (K × X)) → R k j ≡ Equal → IsTrue (below_all R j es) → changed R k x (pick j y es) ≡ pick j x es
+  pub changed_there : {X : Type 0} (k j : K) (x y : Option X) (es : List (K × X)) → R k j ≡ Equal → IsTrue (below_all R j es) → changed R k x (pick j y es) ≡ pick j x es
   changed_there k j x None es e h =
       subst (λ i. changed R k x es ≡ pick i x es) (exact k j e) (changed_first k x es (subst (λ i. IsTrue (below_all R i es)) (sym (exact k j e)) h))
   changed_there k j None (Some y) es e h =

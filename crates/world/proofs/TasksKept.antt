@@ -9,6 +9,7 @@ use Rattle.spec_world.specs.World.{Task}
 use Rattle.spec_world.specs.Questions.{put_task}
 use Rattle.moo_task.specs.Waits.{read_on}
 use Rattle.world_table.specs.Entries.{without as without_key}
+use Rattle.world.specs.Due.{by_moment}
 use Rattle.world.specs.Numbered.{signed_key, signed}
 use Rattle.world.specs.Picked.{changed}
 use Rattle.world.specs.Tasks.{AreIds, AreTasks}
@@ -38,23 +39,26 @@ ids_without (e ∷ es) k h = go (not (eq_by_cmp nat_cmp k e.0)) (ids_without es 
     go false rest = rest
 
 -- its readers are those that read
-one_kept : (es : List (ℕ × Task)) (rs : List (ℕ × ℤ)) (k : ℕ) (t : Option Task) → k < 4294967296 → IsTrue (is_sorted nat_cmp es) → AreTasks es rs
-    → AreTasks (changed nat_cmp k t es) (changed nat_cmp k (option_and_then (λ t. read_on t.waiting) t) rs)
-one_kept es rs k None within sorted h =
+one_kept : (es : List (ℕ × Task)) (rs : List (ℕ × ℤ)) (ds : List (ℕ × ℕ)) (k : ℕ) (t : Option Task) → k < 4294967296 → IsTrue (is_sorted nat_cmp es) → AreTasks es rs ds
+    → AreTasks (changed nat_cmp k t es) (changed nat_cmp k (option_and_then (λ t. read_on t.waiting) t) rs) (by_moment (changed nat_cmp k t es))
+one_kept es rs ds k None within sorted h =
     record {
       ids = ids_without es k h.ids;
       readers = ap (changed nat_cmp k None) h.readers ∙ sym (picked_removed nat_cmp_total nat_cmp-IsAntisymmetric (λ t. read_on t.waiting) k es);
+      moments = refl;
     }
-one_kept es rs k (Some t) within sorted h =
+one_kept es rs ds k (Some t) within sorted h =
     record {
       ids = ids_put es k t within h.ids;
       readers = ap (changed nat_cmp k (read_on t.waiting)) h.readers ∙ sym (picked_put nat_cmp_total nat_cmp-IsAntisymmetric (λ t. read_on t.waiting) k t es sorted);
+      moments = refl;
     }
 
-pub tasks_kept : (es new : List (ℕ × Task)) (rs later : List (ℕ × ℤ)) (k : ℕ) (t : Option Task) → k < 4294967296 → IsTrue (is_sorted nat_cmp es) → AreTasks es rs
-    → new ≡ changed nat_cmp k t es → later ≡ changed nat_cmp k (option_and_then (λ t. read_on t.waiting) t) rs → AreTasks new later
-tasks_kept es new rs later k t within sorted h new_is later_is =
-    subst (λ (ds : List (ℕ × ℤ)). AreTasks new ds) (sym later_is) (subst (λ (ds : List (ℕ × Task)). AreTasks ds (changed nat_cmp k (option_and_then (λ t. read_on t.waiting) t) rs)) (sym new_is) (one_kept es rs k t within sorted h))
+pub tasks_kept : (es new : List (ℕ × Task)) (rs later : List (ℕ × ℤ)) (ds after : List (ℕ × ℕ)) (k : ℕ) (t : Option Task) → k < 4294967296 → IsTrue (is_sorted nat_cmp es) → AreTasks es rs ds
+    → new ≡ changed nat_cmp k t es → later ≡ changed nat_cmp k (option_and_then (λ t. read_on t.waiting) t) rs → after ≡ by_moment (changed nat_cmp k t es) → AreTasks new later after
+tasks_kept es new rs later ds after k t within sorted h new_is later_is after_is =
+    let kept = one_kept es rs ds k t within sorted h in
+    subst (λ (x : List (ℕ × Task) × List (ℕ × ℤ) × List (ℕ × ℕ)). AreTasks x.0 x.1 x.2) (λ i. (sym new_is i, sym later_is i, sym after_is i)) kept
 
-pub no_tasks : AreTasks [] []
-no_tasks = record { ids = tt; readers = refl }
+pub no_tasks : AreTasks [] [] []
+no_tasks = record { ids = tt; readers = refl; moments = refl }

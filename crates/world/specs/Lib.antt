@@ -9,3 +9,5 @@ pub mod Objects
 pub mod Picked
 pub mod Tasks
 pub mod Revised
+pub mod Due
+pub mod Moved

@@ -6,6 +6,7 @@ ghost use Rattle.spec_world.specs.Listings.{waiting_ids, readers_on, connections
 ghost use Rattle.spec_world.specs.Questions.{header_at, children_at, contents_at, defines_at, slot_on, verbs_at, the_waiting, the_readers, the_connections, the_connected, ask, Agrees, apply, apply_all, new_part, new_value, new_next};
 ghost use Rattle.view.specs.Meanings.{question_of, answer_of, part_of, change_of};
 ghost use Rattle.world.specs.Besides.{is_about_verbs, AgreesBesides};
+ghost use Rattle.world.specs.Due.{by_moment, due_ids, first_due_from};
 ghost use Rattle.world.specs.Numbered.{numbered};
 
 use crate::choice::{AllNumbers, LinksOf, LoggedIn, gather, is_gathered};
@@ -264,6 +265,21 @@ impl Draft {
     {
         let found = self.tasks.ids(self.alloc)?;
         let ids = Numbers::new(self.alloc, found)?;
+        Ok(ids)
+    }
+
+    /// The first task of this moment and this id, or after it, in the order in which tasks are due, with its moment. No other task is looked at.
+    pub(crate) fn next_due(&self, moment: u32, id: i32) -> Option<(u32, i32)>
+        ensures { result ≡ first_due_from moment id (by_moment self.now.tasks) }
+    {
+        self.tasks.next_due(moment, id)
+    }
+
+    /// The ids of the tasks whose moment has come, by their moments and then by their ids. No other task is looked at.
+    pub(crate) fn due(&self, alloc: Global, moment: u32) -> Result<Vec<i32>, AllocError>
+        ensures { IfOk result (λ ids. ids.items ≡ due_ids moment self.now.tasks) }
+    {
+        let ids = self.tasks.due(alloc, moment)?;
         Ok(ids)
     }
 

@@ -15,6 +15,7 @@ mod edits;
 pub mod fork;
 pub mod keeping;
 pub mod live;
+mod moments;
 pub mod prepared;
 mod questions;
 mod records;

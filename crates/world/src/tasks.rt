@@ -1,4 +1,4 @@
-//! Tasks that wait, by their ids.
+//! Tasks that wait, by their ids and by their moments.
 ghost use Rattle.std.specs.Prelude.{◌≡◌, ◌↔◌, ◌<◌, [], IfOk, OnOk, OnErr, IsTrue, map, filter, option_map};
 ghost use Rattle.std.specs.Option.{option_and_then};
 ghost use Rattle.std.specs.Ordering.{nat_cmp};
@@ -6,11 +6,14 @@ ghost use Rattle.spec_value.specs.Table.{at};
 ghost use Rattle.spec_world.specs.Links.{reads_on};
 ghost use Rattle.spec_world.specs.Questions.{put_task};
 ghost use Rattle.moo_task.specs.Waits.{read_on};
+ghost use Rattle.world.specs.Due.{by_moment, due_ids, first_due_from};
 ghost use Rattle.world.specs.Numbered.{signed_key};
 ghost use Rattle.world.specs.Picked.{changed};
 
 use crate::choice::{AllIds, ReadersOf, gather, is_gathered};
+use crate::moments::{gather_due, moment_of, next_due, replace, with_moved};
 use crate::records::same_entries;
+use due_table::DueTable;
 use moo_task::task::Task;
 use std::alloc::{AllocError, Global};
 use std::marker::Model;
@@ -19,12 +22,14 @@ use world_table::Table;
 // The key of the id 0: the negative ids are before it.
 const ZERO: u64 = 2147483648;
 
-/// Tasks that wait, by their ids, and which of them read. They are shared with the worlds that they came from.
+/// Tasks that wait, by their ids, and which of them read or are due at a moment. They are shared with the worlds that they came from.
 #[derive(Drop)]
 pub(crate) struct Tasks {
     tasks: Table<Task, 7>,
     // the connections on which tasks read
     readers: Table<i32, 7>,
+    // the moments at which tasks are due
+    moments: DueTable,
 }
 
 impl Model for Tasks {
@@ -40,7 +45,7 @@ impl Model for Tasks {
 
     ghost view = { λ a. signed a.tasks.entries };
 
-    ghost invariant = { λ a. AreTasks a.tasks.entries a.readers.entries };
+    ghost invariant = { λ a. AreTasks a.tasks.entries a.readers.entries a.moments };
 }
 
 impl Tasks {
@@ -52,6 +57,7 @@ impl Tasks {
         Tasks {
             tasks: Table::empty(alloc),
             readers: Table::empty(alloc),
+            moments: DueTable::empty(alloc),
         }
     }
 
@@ -72,8 +78,12 @@ impl Tasks {
         let key = key_of(id);
         let _sorted = self.tasks.len();
         let readers = changed_reader(&self.readers, key, &task)?;
+        let old = moment_of(self.tasks.get(key));
+        let new = moment_of(task.as_ref());
+        let moments = with_moved(&self.moments, key, old, new)?;
         changed_task(&mut self.tasks, key, task)?;
         self.readers = readers;
+        replace(&mut self.moments, moments);
         Ok(())
     }
 
@@ -84,6 +94,7 @@ impl Tasks {
         Ok(Tasks {
             tasks: self.tasks.share()?,
             readers: self.readers.share()?,
+            moments: self.moments.share()?,
         })
     }
 
@@ -124,6 +135,21 @@ impl Tasks {
     {
         is_gathered(&self.readers, &ReadersOf { connection }, ids)
     }
+
+    /// The first task of this moment and this id, or after it, in the order in which tasks are due, with its moment. No other task is looked at.
+    pub(crate) fn next_due(&self, moment: u32, id: i32) -> Option<(u32, i32)>
+        ensures { result ≡ first_due_from moment id (by_moment self.now) }
+    {
+        next_due(&self.moments, moment, id)
+    }
+
+    /// The ids of those whose moment has come, by their moments and then by their ids. No other task is looked at.
+    pub(crate) fn due(&self, alloc: Global, moment: u32) -> Result<Vec<i32>, AllocError>
+        ensures { IfOk result (λ ids. ids.items ≡ due_ids moment self.now) }
+    {
+        let ids = gather_due(alloc, &self.moments, moment)?;
+        Ok(ids)
+    }
 }
 
 // Another task of a key, or none. After an `Err` the table is as it was.
@@ -163,8 +189,8 @@ fn connection_read(task: &Option<Task>) -> Option<i32>
     }
 }
 
-// The key of an id.
-fn key_of(id: i32) -> u64
+/// The key of an id.
+pub(crate) fn key_of(id: i32) -> u64
     ensures read { signed_key result ≡ id }
     ensures within { result < 4294967296 }
 {

@@ -4,6 +4,7 @@ ghost use Rattle.spec_world.specs.Questions.{ask, Agrees, apply_all};
 ghost use Rattle.view.specs.Meanings.{question_of, answer_of};
 ghost use Rattle.view.specs.Sound.{IsSound};
 ghost use Rattle.world.specs.Besides.{AgreesBesides};
+ghost use Rattle.world.specs.Due.{by_moment, due_ids, first_due_from};
 
 use crate::count::Count;
 use crate::draft::Draft;
@@ -112,6 +113,22 @@ impl World {
         ensures { result ≡ self.now.plain.next }
     {
         self.draft.next
+    }
+
+    /// The first task of this moment and this id, or after it, in the order in which tasks are due (by their moments, then by their ids), with its moment:
+    /// for a caller that takes some at a time. It takes no memory, and looks at no other task.
+    pub fn next_due(&self, moment: u32, id: i32) -> Option<(u32, i32)>
+        ensures { result ≡ first_due_from moment id (by_moment self.now.plain.tasks) }
+    {
+        self.draft.next_due(moment, id)
+    }
+
+    /// The ids of the tasks that wait for this moment or an earlier one, by their moments and then by their ids. No other task is looked at.
+    pub fn due(&self, alloc: Global, moment: u32) -> Result<Vec<i32>, AllocError>
+        ensures { IfOk result (λ ids. ids.items ≡ due_ids moment self.now.plain.tasks) }
+    {
+        let ids = self.draft.due(alloc, moment)?;
+        Ok(ids)
     }
 
     /// The world as it is, to be kept. Nothing is copied.

@@ -10,12 +10,12 @@ use Rattle.world.proofs.tasks.Tasks.has_readers_on.Goals as goal
 
 pub is_gathered-requires : goal.is_gathered-requires
 is_gathered-requires c =
-    let keys : AllByRecursion (λ (e : ℕ × ℤ). e.0 < 4294967296) c.self.inside.readers.entries = known_ids c.self.inside.tasks.entries c.self.inside.readers.entries c.self.invariant in
+    let keys : AllByRecursion (λ (e : ℕ × ℤ). e.0 < 4294967296) c.self.inside.readers.entries = known_ids c.self.inside.tasks.entries c.self.inside.readers.entries c.self.inside.moments c.self.invariant in
     let bound : 4294967296 ≤ 4294967296 = omega arith in
     search (rules, keys, bound)
 
 pub returns : goal.returns
 returns c =
     let told = rw (to_z-of_z w32 c.args.connection c.ranges.connection) at c.is_gathered.ensures in
-    let listed = known_readers c.args.connection c.self.inside.tasks.entries c.self.inside.readers.entries c.self.invariant ∙ ap (λ (ts : Numbered Task). map (λ e. e.0) (filter (λ e. reads_on c.args.connection (e.1).waiting) ts)) c.self.view_is in
+    let listed = known_readers c.args.connection c.self.inside.tasks.entries c.self.inside.readers.entries c.self.inside.moments c.self.invariant ∙ ap (λ (ts : Numbered Task). map (λ e. e.0) (filter (λ e. reads_on c.args.connection (e.1).waiting) ts)) c.self.view_is in
     (λ h. sym listed ∙ told.0 h, λ e. told.1 (listed ∙ e))

@@ -1,8 +1,8 @@
 //! How blocks are built.
-ghost use Rattle.std.specs.Prelude.{◌≡◌, ◌+◌, ◌<◌, IfOk, slice_set, if◌then◌else◌, is_ok, vec_len};
-ghost use Rattle.world_table.specs.Branch.{reach, joined, IsBranch, IsRow, vacant_row};
+ghost use Rattle.std.specs.Prelude.{◌≡◌, ◌+◌, ◌<◌, ◌≤◌, ◌++◌, length, IfOk, OnOk, if◌then◌else◌, is_ok, vec_len, vec_capacity};
+ghost use Rattle.world_table.specs.Branch.{reach, joined, with_branch, IsBranch, IsRow};
 
-use super::{Held, PLACES, Place};
+use super::{Held, Place};
 use std::alloc::{AllocError, Global};
 use std::sync::Arc;
 
@@ -51,55 +51,64 @@ impl BlockBuilder {
         requires branch { IsBranch below branch }
         requires room { self.old.count < usize.MAX }
         ensures height { IfOk result (λ p. p.height ≡ below + 1) }
-        ensures entries { IfOk result (λ p. p.entries ≡ joined (reach below) 0 (slice_set places.now at branch)) }
+        ensures entries { IfOk result (λ p. p.entries ≡ joined (reach below) 0 (with_branch at branch places.now)) }
         ensures counted { self.new.count ≡ self.old.count + (if is_ok result then 1 else 0) }
     {
-        let mut copies = copied(self.alloc, places)?;
-        copies[at] = branch;
+        let copies = copied_with(self.alloc, places, at, branch)?;
         self.block(below, copies)
     }
 
-    /// A block with one branch.
-    pub fn lone<R: Drop>(
+    /// A block of these places.
+    pub fn copied<R: Drop>(
         &mut self,
         below: u32,
-        at: usize,
-        branch: Place<R>,
+        places: &[Place<R>],
     ) -> Result<Place<R>, AllocError>
         requires levels { below < 12 }
-        requires at { at < 32 }
-        requires branch { IsBranch below branch }
+        requires places { IsRow below places.now }
         requires room { self.old.count < usize.MAX }
         ensures height { IfOk result (λ p. p.height ≡ below + 1) }
-        ensures entries { IfOk result (λ p. p.entries ≡ joined (reach below) 0 (slice_set vacant_row at branch)) }
+        ensures entries { IfOk result (λ p. p.entries ≡ joined (reach below) 0 places.now) }
         ensures counted { self.new.count ≡ self.old.count + (if is_ok result then 1 else 0) }
     {
-        let mut places = vacant(self.alloc)?;
-        places[at] = branch;
-        self.block(below, places)
+        let mut copies = Vec::with_capacity(self.alloc, places.len())?;
+        share_onto(&mut copies, places)?;
+        self.block(below, copies)
     }
 }
 
-// The same branches, each with one more owner.
-fn copied<R: Drop>(alloc: Global, places: &[Place<R>]) -> Result<Vec<Place<R>>, AllocError>
-    ensures { IfOk result (λ v. v.items ≡ places.now) }
+// The same branches, each with one more owner, save that one place has another branch.
+fn copied_with<R: Drop>(
+    alloc: Global,
+    places: &[Place<R>],
+    at: usize,
+    branch: Place<R>,
+) -> Result<Vec<Place<R>>, AllocError>
+    requires { at < 32 }
+    ensures { IfOk result (λ v. v.items ≡ with_branch at branch places.now) }
 {
-    let mut copies = Vec::with_capacity(alloc, places.len())?;
-    for place in places {
-        copies.push(place.share()?)?;
+    let before = at.min(places.len());
+    let mut copies = Vec::with_capacity(alloc, places.len().max(at + 1))?;
+    share_onto(&mut copies, &places[..before])?;
+    for _place in before..at {
+        copies.push_reserved(Place::nothing());
+    }
+    copies.push_reserved(branch);
+    if at < places.len() {
+        share_onto(&mut copies, &places[at + 1..])?;
     }
     Ok(copies)
 }
 
-// The places of a block that has nothing.
-#[tactic(auto, unfolding(crate::specs::Branch::vacant_row))]
-fn vacant<R: Drop>(alloc: Global) -> Result<Vec<Place<R>>, AllocError>
-    ensures items { IfOk result (λ v. v.items ≡ vacant_row) }
-    ensures len { IfOk result (λ v. vec_len v ≡ 32) }
+// Adds the same branches, each with one more owner, where there is room for them.
+fn share_onto<R: Drop>(copies: &mut Vec<Place<R>>, places: &[Place<R>]) -> Result<(), AllocError>
+    requires room { vec_len copies.old + length places.now ≤ vec_capacity copies.old }
+    ensures items { OnOk result (copies.new.items ≡ copies.old.items ++ places.now) }
+    ensures len { OnOk result (vec_len copies.new ≡ vec_len copies.old + length places.now) }
+    ensures room { vec_capacity copies.new ≡ vec_capacity copies.old }
 {
-    let mut places = Vec::with_capacity(alloc, PLACES)?;
-    for _i in 0..PLACES {
-        places.push(Place::nothing())?;
+    for place in places {
+        copies.push_reserved(place.share()?);
     }
-    Ok(places)
+    Ok(())
 }

@@ -1,7 +1,7 @@
 -- Rows of branches: what a block's entries are, and how a change of one branch changes them.
-use Rattle.std.proofs.Common.{Result, Ok, Err, OnOk, OnErr, ◌≡◌, ℕ, zero, suc, ◌+◌, ◌-◌, ◌*◌, ◌/◌, ◌%◌, ◌^◌, ◌<◌, ◌≤◌, List, [], ◌∷◌, ◌++◌, length, get_or, set, take, drop, replicate, None, append-nil, refl, sym, ap, subst, ◌∙◌, arith, zero-add, ⊎_elim}
+use Rattle.std.proofs.Common.{Result, Ok, Err, OnOk, OnErr, ◌≡◌, ℕ, zero, suc, ◌+◌, ◌-◌, ◌*◌, ◌/◌, ◌%◌, ◌^◌, ◌<◌, ◌≤◌, List, [], ◌∷◌, ◌++◌, length, get_or, set, take, drop, replicate, None, append-nil, append_assoc, refl, sym, ap, subst, ◌∙◌, arith, zero-add, ⊎_elim}
 use Rattle.std.proofs.lemmas.Bool.{cases_lt}
-use Rattle.std.proofs.lemmas.List.{get_or_read, get_or_past, take_more}
+use Rattle.std.proofs.lemmas.List.{get_or_read, get_or_past, take_more, drop_all, length-take, take-append-drop}
 use Rattle.std.specs.Ordering.{nat_cmp}
 use Rattle.std.specs.FinMap.{find, put}
 use Rattle.std.specs.FinMap.Entries.{by_order}
@@ -85,6 +85,9 @@ module _ {V : Type 0} where
 
   -- ---- the branches of a row
 
+  pub is_nowhere : (b : Branch V) → b.height ≡ 0 → b.entries ≡ [] → b ≡ nowhere
+  is_nowhere b low none = ap (λ (h : ℕ). record { height = h; entries = b.entries }) low ∙ ap (λ (es : List (ℕ × V)). record { height = 0; entries = es }) none
+
   pub nowhere_branch : (l : ℕ) → IsBranch l (nowhere {V = V})
   nowhere_branch l = record { rises = omega arith; within = omega arith; lower = λ _. refl }
 
@@ -118,11 +121,27 @@ module _ {V : Type 0} where
   set_is (suc i) (c ∷ cs) b p = ap (λ (ds : List (Branch V)). c ∷ ds) (set_is i cs b (omega arith))
 
   -- what is built of the branches before the place, of empty ones, of the one at the place, and of those after it
-  pub with_is : (i : ℕ) (bs : List (Branch V)) (b : Branch V) → take i bs ++ replicate (i - length bs) nowhere ++ b ∷ drop (i + 1) bs ≡ with_branch i b bs
-  with_is zero [] b = refl
-  with_is zero (c ∷ cs) b = refl
-  with_is (suc i) [] b = ap (λ (ds : List (Branch V)). nowhere ∷ ds) (with_is i [] b)
-  with_is (suc i) (c ∷ cs) b = ap (λ (ds : List (Branch V)). c ∷ ds) (with_is i cs b)
+  with_none : (i : ℕ) (b : Branch V) → replicate i nowhere ++ b ∷ [] ≡ with_branch i b []
+  with_none zero b = refl
+  with_none (suc i) b = ap (λ (ds : List (Branch V)). nowhere ∷ ds) (with_none i b)
+
+  with_is : (i n : ℕ) (bs : List (Branch V)) (b : Branch V) → n ≡ i - length bs → take i bs ++ replicate n nowhere ++ b ∷ drop (suc i) bs ≡ with_branch i b bs
+  with_is zero n [] b e = ap (λ (m : ℕ). replicate m nowhere ++ b ∷ []) (let none : n ≡ 0 = omega arith in none)
+  with_is zero n (c ∷ cs) b e = ap (λ (m : ℕ). replicate m nowhere ++ b ∷ cs) (let none : n ≡ 0 = omega arith in none)
+  with_is (suc i) n [] b e = ap (λ (m : ℕ). replicate m nowhere ++ b ∷ []) (let all : n ≡ suc i = omega arith in all) ∙ with_none (suc i) b
+  with_is (suc i) n (c ∷ cs) b e = ap (λ (ds : List (Branch V)). c ∷ ds) (with_is i n cs b (omega arith))
+
+  pub with_built : (i n : ℕ) (bs front rest : List (Branch V)) (b : Branch V) → n ≡ i - length bs → front ≡ take i bs ++ replicate n nowhere ++ b ∷ [] → rest ≡ drop (i + 1) bs
+      → front ++ rest ≡ with_branch i b bs
+  with_built i n bs front rest b e is end =
+      ap (λ (ds : List (Branch V)). ds ++ rest) is
+      ∙ append_assoc (take i bs ++ replicate n nowhere) (b ∷ []) rest
+      ∙ ap (λ (ds : List (Branch V)). take i bs ++ replicate n nowhere ++ b ∷ ds) (end ∙ ap (λ (m : ℕ). drop m bs) (let up : i + 1 ≡ suc i = omega arith in up))
+      ∙ with_is i n bs b e
+
+  pub with_last : (i n : ℕ) (bs front : List (Branch V)) (b : Branch V) → n ≡ i - length bs → length bs ≤ i → front ≡ take i bs ++ replicate n nowhere ++ b ∷ []
+      → front ≡ with_branch i b bs
+  with_last i n bs front b e p is = sym (append-nil front) ∙ with_built i n bs front [] b e is (sym (drop_all (i + 1) bs (omega arith)))
 
   -- ---- empty branches behind
 
@@ -130,22 +149,25 @@ module _ {V : Type 0} where
   joined_behind w start [] b e = ap (λ es. raised start es ++ []) e
   joined_behind w start (c ∷ cs) b e = ap (λ es. raised start c.entries ++ es) (joined_behind w (start + w) cs b e)
 
-  AreBranches-push : (l : ℕ) (bs : List (Branch V)) (b : Branch V) → AreBranches l bs → IsBranch l b → AreBranches l (bs ++ b ∷ [])
-  AreBranches-push l [] b h n = (n, tt)
-  AreBranches-push l (c ∷ cs) b h n = (h.0, AreBranches-push l cs b h.1 n)
-
-  AreBranches-front : (l : ℕ) (bs cs : List (Branch V)) → AreBranches l (bs ++ cs) → AreBranches l bs
+  pub AreBranches-front : (l : ℕ) (bs cs : List (Branch V)) → AreBranches l (bs ++ cs) → AreBranches l bs
   AreBranches-front l [] cs h = tt
   AreBranches-front l (b ∷ bs) cs h = (h.0, AreBranches-front l bs cs h.1)
+
+  joined_vacant : (w start n : ℕ) (bs : List (Branch V)) → joined w start (bs ++ replicate n nowhere) ≡ joined w start bs
+  joined_vacant w start zero [] = refl
+  joined_vacant w start (suc n) [] = joined_vacant w (start + w) n []
+  joined_vacant w start n (c ∷ cs) = ap (λ es. raised start c.entries ++ es) (joined_vacant w (start + w) n cs)
+
+  AreBranches-vacant : (l n : ℕ) (bs : List (Branch V)) → AreBranches l bs → AreBranches l (bs ++ replicate n nowhere)
+  AreBranches-vacant l zero [] h = tt
+  AreBranches-vacant l (suc n) [] h = (nowhere_branch l, AreBranches-vacant l n [] h)
+  AreBranches-vacant l n (c ∷ cs) h = (h.0, AreBranches-vacant l n cs h.1)
 
   pub alike_same : (bs : List (Branch V)) → IsAlike bs bs
   alike_same bs = record { entries = λ w s. refl; branches = λ l h. h }
 
-  pub alike_more : (old bs : List (Branch V)) (b : Branch V) → b.height ≡ 0 → b.entries ≡ [] → IsAlike old bs → IsAlike old (bs ++ b ∷ [])
-  alike_more old bs b low none is = record {
-    entries = λ w s. joined_behind w s bs b none ∙ is.entries w s;
-    branches = λ l h. AreBranches-push l bs b (is.branches l h) (record { rises = subst (Rises 0 (reach l)) (sym none) (omega arith); within = omega arith; lower = λ _. none });
-  }
+  pub alike_vacant : (n : ℕ) (bs : List (Branch V)) → IsAlike bs (bs ++ replicate n nowhere)
+  alike_vacant n bs = record { entries = λ w s. joined_vacant w s n bs; branches = λ l h. AreBranches-vacant l n bs h }
 
   pub alike_less : (old bs : List (Branch V)) (i : ℕ) (b : Branch V) → i < length bs → b ≡ get_or bs i b → b.entries ≡ [] → IsAlike old (take (i + 1) bs) → IsAlike old (take i bs)
   alike_less old bs i b p at none is =
@@ -258,6 +280,30 @@ pub without_behind : {V : Type 0} (below key i : ℕ) (bs : List (Branch V)) (s 
 without_behind {V} below key i bs s h e p whole =
     let none = find_behind below key i bs h e p ∙ ap (λ (d : Branch V). find nat_cmp (key % reach d.height) d.entries) whole in
     sym (without_absent (key % reach s.height) s.entries (sym none))
+
+-- ---- rows that are made shorter or longer
+
+pub row_alike : {V : Type 0} (l : ℕ) (old new : List (Branch V)) → IsRow l old → IsAlike old new → length new ≤ 32 → IsRow l new
+row_alike l old new row is p = record { size = p; branches = is.branches l row.branches }
+
+pub row_set : {V : Type 0} (l i : ℕ) (bs : List (Branch V)) (b : Branch V) → IsRow l bs → i < length bs → IsBranch l b → IsRow l (set bs i b)
+row_set l i bs b row p n = subst (IsRow l) (sym (set_is i bs b p)) (is_row_with l i bs b row (let most = row.size in omega arith) n)
+
+pub row_cut : {V : Type 0} (l n : ℕ) (bs : List (Branch V)) → IsRow l bs → IsRow l (take n bs)
+row_cut l n bs row = record {
+  size = let most = row.size in let len = length-take n bs in omega arith;
+  branches = AreBranches-front l (take n bs) (drop n bs) (subst (AreBranches l) (sym (take-append-drop n bs)) row.branches);
+}
+
+-- the last branch is empty now, and is left out with the empty ones before it
+pub without_last : {V : Type 0} (below key i n : ℕ) (bs part : List (Branch V)) (b c s : Branch V) → AreBranches below bs → i ≡ key / reach below % 32 → i + 1 ≡ length bs → c ≡ get_or bs i c
+    → b.entries ≡ [] → b.entries ≡ without (key % reach c.height) c.entries → record { height = below + 1; entries = joined (reach below) 0 bs } ≡ s → part ≡ take i bs → IsAlike part (take n part)
+    → joined (reach below) 0 (take n part) ≡ without (key % reach s.height) s.entries
+without_last below key i n bs part b c s h e last is none new whole front alike =
+    alike.entries (reach below) 0
+    ∙ ap (joined (reach below) 0) front
+    ∙ sym (last_vacated (reach below) 0 i bs b last none)
+    ∙ without_block below key i bs b c s h e (omega arith) is new whole
 
 -- ---- changes in place
 

@@ -81,10 +81,14 @@ impl<R> Place<R> {
         match &self.held {
             Held::Nothing => None,
             Held::Record(value) => Some(value),
-            Held::Block(below, places) => match places.get(index_of(key, *below)) {
-                Some(place) => place.get(key),
-                None => None,
-            },
+            Held::Block(below, places) => {
+                let at = index_of(key, *below);
+                if at < places.len() {
+                    places[at].get(key)
+                } else {
+                    None
+                }
+            }
         }
     }
 }

@@ -47,15 +47,12 @@ impl<R: Drop> Place<R> {
         let below = levels - 1;
         let at = index_of(key, below);
         let places = self.places(below);
-        match places.get(at) {
-            Some(place) => {
-                let branch = place.with(builder, below, key, value)?;
-                builder.changed(below, places, at, branch)
-            }
-            None => {
-                let branch = Place::nothing().with(builder, below, key, value)?;
-                builder.changed(below, places, at, branch)
-            }
+        if at < places.len() {
+            let branch = places[at].with(builder, below, key, value)?;
+            builder.changed(below, places, at, branch)
+        } else {
+            let branch = Place::nothing().with(builder, below, key, value)?;
+            builder.changed(below, places, at, branch)
         }
     }
 
@@ -73,7 +70,8 @@ impl<R: Drop> Place<R> {
             Held::Block(below, places) => {
                 let at = index_of(key, *below);
                 if at >= places.len() {
-                    return self.share();
+                    let same = self.share()?;
+                    return Ok(same);
                 }
                 let branch = places[at].without(builder, key)?;
                 if branch.is_nothing() && at + 1 == places.len() {

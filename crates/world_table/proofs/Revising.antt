@@ -4,10 +4,10 @@ use Rattle.std.proofs.Math.Nat.{mod-eq_of_lt}
 use Rattle.std.proofs.lemmas.Bool.{cases_lt}
 use Rattle.std.specs.Ordering.{nat_cmp}
 use Rattle.std.specs.FinMap.{find, put}
-use Rattle.world_table.specs.Branch.{Branch, reach, joined, IsBranch, IsRow}
+use Rattle.world_table.specs.Branch.{Branch, reach, joined, IsBranch, AreBranches}
 use Rattle.world_table.specs.Revised.{Revises}
 use Rattle.world_table.proofs.Roots.{put_length_some}
-use Rattle.world_table.proofs.Rows.{child_branch, find_block, put_branch, put_within}
+use Rattle.world_table.proofs.Rows.{child_branch, find_there, put_branch, put_within}
 
 module _ {V : Type 0} (Makes : V → V → Type 0) where
   -- a branch in which something is found has all its levels
@@ -46,19 +46,19 @@ module _ {V : Type 0} (Makes : V → V → Type 0) where
         | false ↦ λ yes no. ap (λ (c : Branch V). length c.entries) (sym (no refl))
       ]
 
-  pub block_revises : (below key i : ℕ) (bs : List (Branch V)) (b c s : Branch V) → IsRow below bs → i ≡ key / reach below % 32 → i < 32 → c ≡ get_or bs i c
+  pub block_revises : (below key i : ℕ) (bs : List (Branch V)) (b c s : Branch V) → AreBranches below bs → i ≡ key / reach below % 32 → i < length bs → c ≡ get_or bs i c
       → record { height = below + 1; entries = joined (reach below) 0 bs } ≡ s → Revises Makes (key % reach c.height) c.entries b.entries
       → Revises Makes (key % reach s.height) s.entries (joined (reach below) 0 (set bs i b))
-  block_revises below key i bs b c s row e p is whole r =
-      let full = found_full below _ r.before c (child_branch below i bs c row p is) r.found in
+  block_revises below key i bs b c s h e p is whole r =
+      let full = found_full below _ r.before c (child_branch below i bs c h p is) r.found in
       let new : b.entries ≡ put nat_cmp (key % reach below) r.after c.entries = r.entries ∙ ap (λ (n : ℕ). put nat_cmp (key % reach n) r.after c.entries) full in
       record {
         before = r.before;
         after = r.after;
-        found = ap (λ (d : Branch V). find nat_cmp (key % reach d.height) d.entries) (sym whole) ∙ sym (find_block below key i bs c row e p is) ∙ r.found;
+        found = ap (λ (d : Branch V). find nat_cmp (key % reach d.height) d.entries) (sym whole) ∙ sym (find_there below key i bs c h e p is) ∙ r.found;
         made = r.made;
         entries =
-            put_within below (below + 1) key i r.after bs b c s refl row e p is whole new
+            put_within below (below + 1) key i r.after bs b c s.entries refl h e p is (ap (λ (d : Branch V). d.entries) whole) new
             ∙ ap (λ (n : ℕ). put nat_cmp (key % reach n) r.after s.entries) (ap (λ (d : Branch V). d.height) whole);
       }
 

@@ -1,5 +1,5 @@
 -- Entries whose keys rise within bounds.
-use Rattle.std.proofs.Common.{◌≡◌, ℕ, ◌+◌, ◌<◌, ◌≤◌, ◌≢◌, Bool, true, false, cond, not, ◌&&◌, T, List, [], ◌∷◌, ◌++◌, length, Some, None, refl, sym, ap, subst, ◌∙◌, arith}
+use Rattle.std.proofs.Common.{◌≡◌, ℕ, ◌+◌, ◌<◌, ◌≤◌, ◌≢◌, Bool, true, false, cond, not, ◌&&◌, T, List, [], ◌∷◌, ◌++◌, length, Some, None, is_some, refl, sym, ap, subst, ◌∙◌, arith}
 use Rattle.std.specs.Ordering.{nat_cmp, eq_by_cmp, is_eq, is_lt}
 use Rattle.std.specs.declared.cmp.Ordering.TheVariants.{Less, Equal, Greater}
 use Rattle.std.specs.Cmp.{nat_cmp_is, ranked}
@@ -186,3 +186,11 @@ module _ {V : Type 0} where
   pub length_within : (a b : ℕ) (es : List (ℕ × V)) → Rises a b es → a + length es ≤ b
   length_within a b [] h = omega arith
   length_within a b (e ∷ es) h = let rest = length_within (e.0 + 1) b es h.1 in let own = h.0 in omega arith
+
+  pub without_absent : (key : ℕ) (es : List (ℕ × V)) → find nat_cmp key es ≡ None → without key es ≡ es
+  without_absent key [] h = refl
+  without_absent key (e ∷ es) h =
+      elim (eq_by_cmp nat_cmp key e.0) as (λ b. cond b (Some e.1) (find nat_cmp key es) ≡ None → cond (not b) (e ∷ without key es) (without key es) ≡ e ∷ es) [
+        | true ↦ λ f. absurd (subst T (ap is_some f) tt)
+        | false ↦ λ f. ap (λ rest. e ∷ rest) (without_absent key es f)
+      ] h

@@ -1,11 +1,11 @@
 -- What is said of a whole table: its root is read with the whole key.
-use Rattle.std.proofs.Common.{◌≡◌, ℕ, zero, suc, ◌+◌, ◌-◌, ◌*◌, ◌/◌, ◌%◌, ◌^◌, ◌<◌, ◌≤◌, ◌==◌, ◌↔◌, Bool, true, false, cond, not, T, IsTrue, List, [], ◌∷◌, length, get_or, Option, Some, None, is_some, option_map, refl, sym, ap, subst, ◌∙◌, arith, eqb→eq, eq-eqb, zero-add, zero-mul, ⊎_elim}
+use Rattle.std.proofs.Common.{◌≡◌, ℕ, zero, suc, ◌+◌, ◌-◌, ◌*◌, ◌/◌, ◌%◌, ◌^◌, ◌<◌, ◌≤◌, ◌==◌, ◌↔◌, Bool, true, false, cond, T, IsTrue, List, [], ◌∷◌, length, get_or, Option, Some, None, is_some, option_map, refl, sym, ap, subst, ◌∙◌, arith, eqb→eq, eq-eqb, zero-add, zero-mul, ⊎_elim}
 use Rattle.std.proofs.lemmas.Bool.{cases_lt}
 use Rattle.std.proofs.Math.Nat.{mod-eq_of_lt, pow-le-pow_right}
 use Rattle.std.proofs.lemmas.Nat.{pow_pos, shr_split, shr_below, mod_below}
 use Rattle.std.proofs.lemmas.Float.{T_from_true}
 use Rattle.std.specs.Cmp.{nat_cmp_total}
-use Rattle.std.specs.Ordering.{nat_cmp, eq_by_cmp}
+use Rattle.std.specs.Ordering.{nat_cmp}
 use Rattle.std.specs.FinMap.{find, put, is_sorted}
 use Rattle.std.specs.FinMap.Entries.{length-put, length_without}
 use Rattle.world_table.specs.Branch.{Branch, reach, Rises, IsBranch}
@@ -49,14 +49,6 @@ module _ {V : Type 0} where
   pub found_within : (levels key : ℕ) (x : V) (b : Branch V) → IsBranch levels b → Some x ≡ find nat_cmp key b.entries → key < reach levels
   found_within levels key x b h is =
       ⊎_elim (λ (p : key < reach levels). p) (λ (p : reach levels ≤ key). absurd (not_some x (is ∙ find_beyond levels key b h p))) (cases_lt key (reach levels))
-
-  pub without_absent : (key : ℕ) (es : List (ℕ × V)) → find nat_cmp key es ≡ None → without key es ≡ es
-  without_absent key [] h = refl
-  without_absent key (e ∷ es) h =
-      elim (eq_by_cmp nat_cmp key e.0) as (λ b. cond b (Some e.1) (find nat_cmp key es) ≡ None → cond (not b) (e ∷ without key es) (without key es) ≡ e ∷ es) [
-        | true ↦ λ f. absurd (not_some e.1 f)
-        | false ↦ λ f. ap (λ rest. e ∷ rest) (without_absent key es f)
-      ] h
 
   -- ---- how many entries there are
 

@@ -1,14 +1,14 @@
 -- Rows of branches: what a block's entries are, and how a change of one branch changes them.
-use Rattle.std.proofs.Common.{Result, Ok, Err, OnOk, OnErr, ◌≡◌, ◌≢◌, ℕ, zero, suc, ◌+◌, ◌-◌, ◌*◌, ◌/◌, ◌%◌, ◌^◌, ◌<◌, ◌≤◌, List, [], ◌∷◌, ◌++◌, length, get_or, set, length-set, replicate, refl, sym, ap, subst, ◌∙◌, arith, zero-add, ⊎_elim}
-use Rattle.std.proofs.lemmas.Bool.{cases_lt, cases_eq}
-use Rattle.std.proofs.lemmas.List.{get_or-replicate, get_or-set_same, get_or-set_other}
+use Rattle.std.proofs.Common.{Result, Ok, Err, OnOk, OnErr, ◌≡◌, ℕ, zero, suc, ◌+◌, ◌-◌, ◌*◌, ◌/◌, ◌%◌, ◌^◌, ◌<◌, ◌≤◌, List, [], ◌∷◌, ◌++◌, length, get_or, set, take, drop, replicate, None, append-nil, append_assoc, refl, sym, ap, subst, ◌∙◌, arith, zero-add, ⊎_elim}
+use Rattle.std.proofs.lemmas.Bool.{cases_lt}
+use Rattle.std.proofs.lemmas.List.{get_or_read, get_or_past, take_more, drop_all, length-take, take-append-drop}
 use Rattle.std.specs.Ordering.{nat_cmp}
 use Rattle.std.specs.FinMap.{find, put}
 use Rattle.std.specs.FinMap.Entries.{by_order}
 use Rattle.std.proofs.lemmas.Nat.{pow_pos, pow-add, mod-pow-add, mod_below}
-use Rattle.world_table.specs.Branch.{Branch, reach, raised, joined, Rises, IsBranch, AreBranches, IsRow, AreVacantBut, nowhere, vacant_row}
+use Rattle.world_table.specs.Branch.{Branch, reach, raised, joined, Rises, IsBranch, AreBranches, IsRow, IsAlike, nowhere, with_branch}
 use Rattle.world_table.specs.Entries.{without}
-use Rattle.world_table.proofs.Rising.{cmp_equal, bounds, from_lower, to_higher, Rises-append, Rises-raised, Rises-put, Rises-without, find_before, find_after, find-raised, put_before, put_after, put-raised, without_before, without_after, without-raised}
+use Rattle.world_table.proofs.Rising.{cmp_equal, bounds, from_lower, to_higher, Rises-append, Rises-raised, Rises-put, Rises-without, find_before, find_after, find-raised, put_before, put_after, put-raised, without_before, without_after, without-raised, without_absent}
 
 -- ---- how far levels reach
 
@@ -37,16 +37,16 @@ module _ {V : Type 0} where
 
   -- ---- what is found in a row
 
-  pub find-row : (l start key i r : ℕ) (bs : List (Branch V)) (d : Branch V) → AreBranches l bs → i < length bs → r < reach l → key ≡ start + (i * reach l + r)
-      → find nat_cmp key (joined (reach l) start bs) ≡ find nat_cmp r (get_or bs i d).entries
-  find-row l start key i r [] d h p q e = absurd (omega arith)
-  find-row l start key zero r (b ∷ bs) d h p q e =
+  pub find-row : (l start key i r : ℕ) (bs : List (Branch V)) → AreBranches l bs → r < reach l → key ≡ start + (i * reach l + r)
+      → find nat_cmp key (joined (reach l) start bs) ≡ find nat_cmp r (get_or bs i nowhere).entries
+  find-row l start key i r [] h q e = refl
+  find-row l start key zero r (b ∷ bs) h q e =
       find_before key (start + reach l) _ (raised start b.entries) _ (omega arith) (row_keys l (start + reach l) bs h.1)
       ∙ ap (λ (k : ℕ). find nat_cmp k (raised start b.entries)) (let f : key ≡ start + r = omega arith in f)
       ∙ find-raised start r b.entries
-  find-row l start key (suc i) r (b ∷ bs) d h p q e =
+  find-row l start key (suc i) r (b ∷ bs) h q e =
       find_after key start (start + reach l) (raised start b.entries) _ (omega arith) (own_keys l start b h.0)
-      ∙ find-row l (start + reach l) key i r bs d h.1 (omega arith) q (omega arith)
+      ∙ find-row l (start + reach l) key i r bs h.1 q (omega arith)
 
   -- ---- a change at one key
 
@@ -66,29 +66,123 @@ module _ {V : Type 0} where
   pub without_local : IsLocal without
   without_local = record { moved = without-raised; before = without_before; after = without_after }
 
-  pub changed_row : (change : ℕ → List (ℕ × V) → List (ℕ × V)) → IsLocal change → (l start key i r : ℕ) (bs : List (Branch V)) (b d : Branch V)
-      → AreBranches l bs → i < length bs → r < reach l → key ≡ start + (i * reach l + r) → b.entries ≡ change r (get_or bs i d).entries
-      → joined (reach l) start (set bs i b) ≡ change key (joined (reach l) start bs)
-  changed_row change is l start key i r [] b d h p q e new = absurd (omega arith)
-  changed_row change is l start key zero r (c ∷ cs) b d h p q e new =
+  pub changed_row : (change : ℕ → List (ℕ × V) → List (ℕ × V)) → IsLocal change → (l start key i r : ℕ) (bs : List (Branch V)) (b : Branch V)
+      → AreBranches l bs → r < reach l → key ≡ start + (i * reach l + r) → b.entries ≡ change r (get_or bs i nowhere).entries
+      → joined (reach l) start (with_branch i b bs) ≡ change key (joined (reach l) start bs)
+  changed_row change is l start key zero r [] b h q e new =
+      append-nil (raised start b.entries)
+      ∙ ap (raised start) new
+      ∙ sym (is.moved start r [])
+      ∙ ap (λ (k : ℕ). change k []) (let f : start + r ≡ key = omega arith in f)
+  changed_row change is l start key (suc i) r [] b h q e new = changed_row change is l (start + reach l) key i r [] b h q (omega arith) new
+  changed_row change is l start key zero r (c ∷ cs) b h q e new =
       ap (λ es. raised start es ++ joined (reach l) (start + reach l) cs) new
       ∙ ap (λ es. es ++ joined (reach l) (start + reach l) cs) (sym (is.moved start r c.entries) ∙ ap (λ (k : ℕ). change k (raised start c.entries)) (let f : start + r ≡ key = omega arith in f))
       ∙ sym (is.before key (start + reach l) _ (raised start c.entries) _ (omega arith) (row_keys l (start + reach l) cs h.1))
-  changed_row change is l start key (suc i) r (c ∷ cs) b d h p q e new =
-      ap (λ es. raised start c.entries ++ es) (changed_row change is l (start + reach l) key i r cs b d h.1 (omega arith) q (omega arith) new)
+  changed_row change is l start key (suc i) r (c ∷ cs) b h q e new =
+      ap (λ es. raised start c.entries ++ es) (changed_row change is l (start + reach l) key i r cs b h.1 q (omega arith) new)
       ∙ sym (is.after key start (start + reach l) (raised start c.entries) _ (omega arith) (own_keys l start c h.0))
 
   -- ---- the branches of a row
 
-  pub branch_at : (l i : ℕ) (bs : List (Branch V)) (d : Branch V) → AreBranches l bs → i < length bs → IsBranch l (get_or bs i d)
-  branch_at l i [] d h p = absurd (omega arith)
-  branch_at l zero (b ∷ bs) d h p = h.0
-  branch_at l (suc i) (b ∷ bs) d h p = branch_at l i bs d h.1 (omega arith)
+  pub is_nowhere : (b : Branch V) → b.height ≡ 0 → b.entries ≡ [] → b ≡ nowhere
+  is_nowhere b low none = ap (λ (h : ℕ). record { height = h; entries = b.entries }) low ∙ ap (λ (es : List (ℕ × V)). record { height = 0; entries = es }) none
 
-  pub AreBranches-set : (l i : ℕ) (bs : List (Branch V)) (b : Branch V) → AreBranches l bs → IsBranch l b → AreBranches l (set bs i b)
-  AreBranches-set l i [] b h n = tt
-  AreBranches-set l zero (c ∷ cs) b h n = (n, h.1)
-  AreBranches-set l (suc i) (c ∷ cs) b h n = (h.0, AreBranches-set l i cs b h.1 n)
+  pub nowhere_branch : (l : ℕ) → IsBranch l (nowhere {V = V})
+  nowhere_branch l = record { rises = omega arith; within = omega arith; lower = λ _. refl }
+
+  pub branch_at : (l i : ℕ) (bs : List (Branch V)) → AreBranches l bs → IsBranch l (get_or bs i nowhere)
+  branch_at l i [] h = nowhere_branch l
+  branch_at l zero (b ∷ bs) h = h.0
+  branch_at l (suc i) (b ∷ bs) h = branch_at l i bs h.1
+
+  pub child_branch : (l i : ℕ) (bs : List (Branch V)) (b : Branch V) → AreBranches l bs → i < length bs → b ≡ get_or bs i b → IsBranch l b
+  child_branch l i bs b h p is = subst (IsBranch l) (sym (get_or_read bs i b p is nowhere)) (branch_at l i bs h)
+
+  AreBranches-with : (l i : ℕ) (bs : List (Branch V)) (b : Branch V) → AreBranches l bs → IsBranch l b → AreBranches l (with_branch i b bs)
+  AreBranches-with l zero [] b h n = (n, tt)
+  AreBranches-with l zero (c ∷ cs) b h n = (n, h.1)
+  AreBranches-with l (suc i) [] b h n = (nowhere_branch l, AreBranches-with l i [] b h n)
+  AreBranches-with l (suc i) (c ∷ cs) b h n = (h.0, AreBranches-with l i cs b h.1 n)
+
+  length-with : (i n : ℕ) (bs : List (Branch V)) (b : Branch V) → length bs ≤ n → i < n → length (with_branch i b bs) ≤ n
+  length-with zero n [] b p q = omega arith
+  length-with zero n (c ∷ cs) b p q = omega arith
+  length-with (suc i) n [] b p q = let rest = length-with i (n - 1) [] b (omega arith) (omega arith) in omega arith
+  length-with (suc i) n (c ∷ cs) b p q = let rest = length-with i (n - 1) cs b (omega arith) (omega arith) in omega arith
+
+  pub is_row_with : (l i : ℕ) (bs : List (Branch V)) (b : Branch V) → IsRow l bs → i < 32 → IsBranch l b → IsRow l (with_branch i b bs)
+  is_row_with l i bs b row p n = record { size = length-with i 32 bs b row.size p; branches = AreBranches-with l i bs b row.branches n }
+
+  -- a write to a place that there is
+  pub set_is : (i : ℕ) (bs : List (Branch V)) (b : Branch V) → i < length bs → set bs i b ≡ with_branch i b bs
+  set_is i [] b p = absurd (omega arith)
+  set_is zero (c ∷ cs) b p = refl
+  set_is (suc i) (c ∷ cs) b p = ap (λ (ds : List (Branch V)). c ∷ ds) (set_is i cs b (omega arith))
+
+  -- what is built of the branches before the place, of empty ones, of the one at the place, and of those after it
+  with_none : (i : ℕ) (b : Branch V) → replicate i nowhere ++ b ∷ [] ≡ with_branch i b []
+  with_none zero b = refl
+  with_none (suc i) b = ap (λ (ds : List (Branch V)). nowhere ∷ ds) (with_none i b)
+
+  with_is : (i n : ℕ) (bs : List (Branch V)) (b : Branch V) → n ≡ i - length bs → take i bs ++ replicate n nowhere ++ b ∷ drop (suc i) bs ≡ with_branch i b bs
+  with_is zero n [] b e = ap (λ (m : ℕ). replicate m nowhere ++ b ∷ []) (let none : n ≡ 0 = omega arith in none)
+  with_is zero n (c ∷ cs) b e = ap (λ (m : ℕ). replicate m nowhere ++ b ∷ cs) (let none : n ≡ 0 = omega arith in none)
+  with_is (suc i) n [] b e = ap (λ (m : ℕ). replicate m nowhere ++ b ∷ []) (let all : n ≡ suc i = omega arith in all) ∙ with_none (suc i) b
+  with_is (suc i) n (c ∷ cs) b e = ap (λ (ds : List (Branch V)). c ∷ ds) (with_is i n cs b (omega arith))
+
+  pub with_built : (i n : ℕ) (bs front rest : List (Branch V)) (b : Branch V) → n ≡ i - length bs → front ≡ take i bs ++ replicate n nowhere ++ b ∷ [] → rest ≡ drop (i + 1) bs
+      → front ++ rest ≡ with_branch i b bs
+  with_built i n bs front rest b e is end =
+      ap (λ (ds : List (Branch V)). ds ++ rest) is
+      ∙ append_assoc (take i bs ++ replicate n nowhere) (b ∷ []) rest
+      ∙ ap (λ (ds : List (Branch V)). take i bs ++ replicate n nowhere ++ b ∷ ds) (end ∙ ap (λ (m : ℕ). drop m bs) (let up : i + 1 ≡ suc i = omega arith in up))
+      ∙ with_is i n bs b e
+
+  pub with_last : (i n : ℕ) (bs front : List (Branch V)) (b : Branch V) → n ≡ i - length bs → length bs ≤ i → front ≡ take i bs ++ replicate n nowhere ++ b ∷ []
+      → front ≡ with_branch i b bs
+  with_last i n bs front b e p is = sym (append-nil front) ∙ with_built i n bs front [] b e is (sym (drop_all (i + 1) bs (omega arith)))
+
+  -- ---- empty branches behind
+
+  joined_behind : (w start : ℕ) (bs : List (Branch V)) (b : Branch V) → b.entries ≡ [] → joined w start (bs ++ b ∷ []) ≡ joined w start bs
+  joined_behind w start [] b e = ap (λ es. raised start es ++ []) e
+  joined_behind w start (c ∷ cs) b e = ap (λ es. raised start c.entries ++ es) (joined_behind w (start + w) cs b e)
+
+  pub AreBranches-front : (l : ℕ) (bs cs : List (Branch V)) → AreBranches l (bs ++ cs) → AreBranches l bs
+  AreBranches-front l [] cs h = tt
+  AreBranches-front l (b ∷ bs) cs h = (h.0, AreBranches-front l bs cs h.1)
+
+  joined_vacant : (w start n : ℕ) (bs : List (Branch V)) → joined w start (bs ++ replicate n nowhere) ≡ joined w start bs
+  joined_vacant w start zero [] = refl
+  joined_vacant w start (suc n) [] = joined_vacant w (start + w) n []
+  joined_vacant w start n (c ∷ cs) = ap (λ es. raised start c.entries ++ es) (joined_vacant w (start + w) n cs)
+
+  AreBranches-vacant : (l n : ℕ) (bs : List (Branch V)) → AreBranches l bs → AreBranches l (bs ++ replicate n nowhere)
+  AreBranches-vacant l zero [] h = tt
+  AreBranches-vacant l (suc n) [] h = (nowhere_branch l, AreBranches-vacant l n [] h)
+  AreBranches-vacant l n (c ∷ cs) h = (h.0, AreBranches-vacant l n cs h.1)
+
+  pub alike_same : (bs : List (Branch V)) → IsAlike bs bs
+  alike_same bs = record { entries = λ w s. refl; branches = λ l h. h }
+
+  pub alike_vacant : (n : ℕ) (bs : List (Branch V)) → IsAlike bs (bs ++ replicate n nowhere)
+  alike_vacant n bs = record { entries = λ w s. joined_vacant w s n bs; branches = λ l h. AreBranches-vacant l n bs h }
+
+  pub alike_less : (old bs : List (Branch V)) (i : ℕ) (b : Branch V) → i < length bs → b ≡ get_or bs i b → b.entries ≡ [] → IsAlike old (take (i + 1) bs) → IsAlike old (take i bs)
+  alike_less old bs i b p at none is =
+      let more : take (i + 1) bs ≡ take i bs ++ b ∷ [] = take_more bs i b p ∙ ap (λ (c : Branch V). take i bs ++ c ∷ []) (sym at) in
+      record {
+        entries = λ w s. sym (joined_behind w s (take i bs) b none) ∙ ap (joined w s) (sym more) ∙ is.entries w s;
+        branches = λ l h. AreBranches-front l (take i bs) (b ∷ []) (subst (AreBranches l) more (is.branches l h));
+      }
+
+  -- the last branch, which is empty now, may be left out
+  pub last_vacated : (w start i : ℕ) (bs : List (Branch V)) (b : Branch V) → i + 1 ≡ length bs → b.entries ≡ [] → joined w start (with_branch i b bs) ≡ joined w start (take i bs)
+  last_vacated w start i [] b p e = absurd (omega arith)
+  last_vacated w start zero (c ∷ []) b p e = ap (λ es. raised start es ++ []) e
+  last_vacated w start zero (c ∷ d ∷ cs) b p e = absurd (omega arith)
+  last_vacated w start (suc i) (c ∷ cs) b p e = ap (λ es. raised start c.entries ++ es) (last_vacated w (start + w) i cs b (omega arith) e)
 
   -- ---- the block above a row
 
@@ -102,47 +196,29 @@ module _ {V : Type 0} where
       (λ (p : l ≤ b.height). ap (λ (n : ℕ). f (key % reach n) b.entries) (let e : b.height ≡ l = omega arith in e))
       (cases_lt b.height l)
 
-  pub find_block : (l key i : ℕ) (bs : List (Branch V)) (b : Branch V) → IsRow l bs → i ≡ key / reach l % 32 → i < 32 → b ≡ get_or bs i b
-      → find nat_cmp (key % reach b.height) b.entries ≡ find nat_cmp (key % reach (l + 1)) (joined (reach l) 0 bs)
-  find_block l key i bs b row e p is =
-      let within : i < length bs = omega (arith, row.size) in
-      let h = row.branches in
-      at_levels (find nat_cmp) (λ j k. refl) l key b (subst (IsBranch l) (sym is) (branch_at l i bs b h within))
-      ∙ ap (λ (c : Branch V). find nat_cmp (key % reach l) c.entries) is
-      ∙ sym (find-row l 0 (key % reach (l + 1)) i (key % reach l) bs b h within (mod_below key (reach l) (reach_pos l))
+  pub find_block : (l key i : ℕ) (bs : List (Branch V)) → AreBranches l bs → i ≡ key / reach l % 32
+      → find nat_cmp (key % reach l) (get_or bs i nowhere).entries ≡ find nat_cmp (key % reach (l + 1)) (joined (reach l) 0 bs)
+  find_block l key i bs h e =
+      sym (find-row l 0 (key % reach (l + 1)) i (key % reach l) bs h (mod_below key (reach l) (reach_pos l))
       (key_split key l ∙ ap (λ (j : ℕ). j * reach l + key % reach l) (sym e) ∙ sym (zero-add _)))
 
-  pub changed_block : (change : ℕ → List (ℕ × V) → List (ℕ × V)) → IsLocal change → (l key i : ℕ) (bs : List (Branch V)) (b d : Branch V)
-      → IsRow l bs → i ≡ key / reach l % 32 → i < 32 → b.entries ≡ change (key % reach l) (get_or bs i d).entries
-      → joined (reach l) 0 (set bs i b) ≡ change (key % reach (l + 1)) (joined (reach l) 0 bs)
-  changed_block change is l key i bs b d row e p new =
-      changed_row change is l 0 (key % reach (l + 1)) i (key % reach l) bs b d row.branches (let within : i < length bs = omega (arith, row.size) in within) (mod_below key (reach l) (reach_pos l))
+  pub find_there : (l key i : ℕ) (bs : List (Branch V)) (b : Branch V) → AreBranches l bs → i ≡ key / reach l % 32 → i < length bs → b ≡ get_or bs i b
+      → find nat_cmp (key % reach b.height) b.entries ≡ find nat_cmp (key % reach (l + 1)) (joined (reach l) 0 bs)
+  find_there l key i bs b h e p is =
+      at_levels (find nat_cmp) (λ j k. refl) l key b (child_branch l i bs b h p is)
+      ∙ ap (λ (c : Branch V). find nat_cmp (key % reach l) c.entries) (get_or_read bs i b p is nowhere)
+      ∙ find_block l key i bs h e
+
+  pub find_behind : (l key i : ℕ) (bs : List (Branch V)) → AreBranches l bs → i ≡ key / reach l % 32 → length bs ≤ i
+      → None ≡ find nat_cmp (key % reach (l + 1)) (joined (reach l) 0 bs)
+  find_behind l key i bs h e p = ap (λ (c : Branch V). find nat_cmp (key % reach l) c.entries) (sym (get_or_past bs i nowhere p)) ∙ find_block l key i bs h e
+
+  pub changed_block : (change : ℕ → List (ℕ × V) → List (ℕ × V)) → IsLocal change → (l key i : ℕ) (bs : List (Branch V)) (b : Branch V)
+      → AreBranches l bs → i ≡ key / reach l % 32 → b.entries ≡ change (key % reach l) (get_or bs i nowhere).entries
+      → joined (reach l) 0 (with_branch i b bs) ≡ change (key % reach (l + 1)) (joined (reach l) 0 bs)
+  changed_block change is l key i bs b h e new =
+      changed_row change is l 0 (key % reach (l + 1)) i (key % reach l) bs b h (mod_below key (reach l) (reach_pos l))
       (key_split key l ∙ ap (λ (j : ℕ). j * reach l + key % reach l) (sym e) ∙ sym (zero-add _)) new
-
--- ---- rows of empty branches
-
-pub nowhere_branch : (V : Type 0) (l : ℕ) → IsBranch l (nowhere {V = V})
-nowhere_branch V l = record { rises = omega arith; within = omega arith; lower = λ _. refl }
-
-AreBranches-nowhere : (V : Type 0) (l n : ℕ) → AreBranches l (replicate n (nowhere {V = V}))
-AreBranches-nowhere V l zero = tt
-AreBranches-nowhere V l (suc n) = (nowhere_branch V l, AreBranches-nowhere V l n)
-
-joined-nowhere : (V : Type 0) (w start n : ℕ) → joined w start (replicate n (nowhere {V = V})) ≡ []
-joined-nowhere V w start zero = refl
-joined-nowhere V w start (suc n) = joined-nowhere V w (start + w) n
-
-pub vacant_is_row : (V : Type 0) (l : ℕ) → IsRow l (vacant_row {V = V})
-unfolding vacant_row
-vacant_is_row V l = record { size = refl; branches = AreBranches-nowhere V l 32 }
-
-pub joined-vacant : (V : Type 0) (w start : ℕ) → joined w start (vacant_row {V = V}) ≡ []
-unfolding vacant_row
-joined-vacant V w start = joined-nowhere V w start 32
-
-pub vacant_at : (V : Type 0) (i : ℕ) (d : Branch V) → i < 32 → get_or (vacant_row {V = V}) i d ≡ nowhere
-unfolding vacant_row
-vacant_at V i d h = get_or-replicate 32 i nowhere d h
 
 -- ---- a branch with one record more
 
@@ -171,25 +247,15 @@ put_branch l key v b p h e new = record {
   lower = λ q. absurd (omega arith);
 }
 
-pub is_row_set : {V : Type 0} (l i : ℕ) (bs : List (Branch V)) (b : Branch V) → IsRow l bs → IsBranch l b → IsRow l (set bs i b)
-is_row_set l i bs b row n = record { size = length-set bs i b ∙ row.size; branches = AreBranches-set l i bs b row.branches n }
-
 -- ---- a block with one branch changed
 
-pub put_block : {V : Type 0} (levels key i : ℕ) (v : V) (bs : List (Branch V)) (b c : Branch V) (es : List (ℕ × V)) → 0 < levels → IsRow (levels - 1) bs
-    → i ≡ key / reach (levels - 1) % 32 → i < 32 → c ≡ get_or bs i c → b.entries ≡ put nat_cmp (key % reach (levels - 1)) v c.entries → es ≡ joined (reach (levels - 1)) 0 bs
-    → joined (reach (levels - 1)) 0 (set bs i b) ≡ put nat_cmp (key % reach levels) v es
-put_block {V} levels key i v bs b c es above row e p is new whole =
-    changed_block (λ k. put nat_cmp k v) (put_local v) (levels - 1) key i bs b c row e p (new ∙ ap (λ (d : Branch V). put nat_cmp (key % reach (levels - 1)) v d.entries) is)
+pub put_block : {V : Type 0} (levels key i : ℕ) (v : V) (bs : List (Branch V)) (b c : Branch V) (es : List (ℕ × V)) → 0 < levels → AreBranches (levels - 1) bs
+    → i ≡ key / reach (levels - 1) % 32 → c.entries ≡ (get_or bs i nowhere).entries → b.entries ≡ put nat_cmp (key % reach (levels - 1)) v c.entries → es ≡ joined (reach (levels - 1)) 0 bs
+    → joined (reach (levels - 1)) 0 (with_branch i b bs) ≡ put nat_cmp (key % reach levels) v es
+put_block levels key i v bs b c es above h e is new whole =
+    changed_block (λ k. put nat_cmp k v) (put_local v) (levels - 1) key i bs b h e (new ∙ ap (put nat_cmp (key % reach (levels - 1)) v) is)
     ∙ ap (λ (n : ℕ). put nat_cmp (key % reach n) v (joined (reach (levels - 1)) 0 bs)) (let up : levels - 1 + 1 ≡ levels = omega arith in up)
     ∙ ap (put nat_cmp (key % reach levels) v) (sym whole)
-
-pub put_lone : {V : Type 0} (levels key i : ℕ) (v : V) (b c : Branch V) (es : List (ℕ × V)) → 0 < levels
-    → i ≡ key / reach (levels - 1) % 32 → i < 32 → c.entries ≡ [] → b.entries ≡ put nat_cmp (key % reach (levels - 1)) v c.entries → es ≡ []
-    → joined (reach (levels - 1)) 0 (set vacant_row i b) ≡ put nat_cmp (key % reach levels) v es
-put_lone {V} levels key i v b c es above e p none new empty =
-    put_block levels key i v vacant_row b nowhere es above (vacant_is_row V (levels - 1)) e p (sym (vacant_at V i nowhere p))
-    (new ∙ ap (put nat_cmp (key % reach (levels - 1)) v) none) (empty ∙ sym (joined-vacant V (reach (levels - 1)) 0))
 
 -- ---- a branch with one record less
 
@@ -200,29 +266,44 @@ without_branch l k b p h low empty new = let most = h.within in record {
   lower = λ q. ⊎_elim empty (λ (r : b.height ≤ p.height). new ∙ ap (without k) (h.lower (omega arith))) (cases_lt p.height b.height);
 }
 
-pub without_block : {V : Type 0} (below key i : ℕ) (bs : List (Branch V)) (b c s : Branch V) → IsRow below bs → i ≡ key / reach below % 32 → i < 32 → c ≡ get_or bs i c
+pub without_block : {V : Type 0} (below key i : ℕ) (bs : List (Branch V)) (b c s : Branch V) → AreBranches below bs → i ≡ key / reach below % 32 → i < length bs → c ≡ get_or bs i c
     → b.entries ≡ without (key % reach c.height) c.entries → record { height = below + 1; entries = joined (reach below) 0 bs } ≡ s
-    → joined (reach below) 0 (set bs i b) ≡ without (key % reach s.height) s.entries
-without_block {V} below key i bs b c s row e p is new whole =
-    let within : i < length bs = omega (arith, row.size) in
-    changed_block without without_local below key i bs b c row e p
-    (new ∙ at_levels without (λ j k. refl) below key c (subst (IsBranch below) (sym is) (branch_at below i bs c row.branches within)) ∙ ap (λ (d : Branch V). without (key % reach below) d.entries) is)
+    → joined (reach below) 0 (with_branch i b bs) ≡ without (key % reach s.height) s.entries
+without_block {V} below key i bs b c s h e p is new whole =
+    changed_block without without_local below key i bs b h e
+    (new ∙ at_levels without (λ j k. refl) below key c (child_branch below i bs c h p is) ∙ ap (λ (d : Branch V). without (key % reach below) d.entries) (get_or_read bs i c p is nowhere))
     ∙ ap (λ (d : Branch V). without (key % reach d.height) d.entries) whole
 
-all_vacant : {V : Type 0} (w start : ℕ) (bs : List (Branch V)) → ((k : ℕ) → k < length bs → (get_or bs k nowhere).entries ≡ []) → joined w start bs ≡ []
-all_vacant w start [] h = refl
-all_vacant w start (b ∷ bs) h = ap (λ es. raised start es ++ joined w (start + w) bs) (h 0 (omega arith)) ∙ all_vacant w (start + w) bs (λ k p. h (suc k) (omega arith))
+-- where the row does not reach the place, there is no such record
+pub without_behind : {V : Type 0} (below key i : ℕ) (bs : List (Branch V)) (s : Branch V) → AreBranches below bs → i ≡ key / reach below % 32 → length bs ≤ i
+    → record { height = below + 1; entries = joined (reach below) 0 bs } ≡ s → s.entries ≡ without (key % reach s.height) s.entries
+without_behind {V} below key i bs s h e p whole =
+    let none = find_behind below key i bs h e p ∙ ap (λ (d : Branch V). find nat_cmp (key % reach d.height) d.entries) whole in
+    sym (without_absent (key % reach s.height) s.entries (sym none))
 
-pub joined_vacated : {V : Type 0} (w i : ℕ) (bs : List (Branch V)) (b : Branch V) → AreVacantBut i bs → b.entries ≡ [] → i < length bs → joined w 0 (set bs i b) ≡ []
-joined_vacated {V} w i bs b others empty p =
-    all_vacant w 0 (set bs i b) (λ k q.
-    ⊎_elim
-    (λ (e : k ≡ i). ap (λ (j : ℕ). (get_or (set bs i b) j nowhere).entries) e ∙ ap (λ (d : Branch V). d.entries) (get_or-set_same bs i b nowhere p) ∙ empty)
-    (λ (n : k ≢ i). ap (λ (d : Branch V). d.entries) (get_or-set_other bs i k b nowhere n) ∙ others k (omega (arith, length-set bs i b)) n)
-    (cases_eq k i))
+-- ---- rows that are made shorter or longer
 
-pub child_branch : {V : Type 0} (l i : ℕ) (bs : List (Branch V)) (b : Branch V) → IsRow l bs → i < 32 → b ≡ get_or bs i b → IsBranch l b
-child_branch l i bs b row p is = subst (IsBranch l) (sym is) (branch_at l i bs b row.branches (omega (arith, row.size)))
+pub row_alike : {V : Type 0} (l : ℕ) (old new : List (Branch V)) → IsRow l old → IsAlike old new → length new ≤ 32 → IsRow l new
+row_alike l old new row is p = record { size = p; branches = is.branches l row.branches }
+
+pub row_set : {V : Type 0} (l i : ℕ) (bs : List (Branch V)) (b : Branch V) → IsRow l bs → i < length bs → IsBranch l b → IsRow l (set bs i b)
+row_set l i bs b row p n = subst (IsRow l) (sym (set_is i bs b p)) (is_row_with l i bs b row (let most = row.size in omega arith) n)
+
+pub row_cut : {V : Type 0} (l n : ℕ) (bs : List (Branch V)) → IsRow l bs → IsRow l (take n bs)
+row_cut l n bs row = record {
+  size = let most = row.size in let len = length-take n bs in omega arith;
+  branches = AreBranches-front l (take n bs) (drop n bs) (subst (AreBranches l) (sym (take-append-drop n bs)) row.branches);
+}
+
+-- the last branch is empty now, and is left out with the empty ones before it
+pub without_last : {V : Type 0} (below key i n : ℕ) (bs part : List (Branch V)) (b c s : Branch V) → AreBranches below bs → i ≡ key / reach below % 32 → i + 1 ≡ length bs → c ≡ get_or bs i c
+    → b.entries ≡ [] → b.entries ≡ without (key % reach c.height) c.entries → record { height = below + 1; entries = joined (reach below) 0 bs } ≡ s → part ≡ take i bs → IsAlike part (take n part)
+    → joined (reach below) 0 (take n part) ≡ without (key % reach s.height) s.entries
+without_last below key i n bs part b c s h e last is none new whole front alike =
+    alike.entries (reach below) 0
+    ∙ ap (joined (reach below) 0) front
+    ∙ sym (last_vacated (reach below) 0 i bs b last none)
+    ∙ without_block below key i bs b c s h e (omega arith) is new whole
 
 -- ---- changes in place
 
@@ -231,14 +312,11 @@ pub put_kept : {V T E : Type 0} (r : Result T E) (l key : ℕ) (v : V) (b p : Br
 put_kept (Ok x) l key v b p h height entries err = put_branch l key v b p h height entries
 put_kept (Err e) l key v b p h height entries err = subst (IsBranch l) (sym err) h
 
-pub put_within : {V : Type 0} (below levels key i : ℕ) (v : V) (bs : List (Branch V)) (b c s : Branch V) → below + 1 ≡ levels → IsRow below bs → i ≡ key / reach below % 32 → i < 32 → c ≡ get_or bs i c
-    → record { height = below + 1; entries = joined (reach below) 0 bs } ≡ s → b.entries ≡ put nat_cmp (key % reach below) v c.entries
-    → joined (reach below) 0 (set bs i b) ≡ put nat_cmp (key % reach levels) v s.entries
-put_within {V} below levels key i v bs b c s up row e p is whole new =
-    changed_block (λ k. put nat_cmp k v) (put_local v) below key i bs b c row e p (new ∙ ap (λ (d : Branch V). put nat_cmp (key % reach below) v d.entries) is)
+pub put_within : {V : Type 0} (below levels key i : ℕ) (v : V) (bs : List (Branch V)) (b c : Branch V) (es : List (ℕ × V)) → below + 1 ≡ levels → AreBranches below bs → i ≡ key / reach below % 32 → i < length bs
+    → c ≡ get_or bs i c → joined (reach below) 0 bs ≡ es → b.entries ≡ put nat_cmp (key % reach below) v c.entries
+    → joined (reach below) 0 (set bs i b) ≡ put nat_cmp (key % reach levels) v es
+put_within {V} below levels key i v bs b c es up h e p is whole new =
+    ap (joined (reach below) 0) (set_is i bs b p)
+    ∙ changed_block (λ k. put nat_cmp k v) (put_local v) below key i bs b h e (new ∙ ap (λ (d : Branch V). put nat_cmp (key % reach below) v d.entries) (get_or_read bs i c p is nowhere))
     ∙ ap (λ (n : ℕ). put nat_cmp (key % reach n) v (joined (reach below) 0 bs)) up
-    ∙ ap (λ (d : Branch V). put nat_cmp (key % reach levels) v d.entries) whole
-
--- a row with nothing in it
-pub joined_all_vacant : {V : Type 0} (w : ℕ) (bs : List (Branch V)) → length bs ≡ 32 → AreVacantBut 32 bs → joined w 0 bs ≡ []
-joined_all_vacant w bs size none = all_vacant w 0 bs (λ k p. none k p (λ (e : k ≡ 32). absurd (omega arith)))
+    ∙ ap (put nat_cmp (key % reach levels) v) whole

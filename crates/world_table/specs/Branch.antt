@@ -1,5 +1,5 @@
 -- What lies below a place of a block.
-use Rattle.std.specs.Prelude.{◌≡◌, ◌≢◌, ℕ, ◌+◌, ◌*◌, ◌^◌, ◌<◌, ◌≤◌, List, [], ◌∷◌, ◌++◌, map, length, get_or, replicate, refl}
+use Rattle.std.specs.Prelude.{◌≡◌, ℕ, zero, suc, ◌+◌, ◌*◌, ◌^◌, ◌<◌, ◌≤◌, List, [], ◌∷◌, ◌++◌, map, length, refl}
 use Rattle.std.specs.Coded.{Coded, code_by, coded×, coded_ℕ, coded_list}
 
 -- how many levels of blocks there are, and the entries by the part of the key that those levels read
@@ -43,15 +43,19 @@ AreBranches levels (b ∷ bs) = IsBranch levels b × AreBranches levels bs
 abbrev pub nowhere : {V : Type 0} → Branch V
 nowhere = record { height = 0; entries = [] }
 
--- the 32 places of a block that has nothing
-unfoldable pub vacant_row : {V : Type 0} → List (Branch V)
-vacant_row = replicate 32 nowhere
+-- the row with a branch at a place, and with nothing at the places before it that the row did not reach
+abbrev pub with_branch : {V : Type 0} → ℕ → Branch V → List (Branch V) → List (Branch V)
+with_branch zero b [] = b ∷ []
+with_branch zero b (c ∷ cs) = b ∷ cs
+with_branch (suc at) b [] = nowhere ∷ with_branch at b []
+with_branch (suc at) b (c ∷ cs) = c ∷ with_branch at b cs
 
--- the places of a block: 32 branches, each with so many levels
+-- the places of a block: at most 32 branches, each with so many levels; a place behind them has nothing
 pub record IsRow {V : Type 0} (levels : ℕ) (bs : List (Branch V)) : Type 0 where
-  pub size : length bs ≡ 32
+  pub size : length bs ≤ 32
   pub branches : AreBranches levels bs
 
--- the branches at other places have no entries
-abbrev pub AreVacantBut : {V : Type 0} → ℕ → List (Branch V) → Type 0
-AreVacantBut at bs = (i : ℕ) → i < length bs → i ≢ at → (get_or bs i nowhere).entries ≡ []
+-- another row that has the same, save for empty branches behind
+pub record IsAlike {V : Type 0} (old new : List (Branch V)) : Type 0 where
+  pub entries : (width start : ℕ) → joined width start new ≡ joined width start old
+  pub branches : (levels : ℕ) → AreBranches levels old → AreBranches levels new

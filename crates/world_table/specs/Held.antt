@@ -10,7 +10,7 @@ branch_of Nothing = record { height = 0; entries = [] }
 branch_of (Record r) = record { height = 0; entries = (0, arc_value r) ∷ [] }
 branch_of (Block below places) = record { height = below + 1; entries = joined (reach below) 0 ((arc_value places).items) }
 
--- a block has 32 places, each with a branch of the levels below it
+-- a block has at most 32 places, each with a branch of the levels below it
 abbrev pub IsSound : {V : Type 0} → Held V → Type 0
 IsSound Nothing = Unit {0}
 IsSound (Record r) = Unit {0}

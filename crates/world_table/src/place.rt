@@ -9,14 +9,12 @@ pub mod blocks;
 pub mod change;
 pub mod edit;
 pub mod revise;
+mod rows;
 pub mod walk;
 
 use std::alloc::AllocError;
 use std::marker::Model;
 use std::sync::Arc;
-
-/// How many places a block has: as many as five bits tell apart.
-const PLACES: usize = 32;
 
 /// A place of a block: nothing, a record, or a block of the level below.
 #[cycle(place)]
@@ -30,7 +28,8 @@ pub struct Place<R> {
 enum Held<R> {
     Nothing,
     Record(Arc<R>),
-    // How many levels of blocks lie below this one, and its places.
+    // How many levels of blocks lie below this one, and its places: 32 at most, as many as five bits tell apart, and mostly no more than
+    // as far as the last that is used. A place behind them has nothing.
     Block(u32, Arc<Vec<Place<R>>>),
 }
 
@@ -82,12 +81,26 @@ impl<R> Place<R> {
         match &self.held {
             Held::Nothing => None,
             Held::Record(value) => Some(value),
-            Held::Block(below, places) => places[index_of(key, *below)].get(key),
+            Held::Block(below, places) => {
+                let at = index_of(key, *below);
+                if at < places.len() {
+                    places[at].get(key)
+                } else {
+                    None
+                }
+            }
         }
     }
 }
 
 impl<R: Drop> Place<R> {
+    // Whether the place is empty.
+    fn is_nothing(&self) -> bool
+        ensures { IsTrue result → self.now.entries ≡ [] }
+    {
+        matches!(&self.held, Held::Nothing)
+    }
+
     /// The same branch, with one more owner.
     pub fn share(&self) -> Result<Place<R>, AllocError>
         ensures { IfOk result (λ p. p ≡ self.now) }

@@ -1,8 +1,9 @@
 //! How blocks are built.
-ghost use Rattle.std.specs.Prelude.{◌≡◌, ◌+◌, ◌<◌, IfOk, slice_set, if◌then◌else◌, is_ok, vec_len};
-ghost use Rattle.world_table.specs.Branch.{reach, joined, IsBranch, IsRow, vacant_row};
+ghost use Rattle.std.specs.Prelude.{◌≡◌, ◌+◌, ◌<◌, IfOk, if◌then◌else◌, is_ok};
+ghost use Rattle.world_table.specs.Branch.{reach, joined, with_branch, IsBranch, IsRow};
 
-use super::{Held, PLACES, Place};
+use super::rows::{copied, copied_with};
+use super::{Held, Place};
 use std::alloc::{AllocError, Global};
 use std::sync::Arc;
 
@@ -51,55 +52,27 @@ impl BlockBuilder {
         requires branch { IsBranch below branch }
         requires room { self.old.count < usize.MAX }
         ensures height { IfOk result (λ p. p.height ≡ below + 1) }
-        ensures entries { IfOk result (λ p. p.entries ≡ joined (reach below) 0 (slice_set places.now at branch)) }
+        ensures entries { IfOk result (λ p. p.entries ≡ joined (reach below) 0 (with_branch at branch places.now)) }
         ensures counted { self.new.count ≡ self.old.count + (if is_ok result then 1 else 0) }
     {
-        let mut copies = copied(self.alloc, places)?;
-        copies[at] = branch;
+        let copies = copied_with(self.alloc, places, at, branch)?;
         self.block(below, copies)
     }
 
-    /// A block with one branch.
-    pub fn lone<R: Drop>(
+    /// A block of these places.
+    pub fn copied<R: Drop>(
         &mut self,
         below: u32,
-        at: usize,
-        branch: Place<R>,
+        places: &[Place<R>],
     ) -> Result<Place<R>, AllocError>
         requires levels { below < 12 }
-        requires at { at < 32 }
-        requires branch { IsBranch below branch }
+        requires places { IsRow below places.now }
         requires room { self.old.count < usize.MAX }
         ensures height { IfOk result (λ p. p.height ≡ below + 1) }
-        ensures entries { IfOk result (λ p. p.entries ≡ joined (reach below) 0 (slice_set vacant_row at branch)) }
+        ensures entries { IfOk result (λ p. p.entries ≡ joined (reach below) 0 places.now) }
         ensures counted { self.new.count ≡ self.old.count + (if is_ok result then 1 else 0) }
     {
-        let mut places = vacant(self.alloc)?;
-        places[at] = branch;
-        self.block(below, places)
+        let copies = copied(self.alloc, places)?;
+        self.block(below, copies)
     }
-}
-
-// The same branches, each with one more owner.
-fn copied<R: Drop>(alloc: Global, places: &[Place<R>]) -> Result<Vec<Place<R>>, AllocError>
-    ensures { IfOk result (λ v. v.items ≡ places.now) }
-{
-    let mut copies = Vec::with_capacity(alloc, places.len())?;
-    for place in places {
-        copies.push(place.share()?)?;
-    }
-    Ok(copies)
-}
-
-// The places of a block that has nothing.
-#[tactic(auto, unfolding(crate::specs::Branch::vacant_row))]
-fn vacant<R: Drop>(alloc: Global) -> Result<Vec<Place<R>>, AllocError>
-    ensures items { IfOk result (λ v. v.items ≡ vacant_row) }
-    ensures len { IfOk result (λ v. vec_len v ≡ 32) }
-{
-    let mut places = Vec::with_capacity(alloc, PLACES)?;
-    for _i in 0..PLACES {
-        places.push(Place::nothing())?;
-    }
-    Ok(places)
 }

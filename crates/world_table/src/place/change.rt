@@ -1,25 +1,27 @@
 //! Changes of one place, along the way to it.
-ghost use Rattle.std.specs.Prelude.{◌≡◌, ◌+◌, ◌-◌, ◌<◌, ◌≤◌, ◌%◌, ◌^◌, ℕ, [], IfOk, OnOk, IsTrue, ◌↔◌, MatchOption};
+ghost use Rattle.std.specs.Prelude.{◌≡◌, ◌+◌, ◌-◌, ◌<◌, ◌≤◌, ◌%◌, ◌^◌, ℕ, [], IfOk, OnOk};
 ghost use Rattle.std.specs.Ordering.{nat_cmp};
 ghost use Rattle.std.specs.FinMap.{put};
 ghost use Rattle.std.specs.Arc.{arc_value};
-ghost use Rattle.world_table.specs.Branch.{reach, joined, IsBranch, IsRow, AreVacantBut};
+ghost use Rattle.world_table.specs.Branch.{reach, joined, IsBranch, IsRow};
 ghost use Rattle.world_table.specs.Entries.{without};
 
 use super::blocks::BlockBuilder;
+use super::rows::used;
 use super::{Held, Place, index_of};
 use std::alloc::AllocError;
 use std::sync::Arc;
 
 impl<R: Drop> Place<R> {
-    // The places of the block, if there is one: it stands above so many levels.
-    fn places(&self, below: u32) -> Option<&[Place<R>]>
+    // The places of the block that stands above so many levels: none where there is no such block.
+    fn places(&self, below: u32) -> &[Place<R>]
         requires { IsBranch (below + 1) self.now }
-        ensures { MatchOption result (self.now.entries ≡ []) (λ p. IsRow below p.now × (self.now.entries ≡ joined (reach below) 0 p.now)) }
+        ensures row { IsRow below result.now }
+        ensures entries { self.now.entries ≡ joined (reach below) 0 result.now }
     {
         match &self.held {
-            Held::Block(stored, places) if *stored == below => Some(places),
-            _ => None,
+            Held::Block(stored, places) if *stored == below => places,
+            _ => &[],
         }
     }
 
@@ -44,15 +46,13 @@ impl<R: Drop> Place<R> {
         }
         let below = levels - 1;
         let at = index_of(key, below);
-        match self.places(below) {
-            Some(places) => {
-                let branch = places[at].with(builder, below, key, value)?;
-                builder.changed(below, places, at, branch)
-            }
-            None => {
-                let branch = Place::nothing().with(builder, below, key, value)?;
-                builder.lone(below, at, branch)
-            }
+        let places = self.places(below);
+        if at < places.len() {
+            let branch = places[at].with(builder, below, key, value)?;
+            builder.changed(below, places, at, branch)
+        } else {
+            let branch = Place::nothing().with(builder, below, key, value)?;
+            builder.changed(below, places, at, branch)
         }
     }
 
@@ -69,31 +69,20 @@ impl<R: Drop> Place<R> {
             Held::Record(_) => Ok(Place::nothing()),
             Held::Block(below, places) => {
                 let at = index_of(key, *below);
+                if at >= places.len() {
+                    let same = self.share()?;
+                    return Ok(same);
+                }
                 let branch = places[at].without(builder, key)?;
-                if branch.is_nothing() && are_vacant_but(places, at) {
-                    return Ok(Place::nothing());
+                if branch.is_nothing() && at + 1 == places.len() {
+                    let count = used(&places[..at]);
+                    if count == 0 {
+                        return Ok(Place::nothing());
+                    }
+                    return builder.copied(*below, &places[..count]);
                 }
                 builder.changed(*below, places, at, branch)
             }
         }
     }
-
-    // Whether the place is empty.
-    fn is_nothing(&self) -> bool
-        ensures { IsTrue result → self.now.entries ≡ [] }
-    {
-        matches!(&self.held, Held::Nothing)
-    }
-}
-
-/// Whether all places but one are empty.
-pub fn are_vacant_but<R: Drop>(places: &[Place<R>], at: usize) -> bool
-    ensures { IsTrue result → AreVacantBut at places.now }
-{
-    for (i, place) in places.iter().enumerate() {
-        if i != at && !place.is_nothing() {
-            return false;
-        }
-    }
-    true
 }

@@ -7,8 +7,8 @@ ghost use Rattle.world_table.specs.Branch.{reach, IsBranch};
 ghost use Rattle.world_table.specs.Entries.{without};
 
 use super::blocks::BlockBuilder;
-use super::change::are_vacant_but;
-use super::{Held, PLACES, Place, index_of};
+use super::rows::{used, widen};
+use super::{Held, Place, index_of};
 use std::alloc::AllocError;
 use std::sync::Arc;
 
@@ -34,6 +34,7 @@ impl<R: Drop> Place<R> {
             && let Some(own) = Arc::get_mut(places)
         {
             let at = index_of(key, *below);
+            widen(own, at)?;
             return own[at].put(builder, *below, key, value);
         }
         *self = self.with(builder, levels, key, value)?;
@@ -53,8 +54,13 @@ impl<R: Drop> Place<R> {
             && let Some(own) = Arc::get_mut(places)
         {
             let at = index_of(key, *below);
+            if at >= own.len() {
+                return Ok(());
+            }
             own[at].remove(builder, key)?;
-            if !are_vacant_but(own, PLACES) {
+            let count = used(own);
+            if count > 0 {
+                own.truncate(count);
                 return Ok(());
             }
         } else {

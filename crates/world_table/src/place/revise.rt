@@ -23,6 +23,9 @@ impl<R: Drop> Place<R> {
                 return Ok(false);
             };
             let at = index_of(key, *below);
+            if at >= own.len() {
+                return Ok(false);
+            }
             let done = own[at].revise(key, revision)?;
             return Ok(done);
         }

@@ -3,7 +3,7 @@ ghost use Rattle.std.specs.Prelude.{◌≡◌, option_map};
 ghost use Rattle.std.specs.Arc.{arc_value};
 ghost use Rattle.world_table.specs.Entries.{first_from, last_key};
 
-use super::{Held, PLACES, Place};
+use super::{Held, Place};
 use std::sync::Arc;
 
 impl<R> Place<R> {
@@ -16,8 +16,8 @@ impl<R> Place<R> {
             Held::Record(value) => { if key == 0 { Some((0, value)) } else { None } }
             Held::Block(below, places) => {
                 let shift = 5 * *below;
-                let first = (key >> shift).min(PLACES as u64);
-                for at in first..PLACES as u64 {
+                let first = (key >> shift).min(places.len() as u64);
+                for at in first..places.len() as u64 {
                     let start = at << shift;
                     let from = key.saturating_sub(start);
                     if let Some((found, value)) = places[at as usize].next_from(from) {
@@ -37,7 +37,7 @@ impl<R> Place<R> {
             Held::Nothing => None,
             Held::Record(_) => Some(0),
             Held::Block(below, places) => {
-                let mut at = PLACES;
+                let mut at = places.len();
                 while at > 0 {
                     at -= 1;
                     if let Some(found) = places[at].last_key() {

@@ -1,4 +1,4 @@
-use Rattle.std.proofs.Common.{◌≡◌, ℕ, ◌+◌, ◌-◌, ◌*◌, ◌<◌, Some, sym, ap, ◌∙◌, arith}
+use Rattle.std.proofs.Common.{◌≡◌, ℕ, ◌+◌, ◌-◌, ◌*◌, ◌<◌, length, Some, sym, ap, ◌∙◌, arith}
 use Rattle.std.specs.Arc.{arc_value}
 use Rattle.world_table.specs.Branch.{Branch, reach}
 use Rattle.world_table.specs.Entries.{first_from}
@@ -15,8 +15,10 @@ loop-at-init g t c =
 pub overflow_add-result : goal.overflow_add-result
 overflow_add-result g t c =
     let sound = rw c.in-Block.is at c.self.invariant in
+    let most = sound.1.size in
+    let inside : c.loop-at.at < length (arc_value c.in-Block.places).items = omega (arith, (arc_value c.in-Block.places).ok, rw c.deref-in-Block.ensures at c.len-at-end.ensures) in
     let within : c.loop-at.at < 32 = omega arith in
-    let child = child_branch _ _ _ _ sound.1 within (rw c.deref.ensures at c.index.ensures) in
+    let child = child_branch _ _ _ _ sound.1.branches inside (rw c.deref-in-loop-at.ensures at c.index.ensures) in
     let low = first_within _ 0 (reach c.in-Block.below) _ _ child.rises (sym c.in-Some.ensures) in
     let fits = key_fits c.loop-at.at c.in-Block.below c.in-Some.found within sound.0 low in
     omega arith
@@ -24,20 +26,24 @@ overflow_add-result g t c =
 pub returns-in-Some : goal.returns-in-Some
 returns-in-Some g t c =
     let sound = rw c.in-Block.is at c.self.invariant in
+    let most = sound.1.size in
+    let inside : c.loop-at.at < length (arc_value c.in-Block.places).items = omega (arith, (arc_value c.in-Block.places).ok, rw c.deref-in-Block.ensures at c.len-at-end.ensures) in
     let within : c.loop-at.at < 32 = omega arith in
-    let there = rw c.deref.ensures at c.index.ensures in
+    let there = rw c.deref-in-loop-at.ensures at c.index.ensures in
     let start = start_is c.loop-at.at c.in-Block.below within sound.0 in
     let from : c.args.key - c.loop-at.at * reach c.in-Block.below ≡ c.saturating_sub-from.result = ap (λ (n : ℕ). c.args.key - n) (sym start) ∙ sym c.saturating_sub-from.ensures in
     let found = ap (λ (n : ℕ). first_from n c.index.result.now.entries) from ∙ sym c.in-Some.ensures in
     ap (λ (n : ℕ). Some (n + c.in-Some.found, arc_value c.in-Some.value.now)) start
-    ∙ sym (c.loop-at.invariant ∙ first_found (reach c.in-Block.below) c.args.key c.loop-at.at _ _ _ (omega (arith, sound.1.size)) there found)
+    ∙ sym (c.loop-at.invariant ∙ first_found (reach c.in-Block.below) c.args.key c.loop-at.at _ _ _ inside there found)
 
 pub loop-at-preserved : goal.loop-at-preserved
 loop-at-preserved g t c =
     let sound = rw c.in-Block.is at c.self.invariant in
+    let most = sound.1.size in
+    let inside : c.loop-at.at < length (arc_value c.in-Block.places).items = omega (arith, (arc_value c.in-Block.places).ok, rw c.deref-in-Block.ensures at c.len-at-end.ensures) in
     let within : c.loop-at.at < 32 = omega arith in
-    let there = rw c.deref.ensures at c.index.ensures in
+    let there = rw c.deref-in-loop-at.ensures at c.index.ensures in
     let start = start_is c.loop-at.at c.in-Block.below within sound.0 in
     let from : c.args.key - c.loop-at.at * reach c.in-Block.below ≡ c.saturating_sub-from.result = ap (λ (n : ℕ). c.args.key - n) (sym start) ∙ sym c.saturating_sub-from.ensures in
     let none = ap (λ (n : ℕ). first_from n c.index.result.now.entries) from ∙ sym c.in_default.ensures in
-    c.loop-at.invariant ∙ first_passed (reach c.in-Block.below) c.args.key c.loop-at.at _ _ (omega (arith, sound.1.size)) there none
+    c.loop-at.invariant ∙ first_passed (reach c.in-Block.below) c.args.key c.loop-at.at _ _ inside there none

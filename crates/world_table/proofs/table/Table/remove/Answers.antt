@@ -4,7 +4,8 @@ use Rattle.std.specs.FinMap.{find}
 use Rattle.world_table.specs.Contents.{Contents}
 use Rattle.world_table.specs.Entries.{without}
 use Rattle.world_table.proofs.Rows.{without_branch}
-use Rattle.world_table.proofs.Roots.{without_absent, without_root, without_length_some, found_within}
+use Rattle.world_table.proofs.Rising.{without_absent}
+use Rattle.world_table.proofs.Roots.{without_root, without_length_some, found_within}
 use Rattle.world_table.proofs.table.Table.remove.Goals as goal
 
 pub returns-in_default-clause-ok : goal.returns-in_default-clause-ok

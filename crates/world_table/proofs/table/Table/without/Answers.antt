@@ -5,7 +5,8 @@ use Rattle.world_table.specs.Branch.{Branch}
 use Rattle.world_table.specs.Contents.{Contents}
 use Rattle.world_table.specs.Entries.{without}
 use Rattle.world_table.proofs.Rows.{without_branch}
-use Rattle.world_table.proofs.Roots.{without_absent, without_root, without_length_some, found_within}
+use Rattle.world_table.proofs.Rising.{without_absent}
+use Rattle.world_table.proofs.Roots.{without_root, without_length_some, found_within}
 use Rattle.world_table.proofs.table.Table.without.Goals as goal
 
 pub returns-in_ok-share-in-None-clause-entries : goal.returns-in_ok-share-in-None-clause-entries

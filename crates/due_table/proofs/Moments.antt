@@ -8,7 +8,7 @@ use Rattle.std.specs.FinMap.Entries.{by_order}
 use Rattle.world_table.specs.Branch.{Rises}
 use Rattle.world_table.specs.Contents.{Contents}
 use Rattle.world_table.specs.Entries.{without}
-use Rattle.world_table.proofs.Roots.{without_absent}
+use Rattle.world_table.proofs.Rising.{without_absent}
 use Rattle.world_table.proofs.Rising.{find_below, without_below}
 use Rattle.due_table.specs.Order.{with_item, without_item}
 use Rattle.due_table.specs.Pairs.{with_pair, without_pair}

@@ -1,5 +1,5 @@
 -- Worked rows, true by computation: which tasks are due, and in what order.
-use Rattle.std.proofs.Common.{◌≡◌, ℤ, pos, negsuc, List, [], ◌∷◌, Some, None, refl}
+use Rattle.std.proofs.Common.{◌≡◌, pos, negsuc, [], ◌∷◌, Some, None, refl}
 use Rattle.spec_value.specs.Datum.{integer}
 use Rattle.spec_value.specs.Table.{Numbered}
 use Rattle.spec_world.specs.World.{Task, Waiting, forked, timed, idle, reading_on}

@@ -1,5 +1,5 @@
 use Rattle.std.proofs.Common.{sym, ap, ◌∙◌, subst}
-use Rattle.spec_world.specs.Questions.{ask}
+use Rattle.spec_world.specs.Questions.{Read, ask}
 use Rattle.view.specs.Meanings.{question_of, answer_of}
 use Rattle.view.specs.Sound.{IsSound}
 use Rattle.world.specs.Trace.{Trace, IsTold}
@@ -9,7 +9,7 @@ use Rattle.world.proofs.tracked.TrackedView.get.Goals as goal
 
 pub answer-requires : goal.answer-requires
 answer-requires c =
-    let read = record { question = question_of c.args.question.now; answer = answer_of c.in-Some.home.now } in
+    let read : Read = record { question = question_of c.args.question.now; answer = answer_of c.in-Some.home.now } in
     sym (given c.self.inside.snapshot.now c.self.inside.reads read c.in-Some.ensures c.self.invariant.1)
     ∙ ap (λ (t : Trace). ask t.home (question_of c.args.question.now)) c.self.view_is
 

@@ -1,5 +1,5 @@
 -- What a question to a tracked view does to it.
-use Rattle.std.proofs.Common.{Result, Ok, Err, IfOk, OnOk, ◌≡◌, [], ◌∷◌, ◌++◌, map, Contains, refl, sym, ap, ◌∙◌, subst}
+use Rattle.std.proofs.Common.{Result, Ok, Err, IfOk, OnOk, ◌≡◌, [], ◌∷◌, ◌++◌, Contains, refl, sym, ap, ◌∙◌, subst}
 use Rattle.spec_world.specs.World.{World}
 use Rattle.spec_world.specs.Questions.{Question, Answer, ask, Agrees, apply_all}
 use Rattle.view.specs.Sound.{IsSound}

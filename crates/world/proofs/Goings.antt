@@ -1,19 +1,19 @@
 -- What a question to a tracked view does to it.
-use Rattle.std.proofs.Common.{Result, Ok, Err, IfOk, ◌≡◌, [], ◌∷◌, ◌++◌, map, Contains, refl, sym, ap, ◌∙◌, subst}
+use Rattle.std.proofs.Common.{Result, Ok, Err, IfOk, OnOk, ◌≡◌, [], ◌∷◌, ◌++◌, Contains, refl, sym, ap, ◌∙◌, subst}
 use Rattle.spec_world.specs.World.{World}
 use Rattle.spec_world.specs.Questions.{Question, Answer, ask, Agrees, apply_all}
 use Rattle.view.specs.Sound.{IsSound}
 use Rattle.view.specs.Law.{Tells}
 use Rattle.world.specs.Trace.{Trace, IsStart, IsTold, world_now}
-use Rattle.world.proofs.Found.{alike_where_asked}
+use Rattle.world.proofs.Found.{given}
 use Rattle.world.proofs.History.{agrees_more, agrees_before, agrees_last, answered_now}
 
 -- a question that was asked before tells nothing new
-pub told_before : (t : Trace) (q : Question) → Agrees t.home t.reads → Contains (map (λ r. r.question) t.reads) q → IsTold t t q
-told_before t q agrees among = record {
+pub told_before : (t : Trace) (q : Question) (a : Answer) → Agrees t.home t.reads → Contains t.reads record { question = q; answer = a } → IsTold t t q
+told_before t q a agrees among = record {
   home_stays = refl;
   changes_stay = refl;
-  agreeing = λ w. (λ of_w. (of_w, alike_where_asked w t.home t.reads q among of_w agrees), λ h. h.0);
+  agreeing = λ w. (λ of_w. (of_w, given w t.reads record { question = q; answer = a } among of_w ∙ sym (given t.home t.reads record { question = q; answer = a } among agrees)), λ h. h.0);
 }
 
 abbrev with_read : Trace → Question → Trace
@@ -49,6 +49,12 @@ pub goes_if_ok : {A E : Type 0} (meaning : A → Answer) (result : Result A E) (
     → IfOk result (λ a. meaning a ≡ ask (apply_all new.changes new.home) q) → IfOk result (λ a. Tells IsStart world_now old new (λ w. ask w q ≡ meaning a))
 goes_if_ok meaning (Ok a) old new q sound told now = goes_on old new q (meaning a) sound told now
 goes_if_ok meaning (Err e) old new q sound told now = tt
+
+-- the same where that it was asked is known only then
+pub goes_if_told : {A E : Type 0} (meaning : A → Answer) (result : Result A E) (old new : Trace) (q : Question) → IsSound new.home → OnOk result (IsTold old new q)
+    → IfOk result (λ a. meaning a ≡ ask (apply_all new.changes new.home) q) → IfOk result (λ a. Tells IsStart world_now old new (λ w. ask w q ≡ meaning a))
+goes_if_told meaning (Ok a) old new q sound told now = goes_on old new q (meaning a) sound told now
+goes_if_told meaning (Err e) old new q sound told now = tt
 
 -- a start that answers as home does is left
 pub stays : (old new : Trace) (q : Question) (w : World) → IsTold old new q → IsStart old w → ask w q ≡ ask old.home q → IsStart new w

@@ -1,13 +1,35 @@
 -- Reads and changes, one more at a time.
-use Rattle.std.proofs.Common.{◌≡◌, List, [], ◌∷◌, ◌++◌, refl, sym, ◌∙◌}
+use Rattle.std.proofs.Common.{◌≡◌, ℕ, List, [], ◌∷◌, ◌++◌, refl, sym, ap, ◌∙◌}
 use Rattle.spec_world.specs.World.{World}
-use Rattle.spec_world.specs.Questions.{Question, Answer, ask, Read, Agrees, Change, apply, apply_all}
+use Rattle.spec_world.specs.Questions.{Question, Answer, ask, Read, Agrees, Change, apply, apply_all, new_next, about_header, about_children, about_contents, about_defines, about_slot, about_verbs, about_task, about_waiting, about_link, about_readers, about_connections, about_connected, about_greatest, about_ending}
 use Rattle.view.specs.Sound.{IsSound}
+use Rattle.world.specs.Trace.{AnswersAlike}
 use Rattle.world.proofs.Local.{InOrder, alike_after}
 
 pub apply_all_last : (cs : List Change) (c : Change) (w : World) → apply_all (cs ++ c ∷ []) w ≡ apply c (apply_all cs w)
 apply_all_last [] c w = refl
 apply_all_last (d ∷ cs) c w = apply_all_last cs c (apply d w)
+
+-- the number of the next step is no answer
+pub next_unseen : (n : ℕ) (w : World) → AnswersAlike (apply (new_next n) w) w
+next_unseen n w (about_header o) = refl
+next_unseen n w (about_children o) = refl
+next_unseen n w (about_contents o) = refl
+next_unseen n w (about_defines o) = refl
+next_unseen n w (about_slot o p) = refl
+next_unseen n w (about_verbs o) = refl
+next_unseen n w (about_task i) = refl
+next_unseen n w about_waiting = refl
+next_unseen n w (about_link c) = refl
+next_unseen n w (about_readers c) = refl
+next_unseen n w (about_connections o) = refl
+next_unseen n w about_connected = refl
+next_unseen n w about_greatest = refl
+next_unseen n w about_ending = refl
+
+-- one change more that is not seen
+pub unseen_last : (cs : List Change) (c : Change) (w : World) → AnswersAlike (apply_all cs w) w → ((v : World) → AnswersAlike (apply c v) v) → AnswersAlike (apply_all (cs ++ c ∷ []) w) w
+unseen_last cs c w before more q = ap (λ v. ask v q) (apply_all_last cs c w) ∙ more (apply_all cs w) q ∙ before q
 
 pub agrees_more : (w : World) (rs : List Read) (r : Read) → Agrees w rs → ask w r.question ≡ r.answer → Agrees w (rs ++ r ∷ [])
 agrees_more w [] r h e = (e, tt)

@@ -30,3 +30,7 @@ pub record IsTold (old new : Trace) (q : Question) : Type 0 where
   pub home_stays : new.home ≡ old.home
   pub changes_stay : new.changes ≡ old.changes
   pub agreeing : (w : World) → Agrees w new.reads ↔ Agrees w old.reads × (ask w q ≡ ask old.home q)
+
+-- two worlds answer each question alike
+abbrev pub AnswersAlike : World → World → Type 0
+AnswersAlike v w = (q : Question) → ask v q ≡ ask w q

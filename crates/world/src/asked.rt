@@ -1,5 +1,5 @@
 //! What was read, each question once.
-ghost use Rattle.std.specs.Prelude.{◌≡◌, ◌++◌, ◌∷◌, [], map, IsTrue, Contains, OnOk, OnErr};
+ghost use Rattle.std.specs.Prelude.{◌≡◌, ◌++◌, ◌∷◌, [], map, Contains, IfSome, OnOk, OnErr};
 ghost use Rattle.view.specs.Meanings.{question_of, answer_of};
 ghost use Rattle.view.specs.ReadMeaning.{read_of};
 
@@ -10,7 +10,7 @@ use view::question::{Answer, Question};
 use view::reads::{Read, Reads};
 
 // How many places there are at first.
-const FIRST: usize = 64;
+const FIRST: usize = 32;
 
 // How many places a question may have.
 const TRIES: usize = 4;
@@ -64,31 +64,39 @@ impl Asked {
         reads
     }
 
-    /// Whether a question is found among those that were asked. It takes no memory.
-    pub(crate) fn has(&self, question: &Question) -> bool
-        ensures { IsTrue result → Contains (map (λ r. r.question) self.now) (question_of question.now) }
+    /// The answer that a question of this mark had, if it is found among those that were asked. It takes no memory.
+    pub(crate) fn find(&self, mark: u64, question: &Question) -> Option<&Answer>
+        ensures { IfSome result (λ a. Contains self.now record { question = question_of question.now; answer = answer_of a.now }) }
     {
-        let mark = mark_of(question);
         for step in 0..TRIES {
-            if self.has_at(place_of(self.places.len(), mark, step), question) {
-                return true;
+            let index = self.named(mark, step);
+            if index == VACANT {
+                return None;
+            }
+            if let Some(answer) = answer_at(self.reads.as_slice(), index, question) {
+                return Some(answer);
             }
         }
-        false
+        None
     }
 
-    // Whether the read that a place names is the one of a question.
-    fn has_at(&self, place: usize, question: &Question) -> bool
-        ensures { IsTrue result → Contains (map (λ r. r.question) self.now) (question_of question.now) }
-    {
-        match self.places.get(place) {
-            Some(index) => is_at(self.reads.as_slice(), *index, question),
-            None => false,
+    // The index that a mark's place at a try names.
+    fn named(&self, mark: u64, step: usize) -> usize {
+        let place = place_of(self.places.len(), mark, step);
+        if place < self.places.len() {
+            self.places[place]
+        } else {
+            VACANT
         }
     }
 
-    /// One more read.
-    pub(crate) fn push(&mut self, question: Question, answer: Answer) -> Result<(), AllocError>
+    /// One more read, of a question of this mark.
+    pub(crate) fn push(
+        &mut self,
+        mark: u64,
+        question: Question,
+        answer: Answer,
+    ) -> Result<(), AllocError>
         ensures ok { OnOk result (self.new ≡ self.old ++ record { question = question_of question; answer = answer_of answer } ∷ []) }
         ensures err { OnErr result (self.new ≡ self.old) }
     {
@@ -96,7 +104,6 @@ impl Asked {
         if index >= self.places.len() / 2 {
             self.grow()?;
         }
-        let mark = mark_of(&question);
         self.reads.push(question, answer)?;
         settle(&mut self.places, mark, index);
         Ok(())
@@ -117,11 +124,19 @@ impl Asked {
     }
 }
 
-// Whether the read of an index is the one of a question.
-fn is_at(reads: &[Read], index: usize, question: &Question) -> bool
-    ensures { IsTrue result → Contains (map (λ r. r.question) (map read_of reads.now)) (question_of question.now) }
+// The answer of the read of an index, if it is the one of a question.
+fn answer_at<'r>(reads: &'r [Read], index: usize, question: &Question) -> Option<&'r Answer>
+    ensures { IfSome result (λ a. Contains (map read_of reads.now) record { question = question_of question.now; answer = answer_of a.now }) }
 {
-    index < reads.len() && same_question(&reads[index].question, question)
+    if index >= reads.len() {
+        return None;
+    }
+    let read = &reads[index];
+    if same_question(&read.question, question) {
+        Some(&read.answer)
+    } else {
+        None
+    }
 }
 
 // The place of a mark at a try, where the count of places is a power of two.

@@ -7,6 +7,7 @@
 //! records what was read, so that another thread can check a guess later.
 #![tactic(auto)]
 
+mod answers;
 mod asked;
 mod choice;
 pub mod count;

@@ -1,15 +1,17 @@
 //! A view of a snapshot that keeps what was read.
-ghost use Rattle.std.specs.Prelude.{◌≡◌, ◌++◌, ◌∷◌, [], ℕ, None, IfOk, OnOk, OnErr};
+ghost use Rattle.std.specs.Prelude.{◌≡◌, ◌++◌, ◌∷◌, [], ℕ, false, None, IfOk, OnOk, OnErr};
 ghost use Rattle.std.specs.Option.{unwrap_or};
 ghost use Rattle.spec_world.specs.World.{World as Plain};
 ghost use Rattle.spec_world.specs.Questions.{ask, apply, apply_all, Agrees};
 ghost use Rattle.view.specs.Meanings.{question_of, answer_of, change_of};
 ghost use Rattle.view.specs.Sound.{IsSound};
 ghost use Rattle.view.specs.Law.{Goes, Keeps};
-ghost use Rattle.world.specs.Trace.{Trace, IsStart, IsTold, world_now};
+ghost use Rattle.world.specs.Trace.{Trace, IsStart, IsTold, AnswersAlike, world_now};
 
+use crate::answers::copied;
 use crate::asked::Asked;
 use crate::draft::Draft;
+use crate::questions::mark_of;
 use crate::worlds::Snapshot;
 use std::alloc::{AllocError, Global};
 use std::marker::Model;
@@ -23,15 +25,17 @@ use view::reads::{Changes, Reads};
 pub struct Tracked<'s> {
     snapshot: &'s Snapshot,
     fork: Option<Draft>,
+    // Whether a question may see that there are changes.
+    seen: bool,
     reads: Asked,
     changes: Changes,
     alloc: Global,
 }
 
 impl<'s> Model for Tracked<'s> {
-    ghost use Rattle.std.specs.Prelude.{◌≡◌};
+    ghost use Rattle.std.specs.Prelude.{◌≡◌, false};
     ghost use Rattle.std.specs.Option.{unwrap_or};
-    ghost use Rattle.world.specs.Trace.{Trace, trace_code};
+    ghost use Rattle.world.specs.Trace.{Trace, trace_code, AnswersAlike};
     ghost use Rattle.view.specs.Sound.{IsSound};
     ghost use Rattle.spec_world.specs.Questions.{Agrees, apply_all};
 
@@ -41,7 +45,7 @@ impl<'s> Model for Tracked<'s> {
 
     ghost view = { λ a. record { home = a.snapshot.now; reads = a.reads; changes = a.changes } };
 
-    ghost invariant = { λ a. IsSound a.snapshot.now × Agrees a.snapshot.now a.reads × (unwrap_or a.fork a.snapshot.now ≡ apply_all a.changes a.snapshot.now) };
+    ghost invariant = { λ a. IsSound a.snapshot.now × Agrees a.snapshot.now a.reads × (unwrap_or a.fork a.snapshot.now ≡ apply_all a.changes a.snapshot.now) × (a.seen ≡ false → AnswersAlike (apply_all a.changes a.snapshot.now) a.snapshot.now) };
 }
 
 impl<'s> Tracked<'s> {
@@ -54,6 +58,7 @@ impl<'s> Tracked<'s> {
         Tracked {
             snapshot,
             fork: None,
+            seen: false,
             reads: Asked::new(alloc),
             changes: Changes::new(alloc),
             alloc,
@@ -70,6 +75,7 @@ impl<'s> Tracked<'s> {
         let Tracked {
             snapshot: _,
             fork,
+            seen: _,
             reads,
             changes,
             alloc: _,
@@ -77,41 +83,45 @@ impl<'s> Tracked<'s> {
         (reads.into_reads(), changes, fork)
     }
 
-    // The answer now.
-    fn answer(&self, question: &Question) -> Result<Answer, AllocError>
+    // The answer now to a question, to which the snapshot has this answer.
+    fn answer(&self, question: &Question, home: &Answer) -> Result<Answer, AllocError>
+        requires { answer_of home.now ≡ ask self.now.home (question_of question.now) }
         ensures { IfOk result (λ a. answer_of a ≡ ask (apply_all self.now.changes self.now.home) (question_of question.now)) }
     {
         match &self.fork {
-            Some(draft) => draft.ask(question),
-            None => self.snapshot.ask(question),
+            Some(draft) if self.seen => draft.ask(question),
+            _ => copied(self.alloc, home),
         }
     }
 
-    // The snapshot's answer is kept.
+    // The snapshot's answer to a question of this mark is kept.
     #[tactic(auto, using(crate::proofs::History::agrees_more))]
-    fn keep_read(&mut self, question: &Question) -> Result<(), AllocError>
+    fn keep(&mut self, mark: u64, question: &Question, home: Answer) -> Result<(), AllocError>
+        requires { answer_of home ≡ ask self.old.home (question_of question.now) }
         ensures ok { OnOk result (self.new ≡ record (self.old) {
           reads = self.old.reads ++ record { question = question_of question.now; answer = ask self.old.home (question_of question.now) } ∷ [];
         }) }
         ensures known { IsSound self.new.home × Agrees self.new.home self.new.reads }
         ensures err { OnErr result (self.new ≡ self.old) }
     {
-        let answer = self.snapshot.ask(question)?;
-        self.reads.push(question.clone()?, answer)?;
+        let _reads = &self.reads;
+        let question = question.clone()?;
+        self.reads.push(mark, question, home)?;
         Ok(())
     }
 
-    // The snapshot's answer is kept, unless the question is found among those that were asked.
-    fn note(&mut self, question: &Question) -> Result<(), AllocError>
-        ensures ok { OnOk result (IsTold self.old self.new (question_of question.now)) }
+    // The answer to a question of this mark that is new. The snapshot's answer is kept.
+    #[inline(never)]
+    fn first(&mut self, mark: u64, question: &Question) -> Result<Answer, AllocError>
+        ensures told { OnOk result (IsTold self.old self.new (question_of question.now)) }
+        ensures answer { IfOk result (λ a. answer_of a ≡ ask (apply_all self.new.changes self.new.home) (question_of question.now)) }
         ensures known { IsSound self.new.home × Agrees self.new.home self.new.reads }
         ensures err { OnErr result (self.new ≡ self.old) }
     {
-        if self.reads.has(question) {
-            return Ok(());
-        }
-        self.keep_read(question)?;
-        Ok(())
+        let home = self.snapshot.ask(question)?;
+        let answer = self.answer(question, &home)?;
+        self.keep(mark, question, home)?;
+        Ok(answer)
     }
 }
 
@@ -126,19 +136,32 @@ impl<'s> View for Tracked<'s> {
 
     #[tactic(auto, using(crate::proofs::Goings::goes_on, crate::proofs::Goings::stays))]
     fn get(&mut self, question: &Question) -> Result<Answer, AllocError> {
-        self.note(question)?;
-        self.answer(question)
+        let mark = mark_of(question);
+        match self.reads.find(mark, question) {
+            Some(home) => self.answer(question, home),
+            None => self.first(mark, question),
+        }
     }
 
-    #[tactic(auto, using(crate::proofs::History::apply_all_last))]
+    #[tactic(auto, using(crate::proofs::History::apply_all_last, crate::proofs::History::unseen_last))]
     fn put(&mut self, change: Change) -> Result<(), AllocError> {
         put_on(self.snapshot, &mut self.fork, &change)?;
+        let seen = self.seen || is_seen(&change);
         if self.changes.push(change).is_err() {
             forget(&mut self.fork, &mut self.changes, self.alloc);
             return Err(AllocError);
         }
+        self.seen = seen;
         Ok(())
     }
+}
+
+// Whether a question may see a change.
+#[tactic(auto, using(crate::proofs::History::next_unseen))]
+fn is_seen(change: &Change) -> bool
+    ensures { result ≡ false → (w : Plain) → AnswersAlike (apply (change_of change.now) w) w }
+{
+    !matches!(change, Change::Next(_))
 }
 
 // A change of a fork of a snapshot, or of one that is begun by it.

@@ -1,6 +1,24 @@
-use Rattle.view.specs.Meanings.{answer_of}
-use Rattle.world.proofs.Goings.{goes_if_ok}
+use Rattle.std.proofs.Common.{sym, ap, ◌∙◌, subst}
+use Rattle.spec_world.specs.Questions.{Read, ask}
+use Rattle.view.specs.Meanings.{question_of, answer_of}
+use Rattle.view.specs.Sound.{IsSound}
+use Rattle.world.specs.Trace.{Trace, IsTold}
+use Rattle.world.proofs.Found.{given}
+use Rattle.world.proofs.Goings.{told_before, goes_if_ok, goes_if_told}
 use Rattle.world.proofs.tracked.TrackedView.get.Goals as goal
 
-pub returns-clause-left : goal.returns-clause-left
-returns-clause-left c = goes_if_ok answer_of c.answer.result _ _ _ c.in_ok-note.ensures.known.0 c.in_ok-note.ensures.ok c.answer.ensures
+pub answer-requires : goal.answer-requires
+answer-requires c =
+    let read : Read = record { question = question_of c.args.question.now; answer = answer_of c.in-Some.home.now } in
+    sym (given c.self.inside.snapshot.now c.self.inside.reads read c.in-Some.ensures c.self.invariant.1)
+    ∙ ap (λ (t : Trace). ask t.home (question_of c.args.question.now)) c.self.view_is
+
+pub returns-in-Some-clause-left : goal.returns-in-Some-clause-left
+returns-in-Some-clause-left c =
+    let asked : Trace = record { home = c.self.inside.snapshot.now; reads = c.self.inside.reads; changes = c.self.inside.changes } in
+    let told = subst (λ (t : Trace). IsTold t t (question_of c.args.question.now)) c.self.view_is (told_before asked _ (answer_of c.in-Some.home.now) c.self.invariant.1 c.in-Some.ensures) in
+    let sound = subst (λ (t : Trace). IsSound t.home) c.self.view_is c.self.invariant.0 in
+    goes_if_ok answer_of c.answer.result _ _ _ sound told c.answer.ensures
+
+pub returns-in-None-clause-left : goal.returns-in-None-clause-left
+returns-in-None-clause-left c = goes_if_told answer_of c.first.result _ _ _ c.first.ensures.known.0 c.first.ensures.told c.first.ensures.answer

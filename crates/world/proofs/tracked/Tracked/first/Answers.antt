@@ -1,0 +1,5 @@
+use Rattle.world.proofs.Goings.{told_now}
+use Rattle.world.proofs.tracked.Tracked.first.Goals as goal
+
+pub returns-clause-told : goal.returns-clause-told
+returns-clause-told c = told_now _ _ _ c.in_ok-keep.ensures.ok

@@ -13,14 +13,13 @@ use crate::guesses::Guess;
 use crate::report::Report;
 use crate::shared::{Run, SharedBoard};
 use round_claims::{ClaimSeat, Claims};
-use std::alloc::{AllocError, Global};
+use std::alloc::Global;
 use std::sync::Wait;
 use std::thread;
 use std::thread::{Builder, Threads};
 use task_step::partial::{Partial, Refusal};
 use task_step::stack::STACK_SIZE;
 use task_step::step::Step;
-use world::worlds::Snapshot;
 
 /// Plays the board of the list `J` to its end by a worker for each seat.
 pub(crate) fn play_by_claims<J: Run, G: Gate, R: Threads + Wait + Sync>(
@@ -111,27 +110,27 @@ fn work<J: Run, G: Gate, R: Wait>(
     requires positions { claims.now.positions ≡ length steps.now }
     requires seat { seat.offer ≡ claims.now }
 {
-    let mut seen = shared.snapshot(rt);
     'claim: while let Some(ticket) = claims.claim(&mut seat) {
         let at = ticket.position();
-        let found = guess_on(alloc, gate, seen, steps, at);
-        seen = shared.hand_in(rt, alloc, at, found);
+        let found = guess_shared(rt, alloc, gate, shared, steps, at);
+        shared.hand_in(rt, alloc, at, found);
     }
 }
 
 // A guess on the world after the steps that are committed, and how many these are.
-fn guess_on<G: Gate>(
+fn guess_shared<J: Run, G: Gate, R: Wait>(
+    rt: &R,
     alloc: Global,
     gate: &G,
-    seen: Result<(Snapshot, usize), AllocError>,
+    shared: &SharedBoard<J>,
     steps: &[Step],
     at: usize,
 ) -> Option<(Guess, usize)>
     requires range { AllInRange steps.now }
     requires at { at < length steps.now }
-    ensures { IfSome result (λ f. IfOk seen (λ s. (f.0.before ≡ s.0) × (f.1 ≡ s.1))) }
+    ensures { IfSome result (λ f. f.0.before ≡ world_after J.base.plain J.steps f.1) }
 {
-    let (snapshot, count) = seen.ok()?;
+    let (snapshot, count) = shared.snapshot(rt).ok()?;
     let guess = guess_at(alloc, gate, &snapshot, steps, at)?;
     Some((guess.without_records(), count))
 }

@@ -71,22 +71,17 @@ impl<J: Run> SharedBoard<J> {
     }
 
     /// Posts a guess, with the number of steps that were committed when it was made, or loses the position where there is none or it is refused. Then it
-    /// commits as far as each position holds something, and gives the world after the steps that are then committed, and how many these are.
+    /// commits as far as each position holds something.
     pub fn hand_in<R: Wait>(
         &self,
         rt: &R,
         alloc: Global,
         position: usize,
         found: Option<(Guess, usize)>,
-    ) -> Result<(Snapshot, usize), AllocError>
+    )
         requires { IfSome found (λ f. f.0.before ≡ world_after J.base.plain J.steps f.1) }
-        ensures { IfOk result (λ s. s.0 ≡ world_after J.base.plain J.steps s.1) }
     {
-        let mut tied = self.board.lock(rt);
-        tied.board.hand_in(alloc, position, found);
-        let count = tied.board.count();
-        let snapshot = tied.board.snapshot()?;
-        Ok((snapshot, count))
+        self.board.lock(rt).board.hand_in(alloc, position, found);
     }
 
     /// The board, when no worker has it any more.

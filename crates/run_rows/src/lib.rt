@@ -2,8 +2,6 @@
 #![tactic(auto)]
 
 #[cfg(test)]
-mod due_rows;
-#[cfg(test)]
 mod list_rows;
 #[cfg(test)]
 mod row_support;

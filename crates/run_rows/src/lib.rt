@@ -1,4 +1,4 @@
-//! Rows of lists of steps: what workers give and mark, whatever they do at which time, what a board answers, and what is due.
+//! Rows of lists of steps: what workers give and mark, whatever they do at which time, and what a board answers.
 #![tactic(auto)]
 
 #[cfg(test)]

@@ -2,9 +2,9 @@
 ghost use Rattle.std.specs.Prelude.{◌≡◌, IfOk, IfSome};
 ghost use Rattle.spec_world.specs.Checkpoint.{checkpoint_text};
 
-use crate::checkpoint_lines::fault::{DecodeError, FaultKind};
-use crate::checkpoint_lines::lines::Lines;
 use crate::draft::next_draft;
+use checkpoint_lines::fault::{DecodeError, FaultKind};
+use checkpoint_lines::lines::Lines;
 use checkpoint_text::encode::encode;
 use std::alloc::{AllocError, Global};
 use world::draft::Draft;

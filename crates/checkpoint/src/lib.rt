@@ -4,7 +4,6 @@
 //! and its own text is, byte by byte, the one that was read.
 #![tactic(auto)]
 
-pub mod checkpoint_lines;
 pub mod decode;
 mod draft;
 pub mod held_values;

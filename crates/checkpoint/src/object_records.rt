@@ -2,10 +2,8 @@
 //!
 //! Objects are first read as they stand, their slots without names. When all are read the slots get the names of the
 //! properties along their objects' parents, and the objects go into a draft.
-pub mod family;
 mod header;
 pub mod link;
-mod names;
 pub mod object;
 mod slot;
 mod verb;

@@ -4,7 +4,7 @@ use denote.Param.Send.{IsSend, IsSync, sendable}
 use denote.Param.SendFields.{as_row_send, declared_send}
 use denote.RattleType.{RattleType}
 use denote.Ref.{NamedLft}
-use denote.Struct.Field.{shr_ref_field, shr_slice_field}
+use denote.Struct.Field.{shr_ref_field, shr_slice_field, u64-field}
 use denote.Struct.Tuple.{type_at, TupleAt}
 use mir.Syntax.{Sym}
 use Rattle.std.specs.Prelude.{List, [], ◌∷◌}
@@ -47,12 +47,12 @@ tied_send J g s = declared_send (tied.the_type J g) (as_row_send board.the_field
 pub shared_sync : (J : RattleType) (g : Run.Ghosts J.Denot) → IsSend J → IsSync (shared.the_row J g)
 shared_sync J g s = let t = tied_send J g s in search (sendable, crosses, t) depth 60
 
--- what a worker is lent: the runtime, the allocator, the gate, the board, the claims and the steps; and its seat
+-- what a worker is lent: the runtime, the allocator, the gate, the board, the claims and the steps; its seat, and how many positions it claims at once
 abbrev Lent : (J G R : RattleType) → Run.Ghosts J.Denot → (runtime gate board claims steps : NamedLft) → List RattleType
 Lent J G R g a b c d e =
     (shr_ref_field a (param.param 2 R) tt).row ∷ Global.the_row ∷ (shr_ref_field b (param.param 1 G) tt).row
     ∷ (shr_ref_field c (shared.the_row (param.param 0 J) g) tt).row ∷ (shr_ref_field d claims.the_row tt).row
-    ∷ seat.the_row ∷ (shr_slice_field e step.the_row tt).row ∷ []
+    ∷ seat.the_row ∷ (shr_slice_field e step.the_row tt).row ∷ u64-field.row ∷ []
 
 pub worker_send : (J G R : RattleType) (g : Run.Ghosts J.Denot) (n : Sym) (a b c d e : NamedLft)
     → IsSend (param.param 0 J) → IsSync (param.param 1 G) → IsSync (param.param 2 R) → IsSend (TupleAt n (Lent J G R g a b c d e))
@@ -72,7 +72,7 @@ worker_send J G R g n a b c d e j gate runtime =
                 (search (sendable, crosses, as_row_send, seat_send) depth 60),
                 (
                   (search (sendable, crosses, as_row_send, step_sync) depth 60),
-                  tt,
+                  ((search (sendable, crosses) depth 60), tt),
                 ),
               ),
             ),

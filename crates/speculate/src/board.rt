@@ -1,5 +1,5 @@
 //! The board of a list: one world, and what each position that is not committed yet holds.
-ghost use Rattle.std.specs.Prelude.{◌≡◌, ◌≤◌, ◌<◌, ◌↔◌, ◌⊎◌, ◌≢◌, [], true, false, IsTrue, IsErrOf, IfOk, IfErr, IfSome, OnOk, OnErr, length, replicate, suc, ◌+◌, ◌^◌, if◌then◌else◌, Some, None, slice_get};
+ghost use Rattle.std.specs.Prelude.{◌≡◌, ◌≤◌, ◌<◌, ◌↔◌, ◌⊎◌, ◌≢◌, [], true, false, IsTrue, IsErrOf, IfOk, IfErr, IfSome, OnOk, OnErr, length, replicate, suc, ◌+◌, ◌^◌, if◌then◌else◌, Some, None, All, slice_get};
 ghost use Rattle.spec_world.specs.Step.{RunsOn, AllInRange};
 ghost use Rattle.speculate.specs.BoardState.{IsHonest, IsFree, opened_on, with_held, world_after};
 ghost use Rattle.speculate.specs.Progress.{Commits, Advances, AdvancesInPart, IsNextHeld, StaysPut, SameRun, ready, rest, AllHeld};
@@ -17,6 +17,11 @@ use task_step::partial::Refusal;
 use task_step::step::Step;
 use world::count::Count;
 use world::worlds::{Snapshot, World};
+
+// How many of the last steps tell whether guesses hold.
+const RECENT: usize = 128;
+// How many steps are guessed first, whatever comes of it.
+const TRIED: usize = 4096;
 
 /// A list of steps under way. The steps are committed in their order: what is committed is what they do one after another.
 #[derive(Drop)]
@@ -279,28 +284,60 @@ impl Board {
         true
     }
 
-    // Posts a guess, or loses the position where there is none or it is refused.
-    fn settle(&mut self, position: usize, found: Option<(Guess, usize)>)
-        requires { IfSome found (λ f. f.0.before ≡ world_after self.old.base.plain self.old.steps f.1) }
+    // Posts guesses, each with its position, that were found on the world after so many steps.
+    fn post_all(&mut self, mut found: Vec<(usize, Guess)>, seen: usize)
+        requires { All (λ f. f.1.before ≡ world_after self.old.base.plain self.old.steps seen) found.items }
         ensures { (self.new.base ≡ self.old.base) × (self.new.steps ≡ self.old.steps) }
     {
-        let posted = match found {
-            Some((guess, seen)) => self.post_seen(position, guess, seen),
-            None => false,
-        };
-        if !posted {
-            let _ = self.lose(position);
+        'found: while let Some((position, guess)) = found.pop() {
+            let _ = self.post_seen(position, guess, seen);
         }
     }
 
-    /// Posts a guess with the number of steps that were committed when it was made, or loses the position where there is none or it is refused. Then it
-    /// commits as far as each position holds something; want of memory is no answer, since what is left is committed at the end.
-    pub(crate) fn hand_in(&mut self, alloc: Global, position: usize, found: Option<(Guess, usize)>)
-        requires { IfSome found (λ f. f.0.before ≡ world_after self.old.base.plain self.old.steps f.1) }
+    // Loses each position from the first up to the end that holds nothing.
+    fn lose_free(&mut self, first: usize, end: usize)
         ensures { (self.new.base ≡ self.old.base) × (self.new.steps ≡ self.old.steps) }
     {
-        self.settle(position, found);
+        'at: for at in first..end {
+            self.fill(at);
+        }
+    }
+
+    /// Posts guesses, each with its position, and the number of steps that were committed when they were made; from the first position up to the end it
+    /// loses what holds nothing then. Then it commits as far as each position holds something; want of memory is no answer, since what is left is committed
+    /// at the end.
+    pub(crate) fn hand_in_all(
+        &mut self,
+        alloc: Global,
+        first: usize,
+        end: usize,
+        found: Vec<(usize, Guess)>,
+        seen: usize,
+    )
+        requires { All (λ f. f.1.before ≡ world_after self.old.base.plain self.old.steps seen) found.items }
+        ensures { (self.new.base ≡ self.old.base) × (self.new.steps ≡ self.old.steps) }
+    {
+        self.post_all(found, seen);
+        self.lose_free(first, end);
         let _ = self.advance(alloc);
+    }
+
+    /// Whether guesses are worth their while: the list is young, or of the guesses among the last steps not less than every fourth was kept.
+    pub(crate) fn is_hopeful(&self) -> bool {
+        if self.marks.len() < TRIED {
+            return true;
+        }
+        let from = self.marks.len().saturating_sub(RECENT);
+        let mut kept = 0usize;
+        let mut rerun = 0usize;
+        for mark in &self.marks[from..] {
+            match mark {
+                Mark::Kept => kept = kept.saturating_add(1),
+                Mark::Rerun => rerun = rerun.saturating_add(1),
+                Mark::Lost => {}
+            }
+        }
+        rerun <= kept.saturating_mul(3)
     }
 
     // Commits the next position, which holds nothing, by a guess for it that was found on the world as it is. Any other is let go.
@@ -341,7 +378,8 @@ impl Board {
             None => false,
         };
         if !is_done {
-            self.hand_in(alloc, position, None);
+            self.fill(position);
+            let _ = self.advance(alloc);
         }
     }
 

@@ -1,7 +1,9 @@
-//! A list by several workers. Each claims a position, guesses its step on the world as it then is, and posts the guess; none waits for another's.
-ghost use Rattle.std.specs.Prelude.{◌≡◌, ◌≤◌, ◌<◌, ◌+◌, All, length, take, vec_len, IfOk, IfErr, IfSome};
+//! A list by several workers. Each claims some positions that follow one another, guesses their steps on the world as it then is, and posts the guesses; none
+//! waits for another's.
+ghost use Rattle.std.specs.Prelude.{◌≡◌, ◌≤◌, ◌<◌, ◌+◌, [], All, length, take, vec_len, IfOk, IfErr, IfSome};
 ghost use Rattle.round_claims.specs.Claimed.{fresh_seat};
 ghost use Rattle.spec_world.specs.Step.{AllInRange};
+ghost use Rattle.spec_world.specs.World.{World as Plain};
 ghost use Rattle.spec_moo.specs.Steps.{play};
 ghost use Rattle.speculate.specs.BoardState.{runs, world_after};
 ghost use denote.Param.Send.{IsSend, IsSync};
@@ -20,8 +22,9 @@ use std::thread::{Builder, Threads};
 use task_step::partial::{Partial, Refusal};
 use task_step::stack::STACK_SIZE;
 use task_step::step::Step;
+use world::worlds::Snapshot;
 
-/// Plays the board of the list `J` to its end by a worker for each seat.
+/// Plays the board of the list `J` to its end by a worker for each seat, each claiming batches of so many positions.
 pub(crate) fn play_by_claims<J: Run, G: Gate, R: Threads + Wait + Sync>(
     rt: &R,
     alloc: Global,
@@ -30,11 +33,11 @@ pub(crate) fn play_by_claims<J: Run, G: Gate, R: Threads + Wait + Sync>(
     claims: &Claims,
     seats: Vec<ClaimSeat>,
     steps: &[Step],
+    size: usize,
 ) -> Result<Report, Partial>
     requires base { board.base ≡ J.base }
     requires list { board.steps ≡ J.steps }
     requires range { AllInRange steps.now }
-    requires positions { claims.now.positions ≡ length steps.now }
     requires seats { All (λ seat. seat ≡ fresh_seat claims.now) seats.items }
     ensures ok { IfOk result (λ r. play board.base.plain board.steps ≡ (r.world.plain, r.outcomes.items)) }
     ensures count { IfOk result (λ r. (length r.outcomes.items ≡ length board.steps) × (length r.marks.items ≡ length board.steps)) }
@@ -43,7 +46,7 @@ pub(crate) fn play_by_claims<J: Run, G: Gate, R: Threads + Wait + Sync>(
     ensures views { IfOk result (λ r. board.base.opened + runs r.marks.items ≤ r.world.opened) }
 {
     let shared: SharedBoard<J> = SharedBoard::new(board);
-    crew(rt, alloc, gate, &shared, claims, seats, steps);
+    crew(rt, alloc, gate, &shared, claims, seats, steps, size);
     conclude(alloc, shared.into_board())
 }
 
@@ -56,9 +59,9 @@ fn crew<J: Run, G: Gate, R: Threads + Wait + Sync>(
     claims: &Claims,
     mut seats: Vec<ClaimSeat>,
     steps: &[Step],
+    size: usize,
 )
     requires range { AllInRange steps.now }
-    requires positions { claims.now.positions ≡ length steps.now }
     requires seats { All (λ seat. seat ≡ fresh_seat claims.now) seats.items }
 {
     let Some(own) = next_seat(claims, &mut seats) else {
@@ -68,19 +71,19 @@ fn crew<J: Run, G: Gate, R: Threads + Wait + Sync>(
         thread::scope_env(),
         rt,
         move |scope|
-            requires { IsSend J.row × IsSync G.row × IsSync R.row × AllInRange steps.now × (claims.now.positions ≡ length steps.now)
+            requires { IsSend J.row × IsSync G.row × IsSync R.row × AllInRange steps.now
                 × All (λ seat. seat ≡ fresh_seat claims.now) seats.items × (own ≡ fresh_seat claims.now) }
         {
             let mut seats = seats;
             'seat: while let Some(seat) = next_seat(claims, &mut seats) {
                 let job = move ||
-                    requires { AllInRange steps.now × (claims.now.positions ≡ length steps.now) × (seat ≡ fresh_seat claims.now) }
-                { work(rt, alloc, gate, shared, claims, seat, steps) };
+                    requires { AllInRange steps.now × (seat ≡ fresh_seat claims.now) }
+                { work(rt, alloc, gate, shared, claims, seat, steps, size) };
                 let _ = Builder::new()
                     .stack_size(STACK_SIZE)
                     .spawn_scoped(scope, job);
             }
-            work(rt, alloc, gate, shared, claims, own, steps);
+            work(rt, alloc, gate, shared, claims, own, steps, size);
         },
     );
 }
@@ -96,7 +99,7 @@ fn next_seat(claims: &Claims, seats: &mut Vec<ClaimSeat>) -> Option<ClaimSeat>
     seats.pop()
 }
 
-// One worker: it claims until nothing is left.
+// One worker: it claims until nothing is left. A ticket stands for as many positions as a batch has.
 fn work<J: Run, G: Gate, R: Wait>(
     rt: &R,
     alloc: Global,
@@ -105,32 +108,99 @@ fn work<J: Run, G: Gate, R: Wait>(
     claims: &Claims,
     mut seat: ClaimSeat,
     steps: &[Step],
+    size: usize,
 )
     requires range { AllInRange steps.now }
-    requires positions { claims.now.positions ≡ length steps.now }
     requires seat { seat.offer ≡ claims.now }
 {
     'claim: while let Some(ticket) = claims.claim(&mut seat) {
-        let at = ticket.position();
-        let found = guess_shared(rt, alloc, gate, shared, steps, at);
-        shared.hand_in(rt, alloc, at, found);
+        let first = ticket.position().saturating_mul(size);
+        let end = first.saturating_add(size).min(steps.len());
+        play_batch(rt, alloc, gate, shared, steps, first, end);
     }
 }
 
-// A guess on the world after the steps that are committed, and how many these are.
+// Guesses from the first position up to the end, and hands them in.
+fn play_batch<J: Run, G: Gate, R: Wait>(
+    rt: &R,
+    alloc: Global,
+    gate: &G,
+    shared: &SharedBoard<J>,
+    steps: &[Step],
+    first: usize,
+    end: usize,
+)
+    requires range { AllInRange steps.now }
+    requires end { end ≤ length steps.now }
+{
+    let mut found = room(alloc, end.saturating_sub(first));
+    let seen = guess_shared(rt, alloc, gate, shared, steps, first, end, &mut found);
+    shared.hand_in(rt, alloc, first, end, found, seen);
+}
+
+// Room for so many guesses, or for none.
+fn room(alloc: Global, count: usize) -> Vec<(usize, Guess)>
+    ensures { result.items ≡ [] }
+{
+    match Vec::with_capacity(alloc, count) {
+        Ok(found) => found,
+        Err(_) => Vec::new(alloc),
+    }
+}
+
+// Guesses on the world after the steps that are committed, and how many these are; none where guesses seldom hold.
 fn guess_shared<J: Run, G: Gate, R: Wait>(
     rt: &R,
     alloc: Global,
     gate: &G,
     shared: &SharedBoard<J>,
     steps: &[Step],
-    at: usize,
-) -> Option<(Guess, usize)>
+    first: usize,
+    end: usize,
+    found: &mut Vec<(usize, Guess)>,
+) -> usize
     requires range { AllInRange steps.now }
-    requires at { at < length steps.now }
-    ensures { IfSome result (λ f. f.0.before ≡ world_after J.base.plain J.steps f.1) }
+    requires end { end ≤ length steps.now }
+    requires empty { found.old.items ≡ [] }
+    ensures { All (λ f. f.1.before ≡ world_after J.base.plain J.steps result) found.new.items }
 {
-    let (snapshot, count) = shared.snapshot(rt).ok()?;
-    let guess = guess_at(alloc, gate, &snapshot, steps, at)?;
-    Some((guess.without_records(), count))
+    match shared.snapshot(rt) {
+        Ok(Some((snapshot, count))) => {
+            guess_batch(alloc, gate, &snapshot, steps, first, end, found);
+            count
+        }
+        _ => 0,
+    }
+}
+
+// Guesses on a snapshot, each with its position.
+fn guess_batch<G: Gate>(
+    alloc: Global,
+    gate: &G,
+    snapshot: &Snapshot,
+    steps: &[Step],
+    first: usize,
+    end: usize,
+    found: &mut Vec<(usize, Guess)>,
+)
+    requires range { AllInRange steps.now }
+    requires end { end ≤ length steps.now }
+    requires empty { found.old.items ≡ [] }
+    ensures { All (λ f. f.1.before ≡ snapshot.now) found.new.items }
+{
+    'at: for at in first..end {
+        if let Some(guess) = guess_at(alloc, gate, snapshot, steps, at) {
+            note(found, at, guess);
+        }
+    }
+}
+
+// Keeps a guess for a position, without its records, if there is memory for it.
+fn note(found: &mut Vec<(usize, Guess)>, at: usize, guess: Guess)
+    ensures { (w : Plain) → guess.before ≡ w → All (λ f. f.1.before ≡ w) found.old.items → All (λ f. f.1.before ≡ w) found.new.items }
+{
+    let guess = guess.without_records();
+    if found.reserve(1).is_ok() {
+        found.push_reserved((at, guess));
+    }
 }

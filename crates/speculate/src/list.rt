@@ -23,6 +23,11 @@ use world::worlds::World;
 /// The most workers of a list.
 pub const MOST_WORKERS: usize = 64;
 
+// How many batches there are for each worker at least, where the list has as many positions, and how large a batch is at most.
+const BATCHES_OF_WORKER: usize = 8;
+
+const LARGEST_BATCH: usize = 8;
+
 /// Runs the steps by as many workers, of which the caller is one: what comes is what the steps do one after another. Refused are, in this order,
 /// a number of workers that is not from 1 to 64, and steps whose numbers do not run on from the world's next one or that are out of range;
 /// then the world is as it was. After want of memory the first steps were run.
@@ -60,8 +65,26 @@ pub fn run_list<G: Gate, R: Threads + Wait + Sync>(
     if workers == 1 || steps.len() <= 1 {
         return play_here(alloc, gate, board, steps);
     }
-    let Ok((claims, seats)) = Claims::new(alloc, steps.len(), workers.min(steps.len())) else {
+    let size = batch_size(steps.len(), workers);
+    let batches = batch_count(steps.len(), size);
+    let Ok((claims, seats)) = Claims::new(alloc, batches, workers.min(steps.len())) else {
         return play_here(alloc, gate, board, steps);
     };
-    play_by_claims::<Brand, G, R>(rt, alloc, gate, board, &claims, seats, steps)
+    play_by_claims::<Brand, G, R>(rt, alloc, gate, board, &claims, seats, steps, size)
+}
+
+// How many positions a worker claims at once: few where the list is short, so that each worker gets some.
+fn batch_size(count: usize, workers: usize) -> usize
+    ensures { 0 < result }
+{
+    let each = workers.saturating_mul(BATCHES_OF_WORKER).max(1);
+    (count / each).min(LARGEST_BATCH).max(1)
+}
+
+// How many batches of this size there are, of which the last may be empty.
+fn batch_count(count: usize, size: usize) -> usize
+    requires { 0 < size }
+    ensures { result ≤ count + 1 }
+{
+    (count / size).saturating_add(1)
 }

@@ -1,5 +1,5 @@
 //! The board of one list, under a lock.
-ghost use Rattle.std.specs.Prelude.{◌≡◌, IfOk, IfSome};
+ghost use Rattle.std.specs.Prelude.{◌≡◌, All, IfOk, IfSome};
 ghost use Rattle.std.specs.Coded.{Coded-set, coded_list};
 ghost use Rattle.spec_world.specs.StepCode.{step_code};
 ghost use Rattle.world.specs.Counted.{counted_code};
@@ -60,28 +60,36 @@ impl<J: Run> SharedBoard<J> {
         }
     }
 
-    /// The world after the steps that are committed, and how many these are.
-    pub fn snapshot<R: Wait>(&self, rt: &R) -> Result<(Snapshot, usize), AllocError>
-        ensures { IfOk result (λ s. s.0 ≡ world_after J.base.plain J.steps s.1) }
+    /// The world after the steps that are committed, and how many these are; none where guesses seldom hold.
+    pub fn snapshot<R: Wait>(&self, rt: &R) -> Result<Option<(Snapshot, usize)>, AllocError>
+        ensures { IfOk result (λ o. IfSome o (λ s. s.0 ≡ world_after J.base.plain J.steps s.1)) }
     {
         let tied = self.board.lock(rt);
+        if !tied.board.is_hopeful() {
+            return Ok(None);
+        }
         let count = tied.board.count();
         let snapshot = tied.board.snapshot()?;
-        Ok((snapshot, count))
+        Ok(Some((snapshot, count)))
     }
 
-    /// Posts a guess, with the number of steps that were committed when it was made, or loses the position where there is none or it is refused. Then it
-    /// commits as far as each position holds something.
+    /// Posts guesses, each with its position, and the number of steps that were committed when they were made, and loses what holds nothing then from the
+    /// first position up to the end. Then it commits as far as each position holds something.
     pub fn hand_in<R: Wait>(
         &self,
         rt: &R,
         alloc: Global,
-        position: usize,
-        found: Option<(Guess, usize)>,
+        first: usize,
+        end: usize,
+        found: Vec<(usize, Guess)>,
+        seen: usize,
     )
-        requires { IfSome found (λ f. f.0.before ≡ world_after J.base.plain J.steps f.1) }
+        requires { All (λ f. f.1.before ≡ world_after J.base.plain J.steps seen) found.items }
     {
-        self.board.lock(rt).board.hand_in(alloc, position, found);
+        self.board
+            .lock(rt)
+            .board
+            .hand_in_all(alloc, first, end, found, seen);
     }
 
     /// The board, when no worker has it any more.

@@ -1,9 +1,7 @@
 -- Whether a text spells a list, by its first part and the others.
-use Rattle.std.proofs.Common.{◌≡◌, ◌≤◌, length, Bool, true, false, ◌&&◌, ◌||◌, not, IsTrue, ℕ, ℤ, pos, negsuc, List, [], ◌∷◌, refl, arith}
+use Rattle.std.proofs.Common.{◌≡◌, ◌≤◌, length, Bool, true, false, ◌&&◌, ◌||◌, not, List, [], ◌∷◌, refl, arith}
 use Rattle.std.specs.Prelude.{if◌then◌else◌}
-use Rattle.spec_value.specs.Datum.{integer, in_number_range}
-use Rattle.spec_program.specs.Tree.{Items, Arguments}
-use Rattle.spec_program.specs.Trees.{is_name, is_literal, expr_fits, arguments_fit, items_fit, has_argument, has_item, has_branch, has_arm, rest_once, takes_rest}
+use Rattle.spec_program.specs.Trees.{is_name, expr_fits, arguments_fit, items_fit, has_argument, has_item, has_branch, has_arm, rest_once, takes_rest}
 use Rattle.moo_tree.specs.ExpressionView.{arguments_of, items_of}
 use Rattle.moo_tree.specs.StatementView.{branches_of, arms_of}
 use Rattle.moo_tree.specs.declared.statement.Branch.{Branch}

@@ -6,7 +6,9 @@ use Rattle.std.specs.Cmp.Lexicographic.{slice_cmp}
 use Rattle.std.specs.FinMap.Entries.{below_all}
 use Rattle.std.specs.List.{list_all, sum_by}
 use Rattle.std.specs.List.Sorted.{IsPermutation}
+use Rattle.std.proofs.lemmas.Option.{slice_get_within}
 use Rattle.std.proofs.lemmas.List.Sums.{sum_by-cons}
+use Rattle.std.proofs.lemmas.List.Folds.{list_any-append}
 use Rattle.std.proofs.lemmas.List.Sorted.{sum_by-IsPermutation, IsPermutation-map}
 use Rattle.spec_value.specs.Datum.{Text, same_text}
 use Rattle.spec_value.specs.Table.{Named, is_named}
@@ -14,7 +16,7 @@ use Rattle.spec_value.proofs.Entries.{first_holds, second_holds, both_hold}
 use Rattle.spec_value.proofs.Same.{same_texts, text_itself}
 use Rattle.spec_world.specs.WellFormed.{has_name, names_once}
 use Rattle.spec_world.proofs.Trees.{some_same}
-use Rattle.spec_world.proofs.Households.{all_named}
+use Rattle.spec_world.proofs.Households.{all_named, of_named}
 use Rattle.spec_world.proofs.SlotTables.{sought}
 use Rattle.world_checks.specs.Merge.{how_many, IsMerge}
 
@@ -127,6 +129,56 @@ merge_follows ts us vs merge once =
     there : (t : Text) → IsTrue (has_name (ts ++ us) t) → IsTrue (has_name vs t)
     there t h = named_there t vs (omega (arith, counted t (ts ++ us) h, merge t, both_counted t ts us))
 
+once_there : (ts : List Text) (t : Text) → IsTrue (names_once ts) → IsTrue (has_name ts t) → how_many t ts ≡ 1
+once_there ts t once h = let some = counted t ts h in let most = once_counted ts once t in omega (arith, some, most)
+
+-- and the other way round
+pub follows_merge : (ts us vs : List Text)
+    → IsTrue ((names_once ts && list_all (λ t. not (has_name us t)) ts) && (list_all (has_name (ts ++ us)) vs && list_all (has_name vs) (ts ++ us)))
+    → IsTrue (names_once us) → IsTrue (names_once vs) → IsMerge ts us vs
+follows_merge ts us vs h once_us once_vs t = go (has_name ts t) (has_name us t) refl refl
+  where
+    own : IsTrue (names_once ts && list_all (λ s. not (has_name us s)) ts)
+    own = first_holds (names_once ts && list_all (λ t. not (has_name us t)) ts) _ h
+
+    both : IsTrue (list_all (has_name (ts ++ us)) vs && list_all (has_name vs) (ts ++ us))
+    both = second_holds (names_once ts && list_all (λ t. not (has_name us t)) ts) _ h
+
+    once_ts : IsTrue (names_once ts)
+    once_ts = first_holds (names_once ts) _ own
+
+    there : IsTrue (has_name (ts ++ us) t) → IsTrue (has_name vs t)
+    there = of_named (has_name vs) (ts ++ us) (second_holds (list_all (has_name (ts ++ us)) vs) _ both) t
+
+    known : IsTrue (has_name vs t) → IsTrue (has_name (ts ++ us) t)
+    known = of_named (has_name (ts ++ us)) vs (first_holds (list_all (has_name (ts ++ us)) vs) _ both) t
+
+    in_both : has_name (ts ++ us) t ≡ (has_name ts t || has_name us t)
+    in_both = list_any-append (same_text t) ts us
+
+    go : (a b : Bool) → has_name ts t ≡ a → has_name us t ≡ b → how_many t vs ≡ how_many t ts + how_many t us
+    go true true e f =
+        let apart : not (has_name us t) ≡ true = of_named (λ s. not (has_name us s)) ts (second_holds (names_once ts) _ own) t e in
+        let clash : false ≡ true = ap not (sym f) ∙ apart in
+        absurd (cc (clash))
+    go true false e f =
+        let one = once_there ts t once_ts e in
+        let none = none_counted t us f in
+        let all = once_there vs t once_vs (there (in_both ∙ ap (λ c. c || has_name us t) e)) in
+        omega (arith, one, none, all)
+    go false true e f =
+        let none = none_counted t ts e in
+        let one = once_there us t once_us f in
+        let all = once_there vs t once_vs (there (in_both ∙ ap (λ c. c || has_name us t) e ∙ f)) in
+        omega (arith, one, none, all)
+    go false false e f = no_more (has_name vs t) refl
+      where
+        no_more : (c : Bool) → has_name vs t ≡ c → how_many t vs ≡ how_many t ts + how_many t us
+        no_more true g =
+            let clash : false ≡ true = sym (in_both ∙ ap (λ d. d || has_name us t) e ∙ f) ∙ known g in
+            absurd (cc (clash))
+        no_more false g = let all = none_counted t vs g in let first = none_counted t ts e in let second = none_counted t us f in omega (arith, all, first, second)
+
 -- ---- the walk
 
 one_more : (t x : Text) (xs : List Text) (k : ℕ) → slice_get xs k ≡ Some x → how_many t (take (suc k) xs) ≡ how_many t (take k xs) + cond (same_text t x) 1 0
@@ -141,15 +193,19 @@ got_one f (y ∷ xs) (suc i) x lt is = got_one f xs i x (omega arith) is
 
 pub record Merged (ts us vs : List Text) (i j k : ℕ) : Type 0 where
   pub places : i + j ≡ k
+  pub names : i ≤ length ts
+  pub others : j ≤ length us
   pub counts : (t : Text) → how_many t (take k vs) ≡ how_many t (take i ts) + how_many t (take j us)
 
 pub none_merged : (ts us vs : List Text) → Merged ts us vs 0 0 0
-none_merged ts us vs = record { places = refl; counts = λ t. refl }
+none_merged ts us vs = record { places = refl; names = omega arith; others = omega arith; counts = λ t. refl }
 
 pub name_merged : (ts us vs : List Text) (i j k : ℕ) (x : Text) → slice_get vs k ≡ Some x → slice_get ts i ≡ Some x → Merged ts us vs i j k → Merged ts us vs (i + 1) j (k + 1)
 name_merged ts us vs i j k x is from h =
     record {
       places = let so_far = h.places in omega (arith, so_far);
+      names = let lt = slice_get_within ts i x from in omega (arith, lt);
+      others = h.others;
       counts = λ t.
           rw (add-one i, add-one k)
           (omega (arith, one_more t x vs k is, one_more t x ts i from, h.counts t));
@@ -159,6 +215,8 @@ pub other_merged : (ts us vs : List Text) (i j k : ℕ) (x : Text) → slice_get
 other_merged ts us vs i j k x is from h =
     record {
       places = let so_far = h.places in omega (arith, so_far);
+      names = h.names;
+      others = let lt = slice_get_within us j x from in omega (arith, lt);
       counts = λ t.
           rw (add-one j, add-one k)
           (omega (arith, one_more t x vs k is, one_more t x us j from, h.counts t));

@@ -1,8 +1,9 @@
 -- Tables in order, by the numbers of their entries.
-use Rattle.std.proofs.Common.{◌≡◌, ℕ, zero, suc, ◌+◌, ◌<◌, ℤ, pos, ◌<ℤ◌, List, [], ◌∷◌, map, length, Some, refl, sym, ap, ◌∙◌, subst, cond, IsTrue, Ordering, Less, Equal, Greater, All, get_or, arith}
+use Rattle.std.proofs.Common.{◌≡◌, ℕ, zero, suc, ◌+◌, ◌<◌, ℤ, pos, ◌<ℤ◌, List, [], ◌∷◌, map, length, Some, refl, sym, ap, ◌∙◌, subst, cond, Bool, true, false, ◌||◌, IsTrue, Ordering, Less, Equal, Greater, All, get_or, arith}
 use Rattle.std.specs.Prelude.{slice_get}
-use Rattle.std.specs.Ordering.{int_cmp, is_lt, is_eq, ordering_reverse}
-use Rattle.std.specs.Cmp.{int_cmp_total, tied_itself, int_cmp_is}
+use Rattle.spec_world.specs.WellFormed.{lists}
+use Rattle.std.specs.Ordering.{MatchOrdering, int_cmp, int_eq, is_lt, is_eq, ordering_reverse}
+use Rattle.std.specs.Cmp.{int_cmp_total, int_ranks, tied_itself, int_cmp_is}
 use Rattle.std.proofs.lemmas.Map.Keys.{sorted_from_all_adjacent}
 use Rattle.std.specs.List.{AllByRecursion, Contains}
 use Rattle.std.specs.List.Sorted.{IsStrictlySortedBy}
@@ -23,6 +24,29 @@ module _ {X : Type 0} where
   unfolding IsStrictlySortedBy
   numbered_from [] h = refl
   numbered_from (e ∷ es) h = both_hold _ _ (below_each e.0 es h.0) (numbered_from es h.1)
+
+  each_below : (k : ℤ) (es : Numbered X) → IsTrue (below_all int_cmp k es) → AllByRecursion (λ y. int_cmp k y ≡ Less) (map (λ e. e.0) es)
+  each_below k [] h = tt
+  each_below k (e ∷ es) h = (less (int_cmp k e.0) (first_holds (is_lt (int_cmp k e.0)) _ h), each_below k es (second_holds (is_lt (int_cmp k e.0)) _ h))
+    where
+      less : (r : Ordering) → IsTrue (is_lt r) → r ≡ Less
+      less Less h = refl
+      less Equal h = cc
+      less Greater h = cc
+
+  -- and the other way round
+  pub numbers_rise : (es : Numbered X) → IsTrue (is_numbered es) → IsStrictlySortedBy int_cmp (map (λ e. e.0) es)
+  unfolding IsStrictlySortedBy
+  numbers_rise [] h = tt
+  numbers_rise (e ∷ es) h = (each_below e.0 es (first_holds (below_all int_cmp e.0 es) _ h), numbers_rise es (second_holds (below_all int_cmp e.0 es) _ h))
+
+  pub is_listed : (es : Numbered X) (k : ℤ) (x : X) → at es k ≡ Some x → IsTrue (lists (map (λ e. e.0) es) k)
+  is_listed [] k x is = cc
+  is_listed (e ∷ es) k x is = go (is_listed es k x) (int_eq k e.0) is
+    where
+      go : (at es k ≡ Some x → IsTrue (lists (map (λ e. e.0) es) k)) → (b : Bool) → cond b (Some e.1) (at es k) ≡ Some x → IsTrue (b || lists (map (λ e. e.0) es) k)
+      go later true found = refl
+      go later false found = later found
 
   -- ---- what is found stands among the numbers
 
@@ -67,3 +91,19 @@ module _ {X : Type 0} where
 -- numbers of which each is less than the next
 pub rising : (xs : List ℤ) → ((k : ℕ) → k + 1 < length xs → get_or xs k (pos 0) <ℤ get_or xs (k + 1) (pos 0)) → IsStrictlySortedBy int_cmp xs
 rising xs h = sorted_from_all_adjacent int_cmp_total xs (pos 0) (λ k lt. sym (int_cmp_is (get_or xs k (pos 0)) (get_or xs (k + 1) (pos 0)) Less (h k lt)))
+
+less_is : (x y : ℤ) → int_cmp x y ≡ Less → x <ℤ y
+less_is x y h = subst (λ r. MatchOrdering r (x <ℤ y) (x ≡ y) (y <ℤ x)) h (int_ranks x y)
+
+each_less : (x : ℤ) (ys : List ℤ) (k : ℕ) → AllByRecursion (λ y. int_cmp x y ≡ Less) ys → k < length ys → int_cmp x (get_or ys k (pos 0)) ≡ Less
+each_less x [] k h lt = absurd (omega arith)
+each_less x (y ∷ ys) zero h lt = h.0
+each_less x (y ∷ ys) (suc k) h lt = each_less x ys k h.1 (omega arith)
+
+-- each of numbers that rise is less than the next
+pub rises_next : (xs : List ℤ) → IsStrictlySortedBy int_cmp xs → (k j : ℕ) → j ≡ suc k → j < length xs → get_or xs k (pos 0) <ℤ get_or xs j (pos 0)
+unfolding IsStrictlySortedBy
+rises_next xs h k zero is lt = absurd (omega (arith, is))
+rises_next [] h k (suc j) is lt = absurd (omega arith)
+rises_next (x ∷ xs) h zero (suc j) is lt = less_is x (get_or xs j (pos 0)) (each_less x xs j h.0 (omega arith))
+rises_next (x ∷ xs) h (suc k) (suc j) is lt = rises_next xs h.1 k j (omega (arith, is)) (omega arith)

@@ -9,8 +9,8 @@ use Rattle.moo_code.specs.Rebuilding.{entries_of}
 use Rattle.moo_task.specs.Keeping.{BeginsAlone, AllAtCall, IsKept, those, entries_for, task_of}
 use Rattle.moo_task.proofs.Kept.{rebuilt_there}
 use Rattle.world_checks.specs.TaskChecksTasks.{is_fork, entries_fit, ForkStands}
-use Rattle.world_checks.specs.Waiting.{OutersFit, AllSpelled}
-use Rattle.world_checks.proofs.Told.{entries_told, rebuilt_spelled, plain_spelled}
+use Rattle.world_checks.specs.Waiting.{OutersFit, OutersFound, AllSpelled}
+use Rattle.world_checks.proofs.Told.{entries_told, entries_found, rebuilt_spelled, plain_spelled}
 
 -- ---- of a task that ran
 
@@ -87,3 +87,31 @@ spelled_told t p why ks is h = subst (λ (u : Task). IsTrue (list_all entry_spel
     go (timed m v) = those_spelled ks (entries_of ks) refl h
     go idle = those_spelled ks (entries_of ks) refl h
     go (reading_on c) = those_spelled ks (entries_of ks) refl h
+
+-- ---- and the other way round
+
+at_call_found : (ks : List Outer) → AllAtCall ks → IsTrue (entries_fit (those (entries_of ks))) → OutersFound ks
+at_call_found [] h fit = absurd h
+at_call_found (native n ∷ ks) h fit = absurd h
+at_call_found (verb k ∷ ks) h fit =
+    entries_found (frame_entry h.frame ∷ h.entries) (verb k ∷ ks) h.waiting h.standing (subst (λ es. IsTrue (entries_fit es)) (rebuilt_there k ks h) fit)
+
+pub outers_found : (t : Task) (p : ℤ) (why : Waiting) (ks : List Outer) → t ≡ task_of p why ks → IsKept why ks → is_fork why ≡ false → IsTrue (entries_fit t.entries)
+    → OutersFound ks
+outers_found t p why ks is kept ran fit = go why kept ran (subst (λ (u : Task). IsTrue (entries_fit u.entries)) is fit)
+  where
+    go : (why : Waiting) → IsKept why ks → is_fork why ≡ false → IsTrue (entries_fit (entries_for why ks)) → OutersFound ks
+    go (forked m) h e f = cc
+    go (timed m v) h e f = at_call_found ks h f
+    go idle h e f = at_call_found ks h f
+    go (reading_on c) h e f = at_call_found ks h f
+
+pub fork_found : (t : Task) (p : ℤ) (why : Waiting) (ks : List Outer) → t ≡ task_of p why ks → IsKept why ks → is_fork why ≡ true → IsTrue (entries_fit t.entries)
+    → BeginsAlone ks × IsTrue (entries_fit (entries ks))
+fork_found t p why ks is kept fork fit = go why kept fork (subst (λ (u : Task). IsTrue (entries_fit u.entries)) is fit)
+  where
+    go : (why : Waiting) → IsKept why ks → is_fork why ≡ true → IsTrue (entries_fit (entries_for why ks)) → BeginsAlone ks × IsTrue (entries_fit (entries ks))
+    go (forked m) h e f = (h, f)
+    go (timed m v) h e f = cc
+    go idle h e f = cc
+    go (reading_on c) h e f = cc

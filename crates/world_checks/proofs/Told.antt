@@ -1,18 +1,18 @@
 -- What is seen of a machine that waits is true of the entries of its task.
-use Rattle.std.proofs.Common.{◌≡◌, refl, sym, subst, ℕ, ◌≤◌, List, [], ◌∷◌, Option, Some, None, IsTrue, ◌&&◌, arith, nat_le}
+use Rattle.std.proofs.Common.{◌≡◌, refl, sym, subst, ℕ, ◌≤◌, List, [], ◌∷◌, Option, Some, None, IsTrue, ◌&&◌, arith, nat_le, leb-true}
 use Rattle.std.proofs.lemmas.Bool.Decides.{nat_tests}
 use Rattle.std.specs.List.{list_all}
 use Rattle.spec_program.specs.Construct.{Construct, Piece}
 use Rattle.spec_program.specs.Trees.{program_fits}
 use Rattle.spec_world.specs.World.{Entry, frame_entry, native_entry, Native}
-use Rattle.spec_world.specs.WellFormed.{begins_with_frame, goes_on_after_frame, frames, entry_fits, native_fits, FramesStand}
-use Rattle.spec_value.proofs.Entries.{both_hold}
+use Rattle.spec_world.specs.WellFormed.{begins_with_frame, goes_on_after_frame, frames, frame_fits, entry_fits, native_fits, FramesStand}
+use Rattle.spec_value.proofs.Entries.{first_holds, second_holds, both_hold}
 use Rattle.spec_holding.specs.Whole.{entry_spelled}
 use Rattle.moo_code.specs.Machine.{Kept, Outer, verb, native, verbs, entries}
 use Rattle.moo_code.specs.Rebuilding.{entries_of, before_all, rebuilt, with_pieces}
 use Rattle.moo_code.specs.Stands.{AllWait}
 use Rattle.moo_code.proofs.Waiting.{same_frames}
-use Rattle.world_checks.specs.Waiting.{begins_with_verb, goes_on_after_verb, AllFit, OutersFit, AllSpelled}
+use Rattle.world_checks.specs.Waiting.{begins_with_verb, goes_on_after_verb, AllFit, AllFound, OutersFit, OutersFound, AllSpelled}
 
 -- ---- the order
 
@@ -87,3 +87,43 @@ pub plain_spelled : (ks : List Outer) → AllSpelled ks → IsTrue (list_all ent
 plain_spelled [] h = refl
 plain_spelled (verb k ∷ ks) h = both_hold (program_fits [] k.program) _ h.0 (plain_spelled ks h.1)
 plain_spelled (native n ∷ ks) h = plain_spelled ks h.1
+
+-- ---- and the other way round
+
+all_found : (es : List Entry) (ks : List Outer) → AllWait es ks → FramesStand es → IsTrue (list_all entry_fits es) → AllFound ks
+all_found [] [] h s g = tt
+all_found (frame_entry f ∷ es) (verb k ∷ ks) h s g = (
+  record { frame = f; waits = h.0; stands = s.0; fits = first_holds (frame_fits f) _ g },
+  all_found es ks h.1 s.1 (second_holds (frame_fits f) _ g),
+)
+all_found (native_entry n ∷ es) (native m ∷ ks) h s g = (
+  subst (λ (o : Native). IsTrue (native_fits o.name o.stage o.arguments)) h.0 (first_holds (native_fits n.name n.stage n.arguments) _ g),
+  all_found es ks h.1 s (second_holds (native_fits n.name n.stage n.arguments) _ g),
+)
+all_found [] (k ∷ ks) h s g = absurd h
+all_found (frame_entry f ∷ es) [] h s g = absurd h
+all_found (frame_entry f ∷ es) (native m ∷ ks) h s g = absurd h
+all_found (native_entry n ∷ es) [] h s g = absurd h
+all_found (native_entry n ∷ es) (verb k ∷ ks) h s g = absurd h
+
+few_enough : (n m : ℕ) → n ≡ m → IsTrue (nat_le n 50) → m ≤ 50
+few_enough n m e le = let most : n ≤ 50 = leb-true n 50 le in omega (arith, e, most)
+
+pub entries_found : (es : List Entry) (ks : List Outer) → AllWait es ks → FramesStand es → IsTrue (begins_with_frame es && nat_le (frames es) 50 && list_all entry_fits es)
+    → OutersFound ks
+entries_found es ks h s g =
+    let first = first_holds (begins_with_frame es && nat_le (frames es) 50) _ g in
+    record {
+      order = subst (λ b. IsTrue b) (sym (same_beginning es ks h)) (first_holds (begins_with_frame es) _ first);
+      few = few_enough (frames es) (verbs ks) (same_frames es ks h) (second_holds (begins_with_frame es) _ first);
+      each = all_found es ks h s (second_holds (begins_with_frame es && nat_le (frames es) 50) _ g);
+    }
+
+pub order_of : (ks : List Outer) → OutersFound ks → IsTrue (begins_with_verb ks)
+order_of ks h = h.order
+
+pub few_of : (ks : List Outer) → OutersFound ks → verbs ks ≤ 50
+few_of ks h = h.few
+
+pub each_of : (ks : List Outer) → OutersFound ks → AllFound ks
+each_of ks h = h.each

@@ -37,3 +37,42 @@ well_formed w next objects links tasks =
 
 pub all_sound : (w : World) → IsTrue (nat_le 1 w.next && nat_le w.next 33554432) → ObjectsAgree w → LinksAgree w → TasksAreSound w → TextsSpell w → IsSound w
 all_sound w next objects links tasks spelled = record { well_formed = well_formed w next objects links tasks; spelled = spelled }
+
+-- ---- and the other way round
+
+pub next_of : (w : World) → IsSound w → IsTrue (nat_le 1 w.next && nat_le w.next 33554432)
+next_of w h = h.well_formed.next_in_range
+
+pub objects_of : (w : World) → IsSound w → ObjectsAgree w
+objects_of w h =
+    let f = h.well_formed in
+    record {
+      objects_in_order = f.objects_in_order;
+      greatest_in_range = f.greatest_in_range;
+      numbers = f.numbers;
+      parents_end = f.parents_end;
+      locations_end = f.locations_end;
+      children = f.children;
+      parents = f.parents;
+      contents = f.contents;
+      locations = f.locations;
+      names_on_a_line = f.names_on_a_line;
+      slot_order = f.slot_order;
+      slots = f.slots;
+      definers = f.definers;
+    }
+
+pub links_of : (w : World) → IsSound w → LinksAgree w
+links_of w h = record { links_in_order = h.well_formed.links_in_order; links = h.well_formed.links; persons = h.well_formed.persons }
+
+pub tasks_of : (w : World) → IsSound w → TasksAreSound w
+tasks_of w h =
+    let f = h.well_formed in
+    record {
+      tasks_in_order = f.tasks_in_order;
+      task_ids = f.task_ids;
+      task_entries = f.task_entries;
+      task_waits = f.task_waits;
+      task_places = f.task_places;
+      readers = f.readers;
+    }

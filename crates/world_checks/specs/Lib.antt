@@ -1,9 +1,11 @@
 pub mod Descent
+pub mod Naming
 pub mod Told
 pub mod Held
 pub mod Marks
 pub mod Merge
 pub mod Ways
+pub mod Guessed
 pub mod Persons
 pub mod Arguments
 pub mod TaskChecksTasks

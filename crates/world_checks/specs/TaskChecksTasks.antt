@@ -25,3 +25,7 @@ ForkStands why es = Unit {0}
 abbrev pub BeginsFitting : Outer → Type 0
 BeginsFitting (verb k) = (f : Frame) → f.variables ≡ k.variables → f.pieces ≡ [] → IsTrue (frame_fits f)
 BeginsFitting (native n) = ⊥
+
+abbrev pub BeginsFound : Outer → Type 0
+BeginsFound (verb k) = (f : Frame) × (f.variables ≡ k.variables) × IsTrue (frame_fits f)
+BeginsFound (native n) = ⊥

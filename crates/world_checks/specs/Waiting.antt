@@ -34,6 +34,25 @@ OuterFits (native n) = IsTrue (native_fits n.name n.stage n.arguments)
 abbrev pub AllFit : List Outer → Type 0
 AllFit ks = AllByRecursion OuterFits ks
 
+-- there is a frame for which a verb waits at its call, and it fits
+pub record VerbFound (k : Kept) : Type 0 where
+  pub frame : Frame
+  pub waits : Waits frame k
+  pub stands : StandsAtCall frame
+  pub fits : IsTrue (frame_fits frame)
+
+abbrev pub OuterFound : Outer → Type 0
+OuterFound (verb k) = VerbFound k
+OuterFound (native n) = IsTrue (native_fits n.name n.stage n.arguments)
+
+abbrev pub AllFound : List Outer → Type 0
+AllFound ks = AllByRecursion OuterFound ks
+
+pub record OutersFound (ks : List Outer) : Type 0 where
+  pub order : IsTrue (begins_with_verb ks)
+  pub few : verbs ks ≤ 50
+  pub each : AllFound ks
+
 -- what waits of a task that ran
 pub record OutersFit (ks : List Outer) : Type 0 where
   pub order : IsTrue (begins_with_verb ks)

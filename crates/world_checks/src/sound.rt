@@ -10,14 +10,24 @@ use std::alloc::{AllocError, Global};
 use world::draft::Draft;
 
 /// Whether a draft may be a world: it is well formed, and texts spell its programs.
-#[tactic(auto, using(crate::proofs::Whole::all_sound))]
+#[tactic(auto, using(crate::proofs::Whole::all_sound, crate::proofs::Whole::next_of, crate::proofs::Whole::objects_of, crate::proofs::Whole::links_of, crate::proofs::Whole::tasks_of))]
 pub fn is_sound(alloc: Global, draft: &Draft) -> Result<bool, AllocError>
-    ensures { IfOk result (λ sound. IsTrue sound → IsSound draft.now) }
+    ensures tells { IfOk result (λ sound. IsTrue sound → IsSound draft.now) }
+    ensures finds { IfOk result (λ sound. IsSound draft.now → IsTrue sound) }
 {
-    if !next_is_sound(draft) || !objects_are_sound(alloc, draft)? {
+    if !next_is_sound(draft) {
         return Ok(false);
     }
-    if !links_are_sound(alloc, draft)? || !tasks_are_sound(alloc, draft)? {
+    let objects = objects_are_sound(alloc, draft)?;
+    if !objects {
+        return Ok(false);
+    }
+    let links = links_are_sound(alloc, draft)?;
+    if !links {
+        return Ok(false);
+    }
+    let tasks = tasks_are_sound(alloc, draft)?;
+    if !tasks {
         return Ok(false);
     }
     let spelled = is_spelled(alloc, draft)?;

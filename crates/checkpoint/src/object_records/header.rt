@@ -1,7 +1,7 @@
 //! Headers of objects, from their lines.
-use crate::checkpoint_lines::bits::ObjectFlags;
-use crate::checkpoint_lines::fault::DecodeError;
-use crate::checkpoint_lines::lines::Lines;
+use checkpoint_lines::fault::DecodeError;
+use checkpoint_lines::lines::Lines;
+use line_fields::bits::ObjectFlags;
 use moo_value::text::Text;
 use std::alloc::Global;
 use view::header::Header;

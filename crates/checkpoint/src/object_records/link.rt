@@ -1,7 +1,7 @@
 //! Links, from their lines.
-use crate::checkpoint_lines::fault::{DecodeError, FaultKind};
-use crate::checkpoint_lines::held::{object_in, text_in, texts_in};
-use crate::checkpoint_lines::lines::Lines;
+use checkpoint_lines::fault::{DecodeError, FaultKind};
+use checkpoint_lines::lines::Lines;
+use line_fields::held::{object_in, text_in, texts_in};
 use moo_value::text::Text;
 use moo_value::value::{Shown, Value};
 use std::alloc::{AllocError, Global};

@@ -1,25 +1,13 @@
 //! Objects as they stand in lines.
-use crate::checkpoint_lines::fault::DecodeError;
-use crate::checkpoint_lines::lines::Lines;
 use crate::object_records::header::{header, next_flags, next_naming};
 use crate::object_records::slot::next_slots;
 use crate::object_records::verb::next_verbs;
+use checkpoint_lines::fault::DecodeError;
+use checkpoint_lines::lines::Lines;
+use named_objects::record::ObjectRecord;
 use std::alloc::Global;
 use view::header::Header;
 use view::object::Lists;
-use view::slot::Slot;
-use view::verb::Verb;
-
-/// An object whose slots have no names yet. They stand in the order in which the object itself defines its properties,
-/// then its parent, and so on upwards.
-#[derive(Drop)]
-pub struct ObjectRecord {
-    pub number: i32,
-    pub header: Header,
-    pub lists: Lists,
-    pub slots: Vec<Slot>,
-    pub verbs: Vec<Verb>,
-}
 
 /// So many objects, from the next lines.
 pub fn next_objects(

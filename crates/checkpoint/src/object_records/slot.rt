@@ -1,7 +1,7 @@
 //! Slots, from their lines.
-use crate::checkpoint_lines::fault::DecodeError;
-use crate::checkpoint_lines::lines::Lines;
-use crate::checkpoint_lines::row::Row;
+use checkpoint_lines::fault::DecodeError;
+use checkpoint_lines::lines::Lines;
+use checkpoint_lines::row::Row;
 use moo_value::value::Value;
 use std::alloc::Global;
 use view::slot::Slot;

@@ -1,9 +1,9 @@
 //! Verbs, from their lines.
-use crate::checkpoint_lines::bits::VerbBits;
-use crate::checkpoint_lines::fault::{DecodeError, FaultKind};
-use crate::checkpoint_lines::lines::Lines;
-use crate::checkpoint_lines::number::natural;
-use crate::checkpoint_lines::row::Row;
+use checkpoint_lines::fault::{DecodeError, FaultKind};
+use checkpoint_lines::lines::Lines;
+use checkpoint_lines::row::Row;
+use line_fields::bits::VerbBits;
+use line_fields::number::natural;
 use moo_compiler::program::Program;
 use moo_value::text::Text;
 use std::alloc::Global;

@@ -1,9 +1,9 @@
 //! What is under way in a task, from its lines: verbs, and built-in functions that wait for one.
-use crate::checkpoint_lines::fault::{DecodeError, FaultKind};
-use crate::checkpoint_lines::lines::Lines;
-use crate::checkpoint_lines::row::Row;
 use crate::task_records::frame::{Head, frame_head, next_frame};
 use crate::task_records::native::native;
+use checkpoint_lines::fault::{DecodeError, FaultKind};
+use checkpoint_lines::lines::Lines;
+use checkpoint_lines::row::Row;
 use moo_task::frame::Outer;
 use moo_task::native::Native;
 use std::alloc::Global;

@@ -1,11 +1,11 @@
 //! Verbs under way, from their lines.
-use crate::checkpoint_lines::fault::{DecodeError, FaultKind};
-use crate::checkpoint_lines::lines::Lines;
-use crate::checkpoint_lines::row::Row;
 use crate::held_values::wanted::{Wanted, wanted_at};
 use crate::task_records::held::next_held;
 use crate::task_records::start::next_start;
 use crate::task_records::variables::{Variables, next_variables};
+use checkpoint_lines::fault::{DecodeError, FaultKind};
+use checkpoint_lines::lines::Lines;
+use checkpoint_lines::row::Row;
 use moo_program::program::Program;
 use moo_task::frame::Frame;
 use moo_task::moo_machine::call::Call;

@@ -1,8 +1,8 @@
 //! What a verb holds, from its lines.
-use crate::checkpoint_lines::fault::{DecodeError, FaultKind};
-use crate::checkpoint_lines::lines::Lines;
 use crate::held_values::fits::fits;
 use crate::held_values::wanted::Wanted;
+use checkpoint_lines::fault::{DecodeError, FaultKind};
+use checkpoint_lines::lines::Lines;
 use moo_task::moo_machine::operands::Operands;
 use moo_value::value::Value;
 use std::alloc::{AllocError, Global};

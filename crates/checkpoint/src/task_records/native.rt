@@ -1,7 +1,7 @@
 //! Built-in functions that wait, from their lines.
-use crate::checkpoint_lines::fault::{DecodeError, FaultKind};
-use crate::checkpoint_lines::held::items_in;
-use crate::checkpoint_lines::row::Row;
+use checkpoint_lines::fault::{DecodeError, FaultKind};
+use checkpoint_lines::row::Row;
+use line_fields::held::items_in;
 use moo_task::native::{Native, NativeName};
 use moo_value::items::copied;
 use moo_value::value::{Shown, Value};

@@ -1,7 +1,7 @@
 //! What a command line gave, from its line.
-use crate::checkpoint_lines::fault::{DecodeError, FaultKind};
-use crate::checkpoint_lines::held::{items_in, object_in, text_in};
-use crate::checkpoint_lines::lines::Lines;
+use checkpoint_lines::fault::{DecodeError, FaultKind};
+use checkpoint_lines::lines::Lines;
+use line_fields::held::{items_in, object_in, text_in};
 use moo_task::moo_machine::call::Start;
 use moo_task::start::SharedStart;
 use moo_value::value::Value;

@@ -1,8 +1,8 @@
 //! Tasks, from their lines.
-use crate::checkpoint_lines::fault::DecodeError;
-use crate::checkpoint_lines::lines::Lines;
 use crate::task_records::entry::next_entries;
 use crate::task_records::waiting::next_waiting;
+use checkpoint_lines::fault::DecodeError;
+use checkpoint_lines::lines::Lines;
 use moo_task::effect::Waiting;
 use moo_task::task::Task;
 use std::alloc::Global;

@@ -1,7 +1,7 @@
 //! The variables of a verb, from their lines.
-use crate::checkpoint_lines::fault::DecodeError;
-use crate::checkpoint_lines::lines::Lines;
 use crate::task_records::names::SlotNames;
+use checkpoint_lines::fault::DecodeError;
+use checkpoint_lines::lines::Lines;
 use moo_program::program::Program;
 use moo_task::variables::{SharedVariables, Variable};
 use moo_value::text::Text;

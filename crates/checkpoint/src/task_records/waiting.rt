@@ -1,7 +1,7 @@
 //! How a task waits, from its line.
-use crate::checkpoint_lines::fault::{DecodeError, FaultKind};
-use crate::checkpoint_lines::lines::Lines;
-use crate::checkpoint_lines::row::Row;
+use checkpoint_lines::fault::{DecodeError, FaultKind};
+use checkpoint_lines::lines::Lines;
+use checkpoint_lines::row::Row;
 use moo_task::effect::Waiting;
 use std::alloc::Global;
 

@@ -2,8 +2,8 @@
 ghost use Rattle.std.specs.Prelude.{◌≡◌, IfOk};
 ghost use Rattle.spec_world.specs.Checkpoint.{checkpoint_text};
 
-use crate::checkpoint_lines::fault::DecodeError;
 use crate::decode::decode;
+use checkpoint_lines::fault::DecodeError;
 use std::alloc::{AllocError, Global};
 use std::rt::Files;
 use std::{fs, io};

@@ -15,7 +15,8 @@ const IDS_OF_STEP: u64 = 64;
 
 /// Whether the task of an id, if it waits, is that of a well-formed world.
 pub fn task_fits_at(alloc: Global, draft: &Draft, id: i32) -> Result<bool, AllocError>
-    ensures { IfOk result (λ fits. IsTrue fits → TaskFitsAt draft.now id) }
+    ensures tells { IfOk result (λ fits. IsTrue fits → TaskFitsAt draft.now id) }
+    ensures finds { IfOk result (λ fits. TaskFitsAt draft.now id → IsTrue fits) }
 {
     match draft.task(id) {
         Some(task) => task_fits(alloc, draft, id, task),
@@ -23,12 +24,19 @@ pub fn task_fits_at(alloc: Global, draft: &Draft, id: i32) -> Result<bool, Alloc
     }
 }
 
-#[tactic(auto, using(crate::proofs::Fitting::task_fits))]
+#[tactic(auto, using(crate::proofs::Fitting::task_fits, crate::proofs::Fitting::id_of, crate::proofs::Fitting::entries_of, crate::proofs::Fitting::moment_of, crate::proofs::Fitting::link_of))]
 fn task_fits(alloc: Global, draft: &Draft, id: i32, task: &Task) -> Result<bool, AllocError>
-    ensures { IfOk result (λ fits. IsTrue fits → TaskFits draft.now id task.now) }
+    ensures tells { IfOk result (λ fits. IsTrue fits → TaskFits draft.now id task.now) }
+    ensures finds { IfOk result (λ fits. TaskFits draft.now id task.now → IsTrue fits) }
 {
     know_places(task);
-    if !id_fits(id, draft.next()) || !moment_fits(task) || !is_linked(draft, task) {
+    if !id_fits(id, draft.next()) {
+        return Ok(false);
+    }
+    if !moment_fits(task) {
+        return Ok(false);
+    }
+    if !is_linked(draft, task) {
         return Ok(false);
     }
     let fit = entries_fit(alloc, task)?;
@@ -37,7 +45,8 @@ fn task_fits(alloc: Global, draft: &Draft, id: i32, task: &Task) -> Result<bool,
 
 // Whether a step before this one may have given the id.
 fn id_fits(id: i32, next: u64) -> bool
-    ensures { IsTrue result → IsTrue (int_le (pos 1) id && int_le id (pos ((next - 1) * 64))) }
+    ensures tells { IsTrue result → IsTrue (int_le (pos 1) id && int_le id (pos ((next - 1) * 64))) }
+    ensures finds { IsTrue (int_le (pos 1) id && int_le id (pos ((next - 1) * 64))) → IsTrue result }
 {
     if id < 1 {
         return false;

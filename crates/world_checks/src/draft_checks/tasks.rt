@@ -1,6 +1,7 @@
 //! The tasks of a world.
-ghost use Rattle.std.specs.Prelude.{◌≡◌, ◌++◌, [], IfOk, OnOk, IsTrue};
+ghost use Rattle.std.specs.Prelude.{◌≡◌, ℤ, ◌++◌, [], IfOk, OnOk, IsTrue};
 ghost use Rattle.std.specs.List.{All};
+ghost use Rattle.spec_world.specs.Agreeing.{LinksAgree};
 ghost use Rattle.world_checks.specs.DraftChecksTasks.{TaskFitsAt, TasksAreSound, all_read, before, read_at as read_at_of};
 
 use crate::draft_checks::task::task_fits_at;
@@ -11,9 +12,10 @@ use world::draft::Draft;
 
 /// Whether the tasks that wait are those of a well-formed world: their ids rise, and were given by steps before the next one, each
 /// task is one that can wait so, and no two tasks read on one connection.
-#[tactic(auto, using(crate::proofs::Reading::tasks_sound))]
+#[tactic(auto, using(crate::proofs::Reading::tasks_sound, crate::proofs::Reading::ids_rise, crate::proofs::Reading::each_fits))]
 pub fn tasks_are_sound(alloc: Global, draft: &Draft) -> Result<bool, AllocError>
-    ensures { IfOk result (λ sound. IsTrue sound → TasksAreSound draft.now) }
+    ensures tells { IfOk result (λ sound. IsTrue sound → TasksAreSound draft.now) }
+    ensures finds { IfOk result (λ sound. LinksAgree draft.now → TasksAreSound draft.now → IsTrue sound) }
 {
     let waiting = draft.waiting()?;
     let ids = waiting.as_slice();
@@ -30,7 +32,8 @@ pub fn tasks_are_sound(alloc: Global, draft: &Draft) -> Result<bool, AllocError>
 }
 
 fn all_fit(alloc: Global, draft: &Draft, ids: &[i32]) -> Result<bool, AllocError>
-    ensures { IfOk result (λ fit. IsTrue fit → All (TaskFitsAt draft.now) ids.now) }
+    ensures tells { IfOk result (λ fit. IsTrue fit → All (TaskFitsAt draft.now) ids.now) }
+    ensures finds { IfOk result (λ fit. ((id : ℤ) → TaskFitsAt draft.now id) → IsTrue fit) }
 {
     for id in ids {
         let fits = task_fits_at(alloc, draft, *id)?;

@@ -14,19 +14,22 @@ use tree_parts::parts::part_at;
 /// Whether the constructs from one down a path, part numbers counted from 1, hold what they must in those parts: these values, the deepest
 /// first.
 pub fn path_fits(node: Node<'_>, path: &[usize], held: &[Value]) -> Result<bool, AllocError>
-    ensures { IfOk result (λ fits. IsTrue fits → IsTrue (fits_down 0 (construct_of node.entry) path.now held.now)) }
+    ensures tells { IfOk result (λ fits. IsTrue fits → IsTrue (fits_down 0 (construct_of node.entry) path.now held.now)) }
+    ensures finds { IfOk result (λ fits. IsTrue (fits_down 0 (construct_of node.entry) path.now held.now) → IsTrue fits) }
 {
     path_fits_within(0, node, path, held)
 }
 
 // With so many loops around. A path is no longer than the tree is deep.
+#[tactic(auto, using(crate::proofs::Leaving::held_so_many))]
 fn path_fits_within(
     around: usize,
     node: Node<'_>,
     path: &[usize],
     held: &[Value],
 ) -> Result<bool, AllocError>
-    ensures { IfOk result (λ fits. IsTrue fits → IsTrue (fits_down around (construct_of node.entry) path.now held.now)) }
+    ensures tells { IfOk result (λ fits. IsTrue fits → IsTrue (fits_down around (construct_of node.entry) path.now held.now)) }
+    ensures finds { IfOk result (λ fits. IsTrue (fits_down around (construct_of node.entry) path.now held.now) → IsTrue fits) }
 {
     let Some((number, deeper)) = path.split_first() else {
         return Ok(true);

@@ -17,7 +17,8 @@ use tree_parts::holds::{Holds, Values, target_arity};
 
 /// Whether values, the deepest first, are what is held, with so many loops around.
 pub fn held_fits(around: usize, holds: Holds<'_>, held: &[Value]) -> Result<bool, AllocError>
-    ensures { IfOk result (λ fits. IsTrue fits → IsTrue (spec.held_fits around (holds_of holds.entry) held.now)) }
+    ensures tells { IfOk result (λ fits. IsTrue fits → IsTrue (spec.held_fits around (holds_of holds.entry) held.now)) }
+    ensures finds { IfOk result (λ fits. IsTrue (spec.held_fits around (holds_of holds.entry) held.now) → IsTrue fits) }
 {
     match holds {
         Holds::Values(values) => values_fit(values, held),
@@ -27,8 +28,10 @@ pub fn held_fits(around: usize, holds: Holds<'_>, held: &[Value]) -> Result<bool
     }
 }
 
+#[tactic(auto, using(crate::proofs::Leaving::as_many_arms))]
 fn values_fit(values: Values<'_>, held: &[Value]) -> Result<bool, AllocError>
-    ensures { IfOk result (λ fits. IsTrue fits → IsTrue (spec.kinds_fit (kinds_of values.entry) held.now)) }
+    ensures tells { IfOk result (λ fits. IsTrue fits → IsTrue (spec.kinds_fit (kinds_of values.entry) held.now)) }
+    ensures finds { IfOk result (λ fits. IsTrue (spec.kinds_fit (kinds_of values.entry) held.now) → IsTrue fits) }
 {
     match values {
         Values::Any(count) => Ok(held.len() == usize::from(count)),
@@ -51,13 +54,14 @@ fn values_fit(values: Values<'_>, held: &[Value]) -> Result<bool, AllocError>
 }
 
 fn is_one_more(count: usize, held: &[Value]) -> bool
-    ensures { IsTrue result → length held.now ≡ suc count }
+    ensures tells { IsTrue result → length held.now ≡ suc count }
+    ensures finds { length held.now ≡ suc count → IsTrue result }
 {
     held.len() > 0 && held.len() - 1 == count
 }
 
 fn is_list(value: &Value) -> bool
-    ensures { IsTrue result → IsTrue (spec.kind_fits any_list value.now) }
+    ensures { result ≡ spec.kind_fits any_list value.now }
 {
     match value.shown() {
         Shown::List(_) => true,
@@ -66,16 +70,21 @@ fn is_list(value: &Value) -> bool
 }
 
 // Whether a list comes behind so many values, and nothing behind it.
+#[tactic(auto, using(crate::proofs::Leaving::one_longer, crate::proofs::Leaving::first_kinds))]
 fn ends_in_list(count: usize, held: &[Value]) -> bool
     ensures length { IsTrue result → length held.now ≡ suc count }
+    ensures finds { (kinds : List Kind) → length kinds ≡ count → IsTrue (spec.kinds_fit (kinds ++ any_list ∷ []) held.now) → IsTrue result }
+    ensures first { (kinds : List Kind) → length kinds ≡ count → IsTrue (spec.kinds_fit (kinds ++ any_list ∷ []) held.now) → IsTrue (spec.kinds_fit kinds (take count held.now)) }
     ensures kinds { IsTrue result → (kinds : List Kind) → IsTrue (spec.kinds_fit kinds (take count held.now)) → IsTrue (spec.kinds_fit (kinds ++ any_list ∷ []) held.now) }
 {
     is_one_more(count, held) && is_list(&held[count])
 }
 
 // Whether a value is what is held of codes.
+#[tactic(auto, using(crate::proofs::Leaving::zero_kind))]
 fn code_fits(codes: &Codes, value: &Value) -> bool
-    ensures { IsTrue result → IsTrue (spec.kind_fits (codes_kind (codes_of codes.now)) value.now) }
+    ensures tells { IsTrue result → IsTrue (spec.kind_fits (codes_kind (codes_of codes.now)) value.now) }
+    ensures finds { IsTrue (spec.kind_fits (codes_kind (codes_of codes.now)) value.now) → IsTrue result }
 {
     match codes {
         Codes::Any => is_zero(value),
@@ -84,7 +93,8 @@ fn code_fits(codes: &Codes, value: &Value) -> bool
 }
 
 fn is_zero(value: &Value) -> bool
-    ensures { IsTrue result → value.now ≡ integer (pos 0) }
+    ensures tells { IsTrue result → value.now ≡ integer (pos 0) }
+    ensures finds { value.now ≡ integer (pos 0) → IsTrue result }
 {
     match value.shown() {
         Shown::Integer(number) => number == 0,
@@ -92,16 +102,20 @@ fn is_zero(value: &Value) -> bool
     }
 }
 
+#[tactic(auto, using(crate::proofs::Leaving::as_many, crate::proofs::Leaving::only_kind))]
 fn is_codes(codes: &Codes, held: &[Value]) -> bool
-    ensures { IsTrue result → IsTrue (spec.kinds_fit (codes_kind (codes_of codes.now) ∷ []) held.now) }
+    ensures tells { IsTrue result → IsTrue (spec.kinds_fit (codes_kind (codes_of codes.now) ∷ []) held.now) }
+    ensures finds { IsTrue (spec.kinds_fit (codes_kind (codes_of codes.now) ∷ []) held.now) → IsTrue result }
 {
     held.len() == 1 && code_fits(codes, &held[0])
 }
 
 // A value for each arm.
+#[tactic(auto, using(crate::proofs::Leaving::arm_at))]
 fn arms_fit(arms: &[Arm], held: &[Value]) -> bool
     requires { length held.now ≡ length arms.now }
-    ensures { IsTrue result → IsTrue (spec.kinds_fit (arm_kinds (arms_of arms.now)) held.now) }
+    ensures tells { IsTrue result → IsTrue (spec.kinds_fit (arm_kinds (arms_of arms.now)) held.now) }
+    ensures finds { IsTrue (spec.kinds_fit (arm_kinds (arms_of arms.now)) held.now) → IsTrue result }
 {
     for i in 0..arms.len() {
         let arm = &arms[i];
@@ -113,8 +127,10 @@ fn arms_fit(arms: &[Arm], held: &[Value]) -> bool
 }
 
 // A value for each arm, and a list.
+#[tactic(auto, using(crate::proofs::Leaving::arms_count))]
 fn arms_and_list_fit(arms: &[Arm], held: &[Value]) -> bool
-    ensures { IsTrue result → IsTrue (spec.kinds_fit (arm_kinds (arms_of arms.now) ++ any_list ∷ []) held.now) }
+    ensures tells { IsTrue result → IsTrue (spec.kinds_fit (arm_kinds (arms_of arms.now) ++ any_list ∷ []) held.now) }
+    ensures finds { IsTrue (spec.kinds_fit (arm_kinds (arms_of arms.now) ++ any_list ∷ []) held.now) → IsTrue result }
 {
     let count = arms.len();
     ends_in_list(count, held) && arms_fit(arms, &held[..count])

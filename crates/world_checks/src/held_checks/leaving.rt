@@ -10,13 +10,15 @@ use moo_value::value::{Shown, Value};
 
 /// Whether values are how a body was left, with so many loops around.
 pub fn leaving_fits(around: usize, held: &[Value]) -> bool
-    ensures { IsTrue result → IsTrue (spec.held_fits around why_left held.now) }
+    ensures tells { IsTrue result → IsTrue (spec.held_fits around why_left held.now) }
+    ensures finds { IsTrue (spec.held_fits around why_left held.now) → IsTrue result }
 {
     held.len() == 1 && tells_leaving(around, &held[0])
 }
 
 fn tells_leaving(around: usize, value: &Value) -> bool
-    ensures { IsTrue result → IsTrue (spec.held_fits around why_left (value.now ∷ [])) }
+    ensures tells { IsTrue result → IsTrue (spec.held_fits around why_left (value.now ∷ [])) }
+    ensures finds { IsTrue (spec.held_fits around why_left (value.now ∷ [])) → IsTrue result }
 {
     let Shown::List(items) = value.shown() else {
         return false;
@@ -31,8 +33,10 @@ fn tells_leaving(around: usize, value: &Value) -> bool
 }
 
 // The end of the body, a return, an error, or a way out of loops, with what is told of it.
+#[tactic(auto, using(crate::proofs::Leaving::ended_so, crate::proofs::Leaving::left_so, crate::proofs::Leaving::left_no_other))]
 fn way_fits(around: usize, way: i32, rest: &[Value]) -> bool
-    ensures { IsTrue result → IsTrue (spec.tells_leaving around (item (integer way) (of_list rest.now))) }
+    ensures tells { IsTrue result → IsTrue (spec.tells_leaving around (item (integer way) (of_list rest.now))) }
+    ensures finds { IsTrue (spec.tells_leaving around (item (integer way) (of_list rest.now))) → IsTrue result }
 {
     if way == 0 {
         return rest.is_empty();
@@ -43,19 +47,34 @@ fn way_fits(around: usize, way: i32, rest: &[Value]) -> bool
     if way == 2 {
         return error_fits(rest);
     }
-    (way == 3 || way == 4) && rest.len() == 1 && leaves_loops(around, way, &rest[0])
+    if way != 3 && way != 4 {
+        return false;
+    }
+    if rest.len() != 1 {
+        return false;
+    }
+    leaves_loops(around, way, &rest[0])
 }
 
 // An error: its code, message and value, and by which verbs it came.
+#[tactic(auto, using(crate::proofs::Leaving::failed_so, crate::proofs::Leaving::failed_message, crate::proofs::Leaving::failed_trace))]
 fn error_fits(rest: &[Value]) -> bool
-    ensures { IsTrue result → (around : ℕ) → IsTrue (spec.tells_leaving around (item (integer (pos 2)) (of_list rest.now))) }
+    ensures tells { IsTrue result → (around : ℕ) → IsTrue (spec.tells_leaving around (item (integer (pos 2)) (of_list rest.now))) }
+    ensures finds { (around : ℕ) → IsTrue (spec.tells_leaving around (item (integer (pos 2)) (of_list rest.now))) → IsTrue result }
 {
-    rest.len() == 4 && is_text(&rest[1]) && trace_fits(&rest[3])
+    if rest.len() != 4 {
+        return false;
+    }
+    if !is_text(&rest[1]) {
+        return false;
+    }
+    trace_fits(&rest[3])
 }
 
 fn leaves_loops(around: usize, way: i32, count: &Value) -> bool
     requires { (way ≡ pos 3) ⊎ (way ≡ pos 4) }
-    ensures { IsTrue result → IsTrue (spec.tells_leaving around (item (integer way) (item count.now no_data))) }
+    ensures tells { IsTrue result → IsTrue (spec.tells_leaving around (item (integer way) (item count.now no_data))) }
+    ensures finds { IsTrue (spec.tells_leaving around (item (integer way) (item count.now no_data))) → IsTrue result }
 {
     let Shown::Integer(count) = count.shown() else {
         return false;
@@ -67,7 +86,7 @@ fn leaves_loops(around: usize, way: i32, count: &Value) -> bool
 }
 
 fn is_text(value: &Value) -> bool
-    ensures { IsTrue result → IsTrue (is_text value.now) }
+    ensures { result ≡ is_text value.now }
 {
     match value.shown() {
         Shown::Text(_) => true,
@@ -76,7 +95,7 @@ fn is_text(value: &Value) -> bool
 }
 
 fn is_object(value: &Value) -> bool
-    ensures { IsTrue result → IsTrue (is_object value.now) }
+    ensures { result ≡ is_object value.now }
 {
     match value.shown() {
         Shown::Object(_) => true,
@@ -85,7 +104,7 @@ fn is_object(value: &Value) -> bool
 }
 
 fn trace_fits(value: &Value) -> bool
-    ensures { IsTrue result → IsTrue (is_trace value.now) }
+    ensures { result ≡ is_trace value.now }
 {
     let Shown::List(items) = value.shown() else {
         return false;
@@ -94,7 +113,7 @@ fn trace_fits(value: &Value) -> bool
 }
 
 fn are_traced_items(items: &[Value]) -> bool
-    ensures { IsTrue result → IsTrue (spec.are_traced (of_list items.now)) }
+    ensures { result ≡ spec.are_traced (of_list items.now) }
 {
     for item in items {
         if !is_traced(item) {
@@ -105,7 +124,7 @@ fn are_traced_items(items: &[Value]) -> bool
 }
 
 fn is_traced(value: &Value) -> bool
-    ensures { IsTrue result → IsTrue (spec.is_traced value.now) }
+    ensures { result ≡ spec.is_traced value.now }
 {
     let Shown::List(items) = value.shown() else {
         return false;
@@ -114,13 +133,24 @@ fn is_traced(value: &Value) -> bool
 }
 
 // {this, verb, programmer, definer, player}
+#[tactic(auto, using(crate::proofs::Leaving::traced_five, crate::proofs::Leaving::traced_first, crate::proofs::Leaving::traced_verb, crate::proofs::Leaving::traced_programmer, crate::proofs::Leaving::traced_definer, crate::proofs::Leaving::traced_player))]
 fn is_verb(items: &[Value]) -> bool
-    ensures { IsTrue result → IsTrue (spec.is_traced (list (of_list items.now))) }
+    ensures { result ≡ spec.is_traced (list (of_list items.now)) }
 {
-    items.len() == 5
-        && is_object(&items[0])
-        && is_text(&items[1])
-        && is_object(&items[2])
-        && is_object(&items[3])
-        && is_object(&items[4])
+    if items.len() != 5 {
+        return false;
+    }
+    if !is_object(&items[0]) {
+        return false;
+    }
+    if !is_text(&items[1]) {
+        return false;
+    }
+    if !is_object(&items[2]) {
+        return false;
+    }
+    if !is_object(&items[3]) {
+        return false;
+    }
+    is_object(&items[4])
 }

@@ -9,13 +9,15 @@ use moo_value::value::{Shown, Value};
 
 /// Whether values are a nonempty list, and how many turns of it were begun.
 pub fn list_walk_fits(held: &[Value]) -> bool
-    ensures { IsTrue result → (around : ℕ) → IsTrue (spec.held_fits around walks_list held.now) }
+    ensures tells { IsTrue result → (around : ℕ) → IsTrue (spec.held_fits around walks_list held.now) }
+    ensures finds { (around : ℕ) → IsTrue (spec.held_fits around walks_list held.now) → IsTrue result }
 {
     held.len() == 2 && turns_fit(&held[0], &held[1])
 }
 
 fn turns_fit(list: &Value, turns: &Value) -> bool
-    ensures { IsTrue result → (around : ℕ) → IsTrue (spec.held_fits around walks_list (list.now ∷ turns.now ∷ [])) }
+    ensures tells { IsTrue result → (around : ℕ) → IsTrue (spec.held_fits around walks_list (list.now ∷ turns.now ∷ [])) }
+    ensures finds { (around : ℕ) → IsTrue (spec.held_fits around walks_list (list.now ∷ turns.now ∷ [])) → IsTrue result }
 {
     let Shown::List(items) = list.shown() else {
         return false;
@@ -31,13 +33,15 @@ fn turns_fit(list: &Value, turns: &Value) -> bool
 
 /// Whether values are the number or object of a turn and the last one.
 pub fn range_walk_fits(held: &[Value]) -> bool
-    ensures { IsTrue result → (around : ℕ) → IsTrue (spec.held_fits around walks_range held.now) }
+    ensures tells { IsTrue result → (around : ℕ) → IsTrue (spec.held_fits around walks_range held.now) }
+    ensures finds { (around : ℕ) → IsTrue (spec.held_fits around walks_range held.now) → IsTrue result }
 {
     held.len() == 2 && ends_fit(&held[0], &held[1])
 }
 
 fn ends_fit(first: &Value, last: &Value) -> bool
-    ensures { IsTrue result → (around : ℕ) → IsTrue (spec.held_fits around walks_range (first.now ∷ last.now ∷ [])) }
+    ensures tells { IsTrue result → (around : ℕ) → IsTrue (spec.held_fits around walks_range (first.now ∷ last.now ∷ [])) }
+    ensures finds { (around : ℕ) → IsTrue (spec.held_fits around walks_range (first.now ∷ last.now ∷ [])) → IsTrue result }
 {
     match first.shown() {
         Shown::Integer(number) => is_integer_from(number, last),
@@ -47,7 +51,8 @@ fn ends_fit(first: &Value, last: &Value) -> bool
 }
 
 fn is_integer_from(number: i32, last: &Value) -> bool
-    ensures { IsTrue result → (around : ℕ) → IsTrue (spec.held_fits around walks_range (integer number ∷ last.now ∷ [])) }
+    ensures tells { IsTrue result → (around : ℕ) → IsTrue (spec.held_fits around walks_range (integer number ∷ last.now ∷ [])) }
+    ensures finds { (around : ℕ) → IsTrue (spec.held_fits around walks_range (integer number ∷ last.now ∷ [])) → IsTrue result }
 {
     match last.shown() {
         Shown::Integer(last) => number <= last,
@@ -56,7 +61,8 @@ fn is_integer_from(number: i32, last: &Value) -> bool
 }
 
 fn is_object_from(number: i32, last: &Value) -> bool
-    ensures { IsTrue result → (around : ℕ) → IsTrue (spec.held_fits around walks_range (object number ∷ last.now ∷ [])) }
+    ensures tells { IsTrue result → (around : ℕ) → IsTrue (spec.held_fits around walks_range (object number ∷ last.now ∷ [])) }
+    ensures finds { (around : ℕ) → IsTrue (spec.held_fits around walks_range (object number ∷ last.now ∷ [])) → IsTrue result }
 {
     match last.shown() {
         Shown::Object(last) => number <= last,

@@ -4,8 +4,8 @@ ghost use Rattle.std.specs.Ordering.{int_eq};
 ghost use Rattle.std.specs.List.{All};
 ghost use Rattle.spec_value.specs.Table.{at};
 ghost use Rattle.spec_world.specs.World.{Link as Meant};
-ghost use Rattle.spec_world.specs.WellFormed.{is_connection, link_fits, on_object};
-ghost use Rattle.spec_world.specs.Agreeing.{LinksAgree};
+ghost use Rattle.spec_world.specs.WellFormed.{OfEachLink, is_connection, link_fits, on_object};
+ghost use Rattle.spec_world.specs.Agreeing.{ObjectsAgree, LinksAgree};
 ghost use Rattle.world_checks.specs.Persons.{person_of};
 
 use crate::table_checks::once::is_once;
@@ -18,12 +18,17 @@ const LAST_CONNECTION: i32 = 999_999;
 
 /// Whether the links of a draft are those of a well-formed world: each of a connection, and of a player or of nobody yet, and no two of
 /// one person.
+#[tactic(auto, using(crate::proofs::Linked::links_rise))]
 pub fn links_are_sound(alloc: Global, draft: &Draft) -> Result<bool, AllocError>
-    ensures { IfOk result (λ b. IsTrue b → LinksAgree draft.now) }
+    ensures tells { IfOk result (λ b. IsTrue b → LinksAgree draft.now) }
+    ensures finds { IfOk result (λ b. ObjectsAgree draft.now → LinksAgree draft.now → IsTrue b) }
 {
     let listed = draft.link_numbers()?;
     let numbers = listed.as_slice();
-    if !rise(numbers) || !all_fit(draft, numbers) {
+    if !rise(numbers) {
+        return Ok(false);
+    }
+    if !all_fit(draft, numbers) {
         return Ok(false);
     }
     let persons = persons(alloc, draft, numbers)?;
@@ -31,7 +36,8 @@ pub fn links_are_sound(alloc: Global, draft: &Draft) -> Result<bool, AllocError>
 }
 
 fn all_fit(draft: &Draft, numbers: &[i32]) -> bool
-    ensures { IsTrue result → All (λ c. (k : Meant) → at draft.now.links c ≡ Some k → IsTrue (link_fits draft.now c k)) numbers.now }
+    ensures tells { IsTrue result → All (λ c. (k : Meant) → at draft.now.links c ≡ Some k → IsTrue (link_fits draft.now c k)) numbers.now }
+    ensures finds { OfEachLink draft.now link_fits → IsTrue result }
 {
     for number in numbers {
         if !fits_at(draft, *number) {
@@ -42,7 +48,8 @@ fn all_fit(draft: &Draft, numbers: &[i32]) -> bool
 }
 
 fn fits_at(draft: &Draft, number: i32) -> bool
-    ensures { IsTrue result → (k : Meant) → at draft.now.links number ≡ Some k → IsTrue (link_fits draft.now number k) }
+    ensures tells { IsTrue result → (k : Meant) → at draft.now.links number ≡ Some k → IsTrue (link_fits draft.now number k) }
+    ensures finds { ((k : Meant) → at draft.now.links number ≡ Some k → IsTrue (link_fits draft.now number k)) → IsTrue result }
 {
     match draft.link(number) {
         Some(link) => fits(draft, number, link),
@@ -50,24 +57,30 @@ fn fits_at(draft: &Draft, number: i32) -> bool
     }
 }
 
+#[tactic(auto, using(crate::proofs::Linked::fits_connection, crate::proofs::Linked::fits_player))]
 fn fits(draft: &Draft, number: i32, link: &Link) -> bool
-    ensures { IsTrue result → IsTrue (link_fits draft.now number link.now) }
+    ensures tells { IsTrue result → IsTrue (link_fits draft.now number link.now) }
+    ensures finds { IsTrue (link_fits draft.now number link.now) → IsTrue result }
 {
     if !is_connection(number) {
         return false;
     }
-    is_nobodys(number, link.person) || is_player(draft, link.person)
+    if is_nobodys(number, link.person) {
+        return true;
+    }
+    is_player(draft, link.person)
 }
 
 fn is_connection(number: i32) -> bool
-    ensures { IsTrue result → IsTrue (is_connection number) }
+    ensures { result ≡ is_connection number }
 {
     1 <= number && number <= LAST_CONNECTION
 }
 
 // Whether a person is the one on a connection who has not logged in.
 fn is_nobodys(number: i32, person: i32) -> bool
-    ensures { IsTrue result → IsTrue (int_eq person (neg_ℤ (pos 3) -ℤ number)) }
+    ensures tells { IsTrue result → IsTrue (int_eq person (neg_ℤ (pos 3) -ℤ number)) }
+    ensures finds { IsTrue (is_connection number) → result ≡ int_eq person (neg_ℤ (pos 3) -ℤ number) }
 {
     if number > LAST_CONNECTION {
         return false;
@@ -76,7 +89,7 @@ fn is_nobodys(number: i32, person: i32) -> bool
 }
 
 fn is_player(draft: &Draft, person: i32) -> bool
-    ensures { IsTrue result → IsTrue (on_object draft.now person (λ x. x.header.is_player)) }
+    ensures { result ≡ on_object draft.now person (λ x. x.header.is_player) }
 {
     match draft.object(person) {
         Some(object) => object.header().is_player,

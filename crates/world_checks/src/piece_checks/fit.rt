@@ -18,9 +18,10 @@ use tree_parts::node::Node;
 
 /// Whether a verb fits that waits at a call of its program: its variables have names that a program can write, and each construct around the
 /// call holds what it must in the part that is under way.
-#[tactic(auto, using(crate::proofs::Calls::waiting_holds))]
+#[tactic(auto, using(crate::proofs::Calls::waiting_holds, crate::proofs::Calls::kept_names, crate::proofs::Calls::frame_pieces))]
 pub fn frame_fits(alloc: Global, frame: &Frame) -> Result<bool, AllocError>
-    ensures { IfOk result (λ fits. IsTrue fits → (f : Waiting) → Waits f (kept_of frame.now) → spec.StandsAtCall f → IsTrue (spec.frame_fits f)) }
+    ensures tells { IfOk result (λ fits. IsTrue fits → (f : Waiting) → Waits f (kept_of frame.now) → spec.StandsAtCall f → IsTrue (spec.frame_fits f)) }
+    ensures finds { IfOk result (λ fits. (f : Waiting) → Waits f (kept_of frame.now) → spec.StandsAtCall f → IsTrue (spec.frame_fits f) → IsTrue fits) }
 {
     if !variables_fit(frame) {
         return Ok(false);
@@ -30,7 +31,8 @@ pub fn frame_fits(alloc: Global, frame: &Frame) -> Result<bool, AllocError>
 }
 
 fn pieces_fit(alloc: Global, frame: &Frame) -> Result<bool, AllocError>
-    ensures { IfOk result (λ fits. IsTrue fits → OfCall (kept_of frame.now)) }
+    ensures tells { IfOk result (λ fits. IsTrue fits → OfCall (kept_of frame.now)) }
+    ensures finds { IfOk result (λ fits. (f : Waiting) → Waits f (kept_of frame.now) → spec.StandsAtCall f → IsTrue (spec.pieces_fit f.pieces) → IsTrue fits) }
 {
     let found = call_path(alloc, &frame.program, frame.state.place)?;
     let Some(path) = found else {
@@ -41,7 +43,8 @@ fn pieces_fit(alloc: Global, frame: &Frame) -> Result<bool, AllocError>
 }
 
 fn fits_along(frame: &Frame, path: &[usize]) -> Result<bool, AllocError>
-    ensures { IfOk result (λ fits. IsTrue fits → IsTrue (fits_down 0 (of_program frame.now.program) path.now (from_deepest frame.now.state.operands))) }
+    ensures tells { IfOk result (λ fits. IsTrue fits → IsTrue (fits_down 0 (of_program frame.now.program) path.now (from_deepest frame.now.state.operands))) }
+    ensures finds { IfOk result (λ fits. IsTrue (fits_down 0 (of_program frame.now.program) path.now (from_deepest frame.now.state.operands)) → IsTrue fits) }
 {
     let whole = Node::Program(frame.program.tree().statements());
     let held = frame.state.operands.above(0);
@@ -50,8 +53,10 @@ fn fits_along(frame: &Frame, path: &[usize]) -> Result<bool, AllocError>
 }
 
 /// Whether a verb fits that stands at the beginning of its program: its variables have names that a program can write.
+#[tactic(auto, using(crate::proofs::Calls::beginning_holds, crate::proofs::Calls::beginning_names))]
 pub fn beginning_fits(frame: &Frame) -> bool
-    ensures { IsTrue result → (f : Waiting) → f.variables ≡ (kept_of frame.now).variables → f.pieces ≡ [] → IsTrue (spec.frame_fits f) }
+    ensures tells { IsTrue result → (f : Waiting) → f.variables ≡ (kept_of frame.now).variables → f.pieces ≡ [] → IsTrue (spec.frame_fits f) }
+    ensures finds { (f : Waiting) → f.variables ≡ (kept_of frame.now).variables → IsTrue (spec.frame_fits f) → IsTrue result }
 {
     variables_fit(frame)
 }

@@ -1,6 +1,6 @@
 //! Marks of numbers.
-ghost use Rattle.std.specs.Prelude.{◌≡◌, pos, negsuc, slice_index, MatchResult};
-ghost use Rattle.world_checks.specs.Marks.{mark_of};
+ghost use Rattle.std.specs.Prelude.{◌≡◌, ◌<◌, ℕ, ℤ, pos, negsuc, ◌==◌, ◌&&◌, nat_lt, slice_index, if◌then◌else◌, vec_len, MatchResult, OnOk};
+ghost use Rattle.world_checks.specs.Marks.{mark_of, mark_after};
 
 use std::alloc::{AllocError, Global};
 use std::marker::Model;
@@ -28,7 +28,9 @@ impl Model for Marks {
 
 impl Marks {
     /// No marks.
-    pub fn new(alloc: Global) -> Marks {
+    pub fn new(alloc: Global) -> Marks
+        ensures { (n : ℤ) → mark_of result n ≡ 0 }
+    {
         Marks {
             above: Vec::new(alloc),
             below: Vec::new(alloc),
@@ -46,7 +48,10 @@ impl Marks {
     }
 
     /// A number has another mark, if it is one of those that can have marks.
-    pub fn put(&mut self, number: i32, mark: usize) -> Result<(), AllocError> {
+    #[tactic(auto, using(crate::proofs::Marked::put_above, crate::proofs::Marked::put_below))]
+    pub fn put(&mut self, number: i32, mark: usize) -> Result<(), AllocError>
+        ensures { OnOk result ((n : ℤ) → mark_of self.new n ≡ mark_after self.old number mark n) }
+    {
         match side_of(number) {
             Ok(index) => set(&mut self.above, index, mark),
             Err(index) => set(&mut self.below, index, mark),
@@ -73,13 +78,25 @@ fn at(marks: &[usize], index: usize) -> usize
     }
 }
 
-fn set(marks: &mut Vec<usize>, index: usize, mark: usize) -> Result<(), AllocError> {
+fn set(marks: &mut Vec<usize>, index: usize, mark: usize) -> Result<(), AllocError>
+    ensures { OnOk result ((k : ℕ) → slice_index marks.new.items k ≡ (if k == index && nat_lt index 1048576 then mark else slice_index marks.old.items k)) }
+{
     if index >= LIMIT {
         return Ok(());
     }
+    reach(marks, index)?;
+    marks[index] = mark;
+    Ok(())
+}
+
+// As many marks as the index needs: each further one is 0.
+fn reach(marks: &mut Vec<usize>, index: usize) -> Result<(), AllocError>
+    requires { index < 1048576 }
+    ensures marks { OnOk result ((k : ℕ) → slice_index marks.new.items k ≡ slice_index marks.old.items k) }
+    ensures length { OnOk result (index < vec_len marks.new) }
+{
     if index >= marks.len() {
         marks.resize(index + 1, 0)?;
     }
-    marks[index] = mark;
     Ok(())
 }

@@ -1,7 +1,7 @@
 //! Names of two lists together.
 ghost use Rattle.std.specs.Prelude.{◌≡◌, ◌+◌, Some, map, slice_get, length, IfOk, IsTrue};
 ghost use Rattle.spec_value.specs.Datum.{Text as Characters, fold_case};
-ghost use Rattle.world_checks.specs.Merge.{how_many, IsMerge};
+ghost use Rattle.world_checks.specs.Merge.{how_many, IsMerge, InOrder};
 
 use moo_value::text::Text;
 use std::alloc::{AllocError, Global};
@@ -14,14 +14,16 @@ pub fn is_merge<T>(
     others: &[(Text, T)],
     entries: &[(Text, T)],
 ) -> Result<bool, AllocError>
-    ensures { IfOk result (λ b. IsTrue b → IsMerge (map fold_case names.now) (map (λ e. e.0) others.now) (map (λ e. e.0) entries.now)) }
+    ensures tells { IfOk result (λ b. IsTrue b → IsMerge (map fold_case names.now) (map (λ e. e.0) others.now) (map (λ e. e.0) entries.now)) }
+    ensures finds { IfOk result (λ b. InOrder (map (λ e. e.0) others.now) → InOrder (map (λ e. e.0) entries.now) → IsMerge (map fold_case names.now) (map (λ e. e.0) others.now) (map (λ e. e.0) entries.now) → IsTrue b) }
 {
     let sorted = sorted(alloc, names)?;
     Ok(are_merged(&sorted, others, entries))
 }
 
 fn sorted(alloc: Global, names: &[Text]) -> Result<Vec<Vec<u8>>, AllocError>
-    ensures { IfOk result (λ v. (t : Characters) → how_many t (map (λ n. n.items) v.items) ≡ how_many t (map fold_case names.now)) }
+    ensures order { IfOk result (λ v. InOrder (map (λ n. n.items) v.items)) }
+    ensures names { IfOk result (λ v. (t : Characters) → how_many t (map (λ n. n.items) v.items) ≡ how_many t (map fold_case names.now)) }
 {
     let mut all = folded(alloc, names)?;
     all.sort_unstable();
@@ -48,7 +50,8 @@ fn lower_case(alloc: Global, name: &[u8]) -> Result<Vec<u8>, AllocError>
 
 // Each entry takes the next of the names or of the others.
 fn are_merged<T>(names: &[Vec<u8>], others: &[(Text, T)], entries: &[(Text, T)]) -> bool
-    ensures { IsTrue result → IsMerge (map (λ n. n.items) names.now) (map (λ e. e.0) others.now) (map (λ e. e.0) entries.now) }
+    ensures tells { IsTrue result → IsMerge (map (λ n. n.items) names.now) (map (λ e. e.0) others.now) (map (λ e. e.0) entries.now) }
+    ensures finds { InOrder (map (λ n. n.items) names.now) → InOrder (map (λ e. e.0) others.now) → InOrder (map (λ e. e.0) entries.now) → IsMerge (map (λ n. n.items) names.now) (map (λ e. e.0) others.now) (map (λ e. e.0) entries.now) → IsTrue result }
 {
     let mut name = 0;
     let mut other = 0;
@@ -67,7 +70,8 @@ fn are_merged<T>(names: &[Vec<u8>], others: &[(Text, T)], entries: &[(Text, T)])
 }
 
 fn is_name(names: &[Vec<u8>], index: usize, next: &[u8]) -> bool
-    ensures { IsTrue result → slice_get (map (λ n. n.items) names.now) index ≡ Some next.now }
+    ensures tells { IsTrue result → slice_get (map (λ n. n.items) names.now) index ≡ Some next.now }
+    ensures finds { slice_get (map (λ n. n.items) names.now) index ≡ Some next.now → IsTrue result }
 {
     match names.get(index) {
         Some(name) => name.as_slice() == next,
@@ -76,7 +80,8 @@ fn is_name(names: &[Vec<u8>], index: usize, next: &[u8]) -> bool
 }
 
 fn is_entry<T>(entries: &[(Text, T)], index: usize, next: &[u8]) -> bool
-    ensures { IsTrue result → slice_get (map (λ e. e.0) entries.now) index ≡ Some next.now }
+    ensures tells { IsTrue result → slice_get (map (λ e. e.0) entries.now) index ≡ Some next.now }
+    ensures finds { slice_get (map (λ e. e.0) entries.now) index ≡ Some next.now → IsTrue result }
 {
     match entries.get(index) {
         Some(entry) => entry.0.as_str().as_bytes() == next,

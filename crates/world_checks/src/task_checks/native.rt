@@ -1,5 +1,5 @@
 //! Built-in functions that wait.
-ghost use Rattle.std.specs.Prelude.{◌≡◌, IsTrue};
+ghost use Rattle.std.specs.Prelude.{◌≡◌};
 ghost use Rattle.spec_world.specs.World.{move_native, create_native, recycle_native, eval_native};
 ghost use Rattle.spec_world.specs.WellFormed.{native_fits as fits};
 ghost use Rattle.moo_task.specs.Frames.{native_of};
@@ -10,7 +10,7 @@ use moo_value::value::{Shown, Value};
 
 /// Whether a built-in function that waits is at one of its stages, with arguments of that stage.
 pub fn native_fits(native: &Native) -> bool
-    ensures { IsTrue result → IsTrue (fits (native_of native.now).name (native_of native.now).stage (native_of native.now).arguments) }
+    ensures { result ≡ fits (native_of native.now).name (native_of native.now).stage (native_of native.now).arguments }
 {
     let arguments = native.arguments.as_slice();
     match native.name {
@@ -21,9 +21,9 @@ pub fn native_fits(native: &Native) -> bool
     }
 }
 
-#[tactic(auto, using(crate::proofs::Natives::moves_to, crate::proofs::Natives::moves_out, crate::proofs::Natives::moves_in))]
+#[tactic(auto, using(crate::proofs::Natives::moves_to, crate::proofs::Natives::moves_out, crate::proofs::Natives::moves_in, crate::proofs::Natives::moves_not))]
 fn move_fits(stage: u32, arguments: &[Value]) -> bool
-    ensures { IsTrue result → IsTrue (fits move_native stage arguments.now) }
+    ensures { result ≡ fits move_native stage arguments.now }
 {
     match stage {
         1 => are_two_objects(arguments),
@@ -32,9 +32,9 @@ fn move_fits(stage: u32, arguments: &[Value]) -> bool
     }
 }
 
-#[tactic(auto, using(crate::proofs::Natives::creates, crate::proofs::Natives::creates_for))]
+#[tactic(auto, using(crate::proofs::Natives::creates, crate::proofs::Natives::creates_not))]
 fn create_fits(stage: u32, arguments: &[Value]) -> bool
-    ensures { IsTrue result → IsTrue (fits create_native stage arguments.now) }
+    ensures { result ≡ fits create_native stage arguments.now }
 {
     if stage != 1 {
         return false;
@@ -42,16 +42,16 @@ fn create_fits(stage: u32, arguments: &[Value]) -> bool
     are_two_objects(arguments) || are_three_objects(arguments)
 }
 
-#[tactic(auto, using(crate::proofs::Natives::recycles))]
+#[tactic(auto, using(crate::proofs::Natives::recycles, crate::proofs::Natives::recycles_not))]
 fn recycle_fits(stage: u32, arguments: &[Value]) -> bool
-    ensures { IsTrue result → IsTrue (fits recycle_native stage arguments.now) }
+    ensures { result ≡ fits recycle_native stage arguments.now }
 {
     stage == 1 && is_one_object(arguments)
 }
 
-#[tactic(auto, using(crate::proofs::Natives::evaluates))]
+#[tactic(auto, using(crate::proofs::Natives::evaluates, crate::proofs::Natives::evaluates_not))]
 fn eval_fits(stage: u32, arguments: &[Value]) -> bool
-    ensures { IsTrue result → IsTrue (fits eval_native stage arguments.now) }
+    ensures { result ≡ fits eval_native stage arguments.now }
 {
     stage == 1 && is_one_text(arguments)
 }

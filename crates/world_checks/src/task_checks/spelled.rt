@@ -13,7 +13,8 @@ use std::alloc::{AllocError, Global};
 /// Whether texts spell the programs of all verbs of a task.
 #[tactic(auto, using(crate::proofs::TaskTold::spelled_told))]
 pub fn task_is_spelled(alloc: Global, task: &Task) -> Result<bool, AllocError>
-    ensures { IfOk result (λ spelled. IsTrue spelled → IsTrue (list_all entry_spelled task.now.entries)) }
+    ensures tells { IfOk result (λ spelled. IsTrue spelled → IsTrue (list_all entry_spelled task.now.entries)) }
+    ensures finds { IfOk result (λ spelled. IsTrue (list_all entry_spelled task.now.entries) → IsTrue spelled) }
 {
     let verbs = task.verbs();
     let spelled = all_spelled(alloc, verbs.as_slice())?;
@@ -22,7 +23,8 @@ pub fn task_is_spelled(alloc: Global, task: &Task) -> Result<bool, AllocError>
 
 #[tactic(auto, using(crate::proofs::Each::one_more, crate::proofs::Each::all_of_them))]
 fn all_spelled(alloc: Global, outers: &[Outer]) -> Result<bool, AllocError>
-    ensures { IfOk result (λ spelled. IsTrue spelled → AllSpelled (outers_of outers.now)) }
+    ensures tells { IfOk result (λ spelled. IsTrue spelled → AllSpelled (outers_of outers.now)) }
+    ensures finds { IfOk result (λ spelled. AllSpelled (outers_of outers.now) → IsTrue spelled) }
 {
     for outer in outers {
         if !outer_is_spelled(alloc, outer)? {
@@ -33,7 +35,8 @@ fn all_spelled(alloc: Global, outers: &[Outer]) -> Result<bool, AllocError>
 }
 
 fn outer_is_spelled(alloc: Global, outer: &Outer) -> Result<bool, AllocError>
-    ensures { IfOk result (λ spelled. IsTrue spelled → OuterSpelled (outer_of outer.now)) }
+    ensures tells { IfOk result (λ spelled. IsTrue spelled → OuterSpelled (outer_of outer.now)) }
+    ensures finds { IfOk result (λ spelled. OuterSpelled (outer_of outer.now) → IsTrue spelled) }
 {
     match outer {
         Outer::Verb(frame) => tree_is_spelled(alloc, frame.program.tree()),

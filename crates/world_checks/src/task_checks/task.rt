@@ -6,7 +6,7 @@ ghost use Rattle.moo_task.specs.Effects.{waiting_of};
 ghost use Rattle.moo_task.specs.Frames.{outer_of};
 ghost use Rattle.moo_task.specs.Keeping.{BeginsAlone};
 ghost use Rattle.moo_task.specs.Waits.{due_at};
-ghost use Rattle.world_checks.specs.TaskChecksTasks.{is_fork as is_fork_of, entries_fit as entries_fit_of, moment_fits as moment_fits_of, ForkStands, BeginsFitting};
+ghost use Rattle.world_checks.specs.TaskChecksTasks.{is_fork as is_fork_of, entries_fit as entries_fit_of, moment_fits as moment_fits_of, ForkStands, BeginsFitting, BeginsFound};
 
 use crate::piece_checks::fit::beginning_fits;
 use crate::task_checks::outers::outers_fit;
@@ -21,9 +21,10 @@ const LAST_MOMENT: u32 = 2147483647;
 
 /// Whether what waits of a task fits: a verb stands first and last and no two built-in functions stand together, there are at
 /// most 50 verbs, and each verb and built-in function holds what it may hold.
-#[tactic(auto, using(crate::proofs::TaskTold::fork_told, crate::proofs::TaskTold::outers_told))]
+#[tactic(auto, using(crate::proofs::TaskTold::fork_told, crate::proofs::TaskTold::fork_found, crate::proofs::TaskTold::outers_told, crate::proofs::TaskTold::outers_found))]
 pub fn entries_fit(alloc: Global, task: &Task) -> Result<bool, AllocError>
-    ensures { IfOk result (λ fit. IsTrue fit → IsTrue (entries_fit_of task.now.entries)) }
+    ensures tells { IfOk result (λ fit. IsTrue fit → IsTrue (entries_fit_of task.now.entries)) }
+    ensures finds { IfOk result (λ fit. IsTrue (entries_fit_of task.now.entries) → IsTrue fit) }
 {
     if is_fork(task.waiting()) {
         Ok(fork_fits(task.verbs()))
@@ -34,9 +35,10 @@ pub fn entries_fit(alloc: Global, task: &Task) -> Result<bool, AllocError>
 }
 
 // What waits is known to be one verb at its beginning.
-#[tactic(auto, using(crate::proofs::Forks::one_stored, crate::proofs::Forks::alone_fits))]
+#[tactic(auto, using(crate::proofs::Forks::one_stored, crate::proofs::Forks::alone_fits, crate::proofs::Forks::alone_found, crate::proofs::Forks::one_alone))]
 fn fork_fits(outers: &Outers) -> bool
-    ensures { IsTrue result → BeginsAlone outers.now → IsTrue (entries_fit_of (entries outers.now)) }
+    ensures tells { IsTrue result → BeginsAlone outers.now → IsTrue (entries_fit_of (entries outers.now)) }
+    ensures finds { BeginsAlone outers.now → IsTrue (entries_fit_of (entries outers.now)) → IsTrue result }
 {
     let [only] = outers.as_slice() else {
         return false;
@@ -45,7 +47,8 @@ fn fork_fits(outers: &Outers) -> bool
 }
 
 fn begins_fitting(outer: &Outer) -> bool
-    ensures { IsTrue result → BeginsFitting (outer_of outer.now) }
+    ensures tells { IsTrue result → BeginsFitting (outer_of outer.now) }
+    ensures finds { BeginsFound (outer_of outer.now) → IsTrue result }
 {
     match outer {
         Outer::Verb(frame) => beginning_fits(frame),

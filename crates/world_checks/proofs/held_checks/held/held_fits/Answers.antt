@@ -1,7 +1,13 @@
 use Rattle.world_checks.proofs.held_checks.held.held_fits.Goals as goal
 
-pub returns-in-ListWalk : goal.returns-in-ListWalk
-returns-in-ListWalk c t = rw c.in-ListWalk.is (c.list_walk_fits.ensures t c.args.around)
+pub returns-in-ListWalk-clause-tells : goal.returns-in-ListWalk-clause-tells
+returns-in-ListWalk-clause-tells c t = rw c.in-ListWalk.is (c.list_walk_fits.ensures.tells t c.args.around)
 
-pub returns-in-RangeWalk : goal.returns-in-RangeWalk
-returns-in-RangeWalk c t = rw c.in-RangeWalk.is (c.range_walk_fits.ensures t c.args.around)
+pub returns-in-ListWalk-clause-finds : goal.returns-in-ListWalk-clause-finds
+returns-in-ListWalk-clause-finds c h = c.list_walk_fits.ensures.finds c.args.around (rw c.in-ListWalk.is at h)
+
+pub returns-in-RangeWalk-clause-tells : goal.returns-in-RangeWalk-clause-tells
+returns-in-RangeWalk-clause-tells c t = rw c.in-RangeWalk.is (c.range_walk_fits.ensures.tells t c.args.around)
+
+pub returns-in-RangeWalk-clause-finds : goal.returns-in-RangeWalk-clause-finds
+returns-in-RangeWalk-clause-finds c h = c.range_walk_fits.ensures.finds c.args.around (rw c.in-RangeWalk.is at h)

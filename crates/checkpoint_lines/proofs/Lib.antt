@@ -1,0 +1,4 @@
+pub mod Giving
+pub mod Filled
+pub mod Rests
+pub mod Programs

@@ -1,0 +1,25 @@
+use Rattle.std.proofs.lemmas.Int.{to_z-of_z}
+use Rattle.std.proofs.Common.{◌≤ℤ◌, w32, subst, sym, ◌≡◌, [], ◌∷◌, true, refl, ap}
+use Rattle.std.specs.Fmt.{signed_decimal}
+use Rattle.spec_value.proofs.Entries.{both_hold}
+use Rattle.line_fields.specs.Fields.{word, is_field}
+use Rattle.line_fields.proofs.Words.{word_signed}
+use Rattle.checkpoint_lines.specs.Rows.{field_at, Left}
+use Rattle.std.proofs.lemmas.Result.{err_from_is_err_and}
+use Rattle.checkpoint_lines.proofs.Giving.{gives_ok, gives_passed}
+use Rattle.checkpoint_lines.proofs.lines.Lines.next_integer.Goals as goal
+
+pub returns-in_err-row : goal.returns-in_err-row
+returns-in_err-row c = record {
+  reads = λ z rest w h l m e.
+      let memory = c.in_err-row.ensures.reads (word (signed_decimal z) ∷ []) rest w (both_hold (is_field (word (signed_decimal z))) true (word_signed z h) refl) refl e in
+      let passed = err_from_is_err_and c.from_residual.result c.from_residual.ensures.1 in
+      gives_passed c.from_residual.result passed.0 _ passed.1 (cc (passed.2, memory));
+}
+
+pub returns : goal.returns
+returns c = record {
+  reads = λ z rest w h l m e.
+      let row = c.in_ok-row.ensures.reads (word (signed_decimal z) ∷ []) rest w (both_hold (is_field (word (signed_decimal z))) true (word_signed z h) refl) refl e in
+      gives_ok c.integer.result z (λ y. (y ≡ z) × Left c.next_with.new.self rest) (c.integer.ensures.reads z h (subst (λ y. y ≤ℤ z) (sym (to_z-of_z w32 c.args.least c.ranges.least)) l) (subst (λ y. z ≤ℤ y) (sym (to_z-of_z w32 c.args.most c.ranges.most)) m) (ap (λ ts. field_at ts 1) row.0.0)) (refl, row.1);
+}

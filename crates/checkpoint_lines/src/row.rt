@@ -1,0 +1,187 @@
+//! A line in fields.
+ghost use Rattle.std.specs.Prelude.{◌≡◌, ◌==◌, ◌&&◌, ◌≤◌, ◌<◌, ◌^◌, ◌≤ℤ◌, ℕ, suc, ℤ, Bool, List, map, length, Ok, IsTrue, IfOk};
+ghost use Rattle.std.specs.List.{list_all, list_any};
+ghost use Rattle.std.specs.Fmt.{decimal, signed_decimal};
+ghost use Rattle.spec_value.specs.Datum as datum;
+ghost use Rattle.spec_value.specs.Datum.{Datum, in_number_range, is_text, same_text};
+ghost use Rattle.spec_value.specs.Literal as text_of;
+ghost use Rattle.spec_world.specs.World.{Object, Slot, Verb};
+ghost use Rattle.spec_world.specs.Checkpoint as written;
+ghost use Rattle.line_fields.specs.Bits.{flags_of, bits_of_slot, bits_of_verb};
+ghost use Rattle.line_fields.specs.Values.{is_readable, are_places};
+ghost use Rattle.checkpoint_lines.specs.Gives.{Gives};
+ghost use Rattle.checkpoint_lines.specs.Rows.{row_fields, field_at, is_filled};
+
+use crate::fault::{DecodeError, FaultKind};
+use line_fields::bits::{
+    ObjectFlags, SlotBits, VerbBits, flag, object_flags, slot_bits, verb_bits,
+};
+use line_fields::held::{literal, objects_in, text_in, texts_in};
+use line_fields::number::{integer_between, natural, object, path};
+use moo_value::text::Text;
+use moo_value::value::Value;
+use std::alloc::Global;
+
+// The greatest count of what follows.
+const GREATEST_COUNT: u64 = 9_223_372_036_854_775_807;
+
+/// A line in fields. The first has index 0; where no field is, it counts as one without a byte.
+#[derive(Drop)]
+pub struct Row<'a> {
+    line: usize,
+    fields: Vec<&'a [u8]>,
+}
+
+impl<'a> Row<'a> {
+    /// The line of this number with these fields.
+    ///
+    /// Fault Line where one is empty.
+    pub fn new(line: usize, fields: Vec<&'a [u8]>) -> Result<Row<'a>, DecodeError>
+        ensures reads { IsTrue (list_all is_filled (map (λ b. b.now) fields.entry.items)) → Gives result (λ row. row_fields row ≡ map (λ b. b.now) fields.entry.items) }
+    {
+        if has_empty(&fields) {
+            return Err(DecodeError::Line {
+                line,
+                kind: FaultKind::Line,
+            });
+        }
+        Ok(Row { line, fields })
+    }
+
+    /// A fault of this line.
+    pub fn fault(&self, kind: FaultKind) -> DecodeError {
+        DecodeError::Line {
+            line: self.line,
+            kind,
+        }
+    }
+
+    /// A field.
+    pub fn field(&self, index: usize) -> &'a [u8]
+        ensures { result.now ≡ field_at (row_fields self.now) index }
+    {
+        match self.fields.get(index) {
+            Some(field) => *field,
+            None => &[],
+        }
+    }
+
+    /// How many fields there are.
+    pub fn len(&self) -> usize
+        ensures { result ≡ length (row_fields self.now) }
+    {
+        self.fields.len()
+    }
+
+    /// Whether the first field is a word, with so many fields behind it.
+    pub fn has(&self, word: &[u8], count: usize) -> bool
+        ensures { result ≡ (length (row_fields self.now) == suc count && same_text (field_at (row_fields self.now) 0) word.now) }
+    {
+        self.fields.len() == count.saturating_add(1) && self.field(0) == word
+    }
+
+    /// A number that is at least the first and at most the second. Else fault Number.
+    pub fn number(&self, index: usize, least: u64, most: u64) -> Result<u64, DecodeError>
+        ensures reads { (n : ℕ) → least ≤ n → n ≤ most → field_at (row_fields self.now) index ≡ decimal n → result ≡ Ok n }
+    {
+        natural(self.field(index), least, most).ok_or(self.fault(FaultKind::Number))
+    }
+
+    /// How many of something follow. Else fault Number.
+    pub fn count(&self, index: usize) -> Result<u64, DecodeError>
+        ensures reads { (n : ℕ) → n < 2 ^ 63 → field_at (row_fields self.now) index ≡ decimal n → result ≡ Ok n }
+    {
+        self.number(index, 0, GREATEST_COUNT)
+    }
+
+    /// An integer that is at least the first and at most the second. Else fault Number.
+    pub fn integer(&self, index: usize, least: i32, most: i32) -> Result<i32, DecodeError>
+        ensures reads { (z : ℤ) → IsTrue (in_number_range z) → least ≤ℤ z → z ≤ℤ most → field_at (row_fields self.now) index ≡ signed_decimal z → result ≡ Ok z }
+    {
+        integer_between(self.field(index), least, most).ok_or(self.fault(FaultKind::Number))
+    }
+
+    /// An object, `#` before its number. Else fault Number.
+    pub fn object(&self, index: usize) -> Result<i32, DecodeError>
+        ensures reads { (z : ℤ) → IsTrue (in_number_range z) → field_at (row_fields self.now) index ≡ written.object_text z → result ≡ Ok z }
+    {
+        object(self.field(index)).ok_or(self.fault(FaultKind::Number))
+    }
+
+    /// A flag, 0 or 1. Else fault Number.
+    pub fn flag(&self, index: usize) -> Result<bool, DecodeError>
+        ensures reads { (b : Bool) → field_at (row_fields self.now) index ≡ written.flag b → result ≡ Ok b }
+    {
+        flag(self.field(index)).ok_or(self.fault(FaultKind::Number))
+    }
+
+    /// The flags of an object. Else fault Number.
+    pub fn object_flags(&self, index: usize) -> Result<ObjectFlags, DecodeError>
+        ensures reads { (x : Object) → field_at (row_fields self.now) index ≡ written.flags_text x → result ≡ Ok (flags_of x) }
+    {
+        object_flags(self.field(index)).ok_or(self.fault(FaultKind::Number))
+    }
+
+    /// The bits of a slot. Else fault Number.
+    pub fn slot_bits(&self, index: usize) -> Result<SlotBits, DecodeError>
+        ensures reads { (s : Slot) → field_at (row_fields self.now) index ≡ written.slot_bits s → result ≡ Ok (bits_of_slot s) }
+    {
+        slot_bits(self.field(index)).ok_or(self.fault(FaultKind::Number))
+    }
+
+    /// The bits of a verb. Else fault Number.
+    pub fn verb_bits(&self, index: usize) -> Result<VerbBits, DecodeError>
+        ensures reads { (v : Verb) → field_at (row_fields self.now) index ≡ written.verb_bits v → result ≡ Ok (bits_of_verb v) }
+    {
+        verb_bits(self.field(index)).ok_or(self.fault(FaultKind::Number))
+    }
+
+    /// The path to a call, the outermost part first: its part numbers with dots between them, or 0 for none. Else fault Number.
+    pub fn path(&self, alloc: Global, index: usize) -> Result<Vec<usize>, DecodeError>
+        ensures reads { (ns : List ℕ) → IsTrue (are_places ns) → field_at (row_fields self.now) index ≡ written.path (map decimal ns) → Gives result (λ v. v.items ≡ ns) }
+    {
+        let found = path(alloc, self.field(index))?;
+        found.ok_or(self.fault(FaultKind::Number))
+    }
+
+    /// A value, by its literal. Else fault Value.
+    pub fn value(&self, alloc: Global, index: usize) -> Result<Value, DecodeError>
+        ensures reads { (v : Datum) → IsTrue (is_readable v) → field_at (row_fields self.now) index ≡ text_of.literal v → Gives result (λ x. x ≡ v) }
+    {
+        let found = literal(alloc, self.field(index))?;
+        found.ok_or(self.fault(FaultKind::Value))
+    }
+
+    /// A text, by its literal. Else fault Value.
+    pub fn text(&self, alloc: Global, index: usize) -> Result<Text, DecodeError>
+        ensures reads { (t : datum.Text) → IsTrue (is_text t) → field_at (row_fields self.now) index ≡ text_of.literal (datum.text t) → Gives result (λ x. x ≡ t) }
+    {
+        let value = self.value(alloc, index)?;
+        let found = text_in(alloc, &value)?;
+        found.ok_or(self.fault(FaultKind::Value))
+    }
+
+    /// A list of objects, by its literal. Else fault Value.
+    pub fn objects(&self, alloc: Global, index: usize) -> Result<Vec<i32>, DecodeError>
+        ensures reads { (os : List ℤ) → IsTrue (list_all in_number_range os) → field_at (row_fields self.now) index ≡ written.list_literal (written.object_list os) → Gives result (λ v. v.items ≡ os) }
+    {
+        let value = self.value(alloc, index)?;
+        let found = objects_in(alloc, &value)?;
+        found.ok_or(self.fault(FaultKind::Value))
+    }
+
+    /// A list of texts, by its literal. Else fault Value.
+    pub fn texts(&self, alloc: Global, index: usize) -> Result<Vec<Text>, DecodeError>
+        ensures reads { (ts : List datum.Text) → IsTrue (list_all is_text ts) → field_at (row_fields self.now) index ≡ written.list_literal (written.text_list ts) → Gives result (λ v. v.items ≡ ts) }
+    {
+        let value = self.value(alloc, index)?;
+        let found = texts_in(alloc, &value)?;
+        found.ok_or(self.fault(FaultKind::Value))
+    }
+}
+
+fn has_empty(fields: &[&[u8]]) -> bool
+    ensures { result ≡ list_any (λ b. length b.now == 0) fields.now }
+{
+    fields.iter().any(|field| field.is_empty())
+}

@@ -1,0 +1,11 @@
+pub mod Numbers
+pub mod Literals
+pub mod Words
+pub mod Letters
+pub mod Lists
+pub mod Stops
+pub mod Places
+pub mod Seams
+pub mod Cuts
+pub mod Dots
+pub mod Readable

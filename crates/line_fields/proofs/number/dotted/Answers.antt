@@ -1,0 +1,31 @@
+use Rattle.std.proofs.Common.{◌≡◌, ◌∙◌, [], ◌∷◌, ◌++◌, subst, sym, ap}
+use Rattle.line_fields.proofs.Dots.{Behind, part_read, last_read}
+use Rattle.line_fields.proofs.number.dotted.Goals as goal
+
+pub returns-in-None : goal.returns-in-None
+returns-in-None c = record {
+  reads = λ m ms h e.
+      let read = part_read m ms c.parts.rest.now c.parts.numbers.items c.in-Some.part.now c.in-Some.behind.now c.natural.result (c.parts.invariant m ms h e) c.in-Some.ensures.between c.in-Some.ensures.last c.natural.ensures.reads in
+      absurd (cc (read.1, c.in-None.is));
+}
+
+pub parts-preserved : goal.parts-preserved
+parts-preserved c = λ m ms h e.
+    let read = part_read m ms c.parts.rest.now c.parts.numbers.items c.in-Some.part.now c.in-Some.behind.now c.natural.result (c.parts.invariant m ms h e) c.in-Some.ensures.between c.in-Some.ensures.last c.natural.ensures.reads in
+    let same : c.in-Some-natural.number ≡ read.0 = cc (read.1, c.in-Some-natural.is) in
+    subst (λ ns. Behind m ms ns c.in-Some.behind.now) (sym (c.in_ok-push-in-Some-natural.ensures.items ∙ ap (λ n. c.parts.numbers.items ++ n ∷ []) same)) read.2
+
+pub returns-in-None-natural : goal.returns-in-None-natural
+returns-in-None-natural c = record {
+  reads = λ m ms h e.
+      let read = last_read m ms c.parts.rest.now c.parts.numbers.items c.natural-2.result (c.parts.invariant m ms h e) c.in_default.ensures.between c.natural-2.ensures.reads in
+      absurd (cc (read.1, c.in-None-natural.is));
+}
+
+pub returns : goal.returns
+returns c = record {
+  reads = λ m ms h e.
+      let read = last_read m ms c.parts.rest.now c.parts.numbers.items c.natural-2.result (c.parts.invariant m ms h e) c.in_default.ensures.between c.natural-2.ensures.reads in
+      let same : c.in-Some-natural-2.number ≡ read.0 = cc (read.1, c.in-Some-natural-2.is) in
+      c.in_ok-push-in-Some-natural-2.ensures.items ∙ ap (λ n. c.parts.numbers.items ++ n ∷ []) same ∙ read.2;
+}

@@ -1,0 +1,5 @@
+pub mod Fields
+pub mod Bits
+pub mod Values
+pub mod Places
+pub mod Numbers

@@ -1,0 +1,21 @@
+-- Numbers without needless zeros.
+use Rattle.std.specs.Prelude.{ℕ, nat_le, ◌==◌, ◌&&◌, Bool, true, false, [], ◌∷◌, if◌then◌else◌}
+use Rattle.std.specs.List.{list_all}
+use Rattle.spec_value.specs.Datum.{Text}
+use Rattle.spec_program.specs.Names.{is_digit}
+
+abbrev pub is_over : Text → Bool
+is_over [] = true
+is_over (c ∷ t) = false
+
+-- a digit that is no zero
+abbrev pub leads : ℕ → Bool
+leads c = nat_le 49 c && nat_le c 57
+
+abbrev pub is_plain_number : Text → Bool
+is_plain_number [] = false
+is_plain_number (c ∷ t) = if c == 48 then is_over t else (leads c && list_all is_digit t)
+
+abbrev pub behind_sign : Text → Text
+behind_sign [] = []
+behind_sign (c ∷ t) = if c == 45 then t else c ∷ t

@@ -1,0 +1,93 @@
+//! Values as fields write them, and what is made of those of one kind.
+ghost use Rattle.std.specs.Prelude.{◌≡◌, ℤ, List, Some, IsTrue, IfOk, MatchOption};
+ghost use Rattle.spec_value.specs.Datum as datum;
+ghost use Rattle.spec_value.specs.Datum.{Datum};
+ghost use Rattle.spec_value.specs.Literal as text_of;
+ghost use Rattle.spec_world.specs.Checkpoint.{object_list, text_list};
+ghost use Rattle.line_fields.specs.Values.{is_readable};
+
+use moo_value::read::from_literal;
+use moo_value::text::Text;
+use moo_value::value::{Shown, Value};
+use std::alloc::{AllocError, Global};
+use std::str;
+
+/// The value whose literal the text is.
+pub fn literal(alloc: Global, text: &[u8]) -> Result<Option<Value>, AllocError>
+    ensures reads { (v : Datum) → IsTrue (is_readable v) → text.now ≡ text_of.literal v → IfOk result (λ o. o ≡ Some v) }
+{
+    let Ok(text) = str::from_utf8(text) else {
+        return Ok(None);
+    };
+    let Some(value) = from_literal(alloc, text)? else {
+        return Ok(None);
+    };
+    value.know();
+    Ok(Some(value))
+}
+
+/// The object number that a value is.
+pub fn object_in(value: &Value) -> Option<i32>
+    ensures reads { MatchOption result ((z : ℤ) → value.now ≡ datum.object z → ⊥) (λ z. value.now ≡ datum.object z) }
+{
+    match value.shown() {
+        Shown::Object(number) => Some(number),
+        _ => None,
+    }
+}
+
+/// The text that a value is.
+pub fn text_in(alloc: Global, value: &Value) -> Result<Option<Text>, AllocError>
+    ensures reads { IfOk result (λ o. MatchOption o ((t : datum.Text) → value.now ≡ datum.text t → ⊥) (λ t. value.now ≡ datum.text t)) }
+{
+    value.know();
+    match value.shown() {
+        Shown::Text(text) => Ok(Some(Text::from_str(alloc, text)?)),
+        _ => Ok(None),
+    }
+}
+
+/// The items of the list that a value is.
+pub fn items_in(value: &Value) -> Option<&[Value]>
+    ensures reads { MatchOption result ((xs : datum.Data) → value.now ≡ datum.list xs → ⊥) (λ items. value.now ≡ datum.list (datum.of_list items.now)) }
+{
+    match value.shown() {
+        Shown::List(items) => Some(items),
+        _ => None,
+    }
+}
+
+/// The objects that a list holds, and nothing else.
+pub fn objects_in(alloc: Global, value: &Value) -> Result<Option<Vec<i32>>, AllocError>
+    ensures reads { (os : List ℤ) → value.now ≡ datum.list (datum.of_list (object_list os)) → IfOk result (λ o. MatchOption o ⊥ (λ v. v.items ≡ os)) }
+{
+    let Some(items) = items_in(value) else {
+        return Ok(None);
+    };
+    let mut objects = Vec::with_capacity(alloc, items.len())?;
+    for item in items {
+        item.know();
+        match object_in(item) {
+            Some(object) => objects.push(object)?,
+            None => return Ok(None),
+        }
+    }
+    Ok(Some(objects))
+}
+
+/// The texts that a list holds, and nothing else.
+pub fn texts_in(alloc: Global, value: &Value) -> Result<Option<Vec<Text>>, AllocError>
+    ensures reads { (ts : List datum.Text) → value.now ≡ datum.list (datum.of_list (text_list ts)) → IfOk result (λ o. MatchOption o ⊥ (λ v. v.items ≡ ts)) }
+{
+    let Some(items) = items_in(value) else {
+        return Ok(None);
+    };
+    let mut texts = Vec::with_capacity(alloc, items.len())?;
+    for item in items {
+        match text_in(alloc, item)? {
+            Some(text) => texts.push(text)?,
+            None => return Ok(None),
+        }
+    }
+    Ok(Some(texts))
+}

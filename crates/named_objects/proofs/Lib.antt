@@ -1,0 +1,6 @@
+pub mod PropertyNames
+pub mod Records
+pub mod SlotsNamed
+pub mod Tables
+pub mod Whole
+pub mod WorldPlaces

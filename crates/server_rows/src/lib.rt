@@ -1,9 +1,15 @@
-//! Rows of the server: its loop and a client of it in one process, over the loopback address.
+//! Rows of the server: lists of steps and what is due, sessions over devices in memory, the text that is made beside, and the server's loop with a client in one process.
 #![tactic(auto)]
 
 #[cfg(test)]
-mod client;
+mod beside_rows;
 #[cfg(test)]
-mod served;
+mod due_rows;
 #[cfg(test)]
-mod talks;
+mod list_rows;
+#[cfg(test)]
+mod meeting;
+#[cfg(test)]
+mod session_rows;
+#[cfg(test)]
+mod talk_rows;

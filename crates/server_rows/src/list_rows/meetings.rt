@@ -1,6 +1,6 @@
 //! Lists by two workers that have to meet.
 use crate::list_rows::row::{counts, others_by};
-use crate::row_support::meeting::Meeting;
+use crate::meeting::MeetingGate;
 use speculate::held::Mark;
 use std::alloc::AllocError;
 use std::sync::Wait;
@@ -21,9 +21,9 @@ fn others<R: Threads + Wait + Sync + AllocGlobal>(
     let row = [counts(1, 1, Mark::Kept), counts(2, 2, second)];
     let mut text = String::new(alloc);
     for _ in 0..TIMES {
-        let gate = Meeting::new(refuses);
+        let gate = MeetingGate::new(refuses);
         text.push_str(others_by(rt, &gate, fixture(alloc)?, &row, 2)?.as_str())?;
-        if !gate.was_held() {
+        if !gate.was_held() || gate.calls() != 2 {
             text.push_str("no meeting; ")?;
         }
     }

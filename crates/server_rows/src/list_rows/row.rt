@@ -1,6 +1,6 @@
 //! Rows: lines `count` of some connections, and what each gives.
-use crate::row_support::integers::integer;
 use moo_value::text::Text;
+use moo_value::value::{Shown, Value};
 use speculate::board::Board;
 use speculate::gate::Gate;
 use speculate::guesses::Guess;
@@ -148,5 +148,13 @@ fn has_value(ending: &Ending, value: Option<i32>) -> bool {
         Ending::Value(given) => value.is_some() && integer(given) == value,
         Ending::Nothing => value.is_none(),
         _ => false,
+    }
+}
+
+// The integer that a value is.
+fn integer(value: &Value) -> Option<i32> {
+    match value.shown() {
+        Shown::Integer(number) => Some(number),
+        _ => None,
     }
 }

@@ -1,6 +1,6 @@
 //! What clients say and are told.
-use crate::client::{Turn, at_once};
-use crate::served::others;
+use crate::talk_rows::client::{Turn, at_once};
+use crate::talk_rows::served::others;
 use std::alloc::{AllocError, Global};
 use std::test::Fail;
 

@@ -1,5 +1,5 @@
 //! A server over the fixture, with one client.
-use crate::client::{Turn, shut_down, talk};
+use crate::talk_rows::client::{Turn, shut_down, talk};
 use server_loop::serving::serve;
 use speculate::gate::Free;
 use std::alloc::Global;

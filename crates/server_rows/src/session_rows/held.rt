@@ -1,5 +1,5 @@
 //! Sessions of one and of two connections on the fixture.
-use crate::devices::{Failure, Fault, Given, Kept};
+use crate::session_rows::devices::{Failure, Fault, Given, Kept};
 use moo_session::holding::session;
 use moo_session::refused::Refused;
 use speculate::gate::Gate;

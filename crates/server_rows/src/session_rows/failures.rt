@@ -1,6 +1,6 @@
 //! Sessions of two connections, in which each read and each write fails in turn.
-use crate::devices::{Failure, MOST_TAKEN};
-use crate::held::{Broken, Left, hold};
+use crate::session_rows::devices::{Failure, MOST_TAKEN};
+use crate::session_rows::held::{Broken, Left, hold};
 use moo_session::refused::Refused;
 use speculate::gate::Free;
 use std::alloc::AllocError;

@@ -1,6 +1,6 @@
 //! Sessions of one connection.
-use crate::held::{Broken, Left, hold};
-use crate::meeting::Meeting;
+use crate::meeting::MeetingGate;
+use crate::session_rows::held::{Broken, Left, hold};
 use speculate::gate::{Free, Gate};
 use std::alloc::AllocError;
 use std::sync::Wait;
@@ -57,7 +57,7 @@ fn one_connection(rt: HostRuntime) -> Result<(), Fail> {
 // The guesses of its first two steps are made while each other goes on.
 #[test]
 fn two_workers_meet(rt: HostRuntime) -> Result<(), Fail> {
-    let gate = Meeting::new();
+    let gate = MeetingGate::new(false);
     assert_eq!(rt; others(&rt, &gate, 2)?.as_str(), "");
     assert!(rt; gate.was_held());
     Ok(())

@@ -1,6 +1,4 @@
 //! Rows of the text that is made beside: the world goes on while an encoder holds, and the text is that of the snapshot.
-#![tactic(auto)]
-
 #[cfg(test)]
 mod holding;
 #[cfg(test)]

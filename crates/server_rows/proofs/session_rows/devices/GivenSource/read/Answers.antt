@@ -1,6 +1,6 @@
 use Rattle.std.proofs.Common.{rules, ◌++◌, ◌∙◌, ap, sym}
 use Rattle.std.proofs.lemmas.List.{take_more_set}
-use Rattle.session_rows.proofs.devices.GivenSource.read.Goals as goal
+use Rattle.server_rows.proofs.session_rows.devices.GivenSource.read.Goals as goal
 
 pub returns-in-Some-clause-bytes : goal.returns-in-Some-clause-bytes
 returns-in-Some-clause-bytes c =

@@ -1,5 +1,6 @@
 //! A board of two counts, and the text of the world after the first, which is made while the second is committed.
-use crate::holding::{Holding, Meeting};
+use crate::beside_rows::holding::Holding;
+use crate::meeting::Meeting;
 use checkpoint_beside::beside::Beside;
 use moo_value::text::Text;
 use speculate::board::Board;
@@ -76,9 +77,9 @@ fn text_between<R: Threads + AllocGlobal>(rt: &R) -> Result<Option<Vec<u8>>, All
     let Ok(beside) = Beside::start(rt, alloc, encoder, board.snapshot()?) else {
         return Ok(None);
     };
-    meeting.wait_for_call();
+    meeting.wait();
     let is_committed = commits(alloc, &mut board, steps.as_slice(), 1)?;
-    meeting.tell_committed();
+    meeting.answer();
     let text = beside.join(rt)?;
     if is_committed && meeting.was_held() && board.count() == 2 {
         Ok(Some(text))

@@ -11,7 +11,7 @@ use Rattle.spec_world.specs.Checkpoint.{with_line_ends}
 use Rattle.syntax_fault.specs.declared.fault.SyntaxFault.{SyntaxFault}
 use Rattle.syntax_fault.specs.Meaning.{kind_meant, OfKind, IsFault}
 
-ends_joined : (ts : List Text) → with_line_ends ts ≡ joined_lines ts
+pub ends_joined : (ts : List Text) → with_line_ends ts ≡ joined_lines ts
 ends_joined [] = refl
 ends_joined (t ∷ ts) = ap (λ r. t ++ (10 ∷ r)) (ends_joined ts)
 

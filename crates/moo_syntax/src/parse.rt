@@ -13,6 +13,7 @@ use crate::reading::read;
 use moo_token::token::Placed;
 use moo_token::tokens::{Tokens, tokens_of};
 use moo_tree::statement::Tree;
+use spelled_text::spelled;
 use std::alloc::{AllocError, Global};
 use syntax_fault::fault::{FaultKind, SyntaxFault};
 
@@ -38,15 +39,26 @@ fn last_line(tokens: &Tokens) -> u64
     }
 }
 
-/// What comes of a program's text: its tree, or its first fault. An `Err` says that memory ran out.
+// What comes of a program's text, token by token.
 #[tactic(auto, using(crate::proofs::Answered::answer_is))]
-pub fn answered(alloc: Global, text: &[u8]) -> Result<Result<Tree, SyntaxFault>, AllocError>
+fn read_through(alloc: Global, text: &[u8]) -> Result<Result<Tree, SyntaxFault>, AllocError>
     ensures { IfOk result (λ r. IsAnswer r (by.parsed text.now)) }
 {
     let tokens = tokens_of(alloc, text)?;
     let last = last_line(&tokens);
     let state = read(alloc, tokens)?;
     Ok(answer(state, last))
+}
+
+/// What comes of a program's text: its tree, or its first fault. An `Err` says that memory ran out.
+pub fn answered(alloc: Global, text: &[u8]) -> Result<Result<Tree, SyntaxFault>, AllocError>
+    ensures { IfOk result (λ r. IsAnswer r (by.parsed text.now)) }
+{
+    let known = spelled(alloc, text)?;
+    match known {
+        Some(tree) => Ok(Ok(tree)),
+        None => read_through(alloc, text),
+    }
 }
 
 /// The tree of a program's text, or the text's first fault.

@@ -1,5 +1,6 @@
 -- A list is of the grammar by its first part and the others, and so is its height.
-use Rattle.std.proofs.Common.{◌≡◌, ◌≤◌, length, Bool, true, false, ◌&&◌, ◌||◌, not, List, [], ◌∷◌, refl, arith}
+use Rattle.std.proofs.Common.{◌≡◌, ◌≤◌, length, Bool, true, false, ◌&&◌, ◌||◌, not, List, [], ◌∷◌, refl, sym, arith}
+use Rattle.std.proofs.Math.Nat.{zero-max}
 use Rattle.std.specs.Prelude.{if◌then◌else◌, max}
 use Rattle.spec_program.specs.Trees.{is_name, expr_fits, arguments_fit, items_fit, has_argument, has_item, has_branch, has_arm, rest_once, takes_rest, arguments_height, items_height}
 use Rattle.moo_tree.specs.ExpressionView.{arguments_of, items_of}
@@ -31,9 +32,9 @@ more_items b (Rest x) xs = refl
 more_items b (Default x e) xs = and_again (is_name x) (expr_fits b e) (items_fit b (items_of xs))
 
 pub higher_items : (x : Item) (xs : List Item) → items_height (items_of (x ∷ xs)) ≡ max (one_item_height x) (items_height (items_of xs))
-higher_items (Required x) xs = refl
-higher_items (Optional x) xs = refl
-higher_items (Rest x) xs = refl
+higher_items (Required x) xs = sym (zero-max (items_height (items_of xs)))
+higher_items (Optional x) xs = sym (zero-max (items_height (items_of xs)))
+higher_items (Rest x) xs = sym (zero-max (items_height (items_of xs)))
 higher_items (Default x e) xs = refl
 
 pub some_argument : (es : List Argument) → 1 ≤ length es → true ≡ has_argument (arguments_of es)

@@ -1,5 +1,5 @@
 //! Statements of the grammar, of bounded height.
-ghost use Rattle.std.specs.Prelude.{◌≡◌, ◌&&◌, ◌≤◌, [], ◌∷◌, max, IfOk, IsTrue};
+ghost use Rattle.std.specs.Prelude.{◌≡◌, ◌&&◌, ◌≤◌, false, [], ◌∷◌, max, IfOk, IsTrue};
 ghost use Rattle.spec_program.specs.Trees as spec;
 ghost use Rattle.moo_tree.specs.ExpressionView.{codes_of};
 ghost use Rattle.moo_tree.specs.StatementView.{program_of, branches_of, arms_of};

@@ -1,10 +1,21 @@
-//! stub
+//! A fast reader of programs in their canonical spelling.
+//!
+//! It guesses: nothing is promised of the tree that it finds, but that it ends, is safe, and nests no deeper than a program may. Whoever
+//! uses the tree looks first whether it is one of the grammar and whether its canonical lines are the text.
 #![tactic(auto)]
 
-use moo_tree::statement::Tree;
-use std::alloc::{AllocError, Global};
-
-/// A tree.
-pub fn guess(_alloc: Global, _text: &[u8]) -> Result<Option<Tree>, AllocError> {
-    Ok(None)
-}
+mod cursor;
+mod expression;
+mod found;
+pub mod guess;
+mod head;
+mod infix;
+mod limits;
+mod literal;
+mod several;
+mod start;
+mod statement;
+mod step;
+mod stop;
+mod target;
+mod word;

@@ -8,7 +8,7 @@ ghost use Rattle.spec_program.specs.Trees.{is_tree};
 use moo_printer::print::print;
 use moo_tree::statement::Tree;
 use moo_value::text::Text;
-use quick_reader::guess;
+use quick_reader::guess::guess;
 use std::alloc::{AllocError, Global};
 use tree_grammar::is_of_grammar;
 

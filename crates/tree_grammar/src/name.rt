@@ -79,11 +79,19 @@ fn is_lower_word(text: &[u8]) -> bool
     }
 }
 
+// Most words are told apart by their lengths.
+#[tactic(auto, using(crate::proofs::Parts::other_length))]
+fn is_same(text: &str, word: &str) -> bool
+    ensures { result ≡ same_text text.now word.now }
+{
+    text.len() == word.len() && text == word
+}
+
 fn is_among(words: &[&str], text: &str) -> bool
     ensures { result ≡ list_any (same_text text.now) (map (λ (s : Bor (List ℕ)). s.now) words.now) }
 {
     for word in words {
-        if text == *word {
+        if is_same(text, word) {
             return true;
         }
     }

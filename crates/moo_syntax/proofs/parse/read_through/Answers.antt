@@ -1,7 +1,7 @@
 use Rattle.reader_frames.specs.StateView.{state_of}
 use Rattle.moo_syntax.specs.Given.{given}
 use Rattle.moo_syntax.proofs.Answered.{answer_is}
-use Rattle.moo_syntax.proofs.parse.answered.Goals as goal
+use Rattle.moo_syntax.proofs.parse.read_through.Goals as goal
 
 pub returns : goal.returns
 returns c =

@@ -10,14 +10,14 @@ returns-in_default c = record {
   reads = λ p h e. absurd (no_fault c.in_default.field-0 p (subst (λ q. IsFault c.in_default.field-0 q) (read_back p c.args.text.now h e) (rw c.in_default.is at c.in_ok-answer.ensures)));
 }
 
-pub returns-then : goal.returns-then
-returns-then c = record {
+pub returns-then-is_spelling : goal.returns-then-is_spelling
+returns-then-is_spelling c = record {
   reads = λ p h e.
       let got = rw c.in-Ok.is at c.in_ok-answer.ensures in ap Some (one_program c.in-Ok.tree p (sym got ∙ read_back p c.args.text.now h e));
 }
 
-pub returns-else : goal.returns-else
-returns-else c = record {
+pub returns-else-is_spelling : goal.returns-else-is_spelling
+returns-else-is_spelling c = record {
   reads = λ p h e.
       let got = rw c.in-Ok.is at c.in_ok-answer.ensures in
       let same = one_program c.in-Ok.tree p (sym got ∙ read_back p c.args.text.now h e) in

@@ -28,13 +28,13 @@ onto_behind (v ∷ st) us =
 pub deepest_first : (vs st : List Datum) → from_deepest (onto vs st) ≡ from_deepest st ++ vs
 deepest_first vs st = onto_onto vs st [] ∙ ap (onto st) (append-nil vs) ∙ onto_behind st vs
 
-turned_back : (st : List Datum) → from_deepest (from_deepest st) ≡ st
+pub turned_back : (st : List Datum) → from_deepest (from_deepest st) ≡ st
 turned_back st = onto_onto st [] [] ∙ append-nil st
 
 pub as_deep : (st us : List Datum) → from_deepest st ≡ from_deepest us → st ≡ us
 as_deep st us e = sym (turned_back st) ∙ ap from_deepest e ∙ turned_back us
 
-length_onto : (vs st : List Datum) → length (onto vs st) ≡ length vs + length st
+pub length_onto : (vs st : List Datum) → length (onto vs st) ≡ length vs + length st
 length_onto [] st = omega arith
 length_onto (v ∷ vs) st = omega (arith, length_onto vs (v ∷ st))
 

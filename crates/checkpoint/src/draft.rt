@@ -1,10 +1,10 @@
 //! A draft of a world, from the lines of a text.
-use crate::object_records::link::next_link;
-use crate::object_records::object::next_objects;
 use crate::task_records::task::next_task;
 use checkpoint_lines::fault::{DecodeError, FaultKind};
 use checkpoint_lines::lines::Lines;
 use draft_objects::put_objects;
+use object_lines::link::next_link;
+use object_lines::object::next_objects;
 use std::alloc::Global;
 use view::change::Change;
 use world::draft::Draft;

@@ -7,6 +7,5 @@
 pub mod decode;
 mod draft;
 pub mod held_values;
-pub mod object_records;
 pub mod task_records;
 pub mod world_files;

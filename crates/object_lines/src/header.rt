@@ -1,4 +1,13 @@
 //! Headers of objects, from their lines.
+ghost use Rattle.std.specs.Prelude.{◌≡◌, List, [], ◌∷◌, ◌++◌, IsTrue, codes};
+ghost use Rattle.spec_value.specs.Datum as datum;
+ghost use Rattle.spec_world.specs.World.{Header as Meant, Object};
+ghost use Rattle.spec_world.specs.Checkpoint.{fields, flags_text};
+ghost use Rattle.spec_checkpoint.specs.Holding.{header_holds};
+ghost use Rattle.line_fields.specs.Bits.{flags_of};
+ghost use Rattle.checkpoint_lines.specs.Rows.{Left, Reads};
+ghost use Rattle.object_lines.specs.Parts.{naming_lines, IsNaming};
+
 use checkpoint_lines::fault::DecodeError;
 use checkpoint_lines::lines::Lines;
 use line_fields::bits::ObjectFlags;
@@ -16,7 +25,9 @@ pub struct Naming {
 }
 
 /// The name, the owner, the parent and the location, from the next lines.
-pub fn next_naming(alloc: Global, lines: &mut Lines<'_>) -> Result<Naming, DecodeError> {
+pub fn next_naming(alloc: Global, lines: &mut Lines<'_>) -> Result<Naming, DecodeError>
+    ensures reads { (h : Meant) (rest : List datum.Text) → IsTrue (header_holds h) → Left lines.old (naming_lines h ++ rest) → Reads result lines.new rest (λ n. IsNaming n h) }
+{
     let name = lines.next_text(alloc, b"name")?;
     let owner = lines.next_object(alloc, b"owner")?;
     let parent = lines.next_object(alloc, b"parent")?;
@@ -30,7 +41,9 @@ pub fn next_naming(alloc: Global, lines: &mut Lines<'_>) -> Result<Naming, Decod
 }
 
 /// The header of these lines, with the object's flags.
-pub fn header(naming: Naming, flags: ObjectFlags) -> Header {
+pub fn header(naming: Naming, flags: ObjectFlags) -> Header
+    ensures reads { (x : Object) → IsNaming naming x.header → flags ≡ flags_of x → result ≡ x.header }
+{
     let Naming {
         name,
         owner,
@@ -52,7 +65,9 @@ pub fn header(naming: Naming, flags: ObjectFlags) -> Header {
 }
 
 /// The flags of an object, from the next line.
-pub fn next_flags(alloc: Global, lines: &mut Lines<'_>) -> Result<ObjectFlags, DecodeError> {
+pub fn next_flags(alloc: Global, lines: &mut Lines<'_>) -> Result<ObjectFlags, DecodeError>
+    ensures reads { (x : Object) (rest : List datum.Text) → Left lines.old (fields (codes "flags" ∷ flags_text x ∷ []) ∷ rest) → Reads result lines.new rest (λ f. f ≡ flags_of x) }
+{
     let row = lines.next_with(alloc, b"flags", 1)?;
     row.object_flags(1)
 }

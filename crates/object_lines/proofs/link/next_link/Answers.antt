@@ -1,0 +1,95 @@
+use Rattle.std.proofs.Common.{rules, w32, SFits, to_z, of_z, ◌≡◌, refl, ap, sym, ◌∙◌}
+use Rattle.spec_world.specs.Checkpoint.{programming_held}
+use Rattle.checkpoint_lines.specs.Rows.{field_at}
+use Rattle.object_lines.proofs.Ranges.{connection_number}
+use Rattle.object_lines.proofs.HeldParts.{nothing_is, programming_is, never_other}
+use Rattle.object_lines.proofs.Rows.{link_row, link_connection, link_number, link_person, link_value, link_fields}
+use Rattle.std.proofs.lemmas.Int.{to_z-of_z}
+use Rattle.std.proofs.lemmas.Result.{err_from_is_err_and}
+use Rattle.checkpoint_lines.proofs.Giving.{gives_passed}
+use Rattle.object_lines.proofs.link.next_link.Goals as goal
+
+pub returns-in_err-row : goal.returns-in_err-row
+returns-in_err-row c = record {
+  reads = λ n k rest h l.
+      let memory = c.in_err-row.ensures.reads (link_row (n, k)) rest refl (link_fields n k h) refl l in
+      let passed = err_from_is_err_and c.from_residual.result c.from_residual.ensures.1 in
+      gives_passed c.from_residual.result passed.0 _ passed.1 (cc (passed.2, memory));
+}
+
+pub returns-in_err-number : goal.returns-in_err-number
+returns-in_err-number c = record {
+  reads = λ n k rest h l.
+      let row = c.in_ok-row.ensures.reads (link_row (n, k)) rest refl (link_fields n k h) refl l in
+      let never = c.in_err-number.ensures.reads n (link_number n k h) (connection_number n (link_connection n k h)).0 (connection_number n (link_connection n k h)).1 (ap (λ ts. field_at ts 1) row.0.0) in
+      absurd (cc (never));
+}
+
+pub returns-in_err-person : goal.returns-in_err-person
+returns-in_err-person c = record {
+  reads = λ n k rest h l.
+      let row = c.in_ok-row.ensures.reads (link_row (n, k)) rest refl (link_fields n k h) refl l in
+      let number = c.in_ok-number.ensures.reads n (link_number n k h) (connection_number n (link_connection n k h)).0 (connection_number n (link_connection n k h)).1 (ap (λ ts. field_at ts 1) row.0.0) in
+      let never = c.in_err-person.ensures.reads k.person (link_person n k h) (ap (λ ts. field_at ts 2) row.0.0) in
+      absurd (cc (never));
+}
+
+pub returns-in_err-value : goal.returns-in_err-value
+returns-in_err-value c = record {
+  reads = λ n k rest h l.
+      let row = c.in_ok-row.ensures.reads (link_row (n, k)) rest refl (link_fields n k h) refl l in
+      let number = c.in_ok-number.ensures.reads n (link_number n k h) (connection_number n (link_connection n k h)).0 (connection_number n (link_connection n k h)).1 (ap (λ ts. field_at ts 1) row.0.0) in
+      let person = c.in_ok-person.ensures.reads k.person (link_person n k h) (ap (λ ts. field_at ts 2) row.0.0) in
+      let memory = c.in_err-value.ensures.reads (programming_held k.programming) (link_value n k h) (ap (λ ts. field_at ts 3) row.0.0) in
+      let passed = err_from_is_err_and c.from_residual-in_err-value.result c.from_residual-in_err-value.ensures.1 in
+      gives_passed c.from_residual-in_err-value.result passed.0 _ passed.1 (cc (passed.2, memory));
+}
+
+pub returns-in-Nothing : goal.returns-in-Nothing
+returns-in-Nothing c = record {
+  reads = λ n k rest h l.
+      let row = c.in_ok-row.ensures.reads (link_row (n, k)) rest refl (link_fields n k h) refl l in
+      let number = c.in_ok-number.ensures.reads n (link_number n k h) (connection_number n (link_connection n k h)).0 (connection_number n (link_connection n k h)).1 (ap (λ ts. field_at ts 1) row.0.0) in
+      let person = c.in_ok-person.ensures.reads k.person (link_person n k h) (ap (λ ts. field_at ts 2) row.0.0) in
+      let value = c.in_ok-value.ensures.reads (programming_held k.programming) (link_value n k h) (ap (λ ts. field_at ts 3) row.0.0) in
+      let held = c.in_ok-held.ensures.reads k.programming value in
+      let same : c.in_ok-number.number ≡ n = cc (number) in
+      let whose : c.in_ok-person.person ≡ k.person = cc (person) in
+      let person_fits : SFits w32 c.in_ok-person.person = search rules in
+      let person_is : to_z w32 (of_z w32 c.in_ok-person.person) ≡ k.person = to_z-of_z w32 c.in_ok-person.person person_fits ∙ whose in
+      let number_fits : SFits w32 c.in_ok-number.number = search rules in
+      let back = to_z-of_z w32 c.in_ok-number.number number_fits in
+      let none = nothing_is k.programming (sym c.in-Nothing.is ∙ held) in
+      let link : c.new.result ≡ k = c.new.ensures ∙ (λ i. record { person = person_is i; programming = sym none i }) in
+      ((cc (back, same), link), row.1);
+}
+
+pub returns-in-Programming : goal.returns-in-Programming
+returns-in-Programming c = record {
+  reads = λ n k rest h l.
+      let row = c.in_ok-row.ensures.reads (link_row (n, k)) rest refl (link_fields n k h) refl l in
+      let number = c.in_ok-number.ensures.reads n (link_number n k h) (connection_number n (link_connection n k h)).0 (connection_number n (link_connection n k h)).1 (ap (λ ts. field_at ts 1) row.0.0) in
+      let person = c.in_ok-person.ensures.reads k.person (link_person n k h) (ap (λ ts. field_at ts 2) row.0.0) in
+      let value = c.in_ok-value.ensures.reads (programming_held k.programming) (link_value n k h) (ap (λ ts. field_at ts 3) row.0.0) in
+      let held = c.in_ok-held.ensures.reads k.programming value in
+      let same : c.in_ok-number.number ≡ n = cc (number) in
+      let whose : c.in_ok-person.person ≡ k.person = cc (person) in
+      let person_fits : SFits w32 c.in_ok-person.person = search rules in
+      let person_is : to_z w32 (of_z w32 c.in_ok-person.person) ≡ k.person = to_z-of_z w32 c.in_ok-person.person person_fits ∙ whose in
+      let number_fits : SFits w32 c.in_ok-number.number = search rules in
+      let back = to_z-of_z w32 c.in_ok-number.number number_fits in
+      let some = programming_is k.programming c.in-Programming.programming (sym c.in-Programming.is ∙ held) in
+      let link : c.programmed.result ≡ k = c.programmed.ensures ∙ (λ i. record { person = person_is i; programming = sym some i }) in
+      ((cc (back, same), link), row.1);
+}
+
+pub returns : goal.returns
+returns c = record {
+  reads = λ n k rest h l.
+      let row = c.in_ok-row.ensures.reads (link_row (n, k)) rest refl (link_fields n k h) refl l in
+      let number = c.in_ok-number.ensures.reads n (link_number n k h) (connection_number n (link_connection n k h)).0 (connection_number n (link_connection n k h)).1 (ap (λ ts. field_at ts 1) row.0.0) in
+      let person = c.in_ok-person.ensures.reads k.person (link_person n k h) (ap (λ ts. field_at ts 2) row.0.0) in
+      let value = c.in_ok-value.ensures.reads (programming_held k.programming) (link_value n k h) (ap (λ ts. field_at ts 3) row.0.0) in
+      let held = c.in_ok-held.ensures.reads k.programming value in
+      absurd (never_other k.programming (sym c.in-Other.is ∙ held));
+}

@@ -1,0 +1,3 @@
+pub mod Readable
+pub mod Parts
+pub mod Held

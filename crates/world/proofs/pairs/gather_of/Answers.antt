@@ -1,4 +1,4 @@
-use Rattle.std.proofs.Common.{◌≡◌, ◌+◌, ◌<◌, ◌≤◌, ◌++◌, ◌∷◌, [], ℕ, ℤ, List, Option, Some, pos, refl, ap, subst, sym, ◌∙◌, w32, FitsSigned, arith, rules}
+use Rattle.std.proofs.Common.{◌≡◌, ◌+◌, ◌<◌, ◌≤◌, ◌++◌, ◌∷◌, [], ℕ, ℤ, Option, Some, pos, refl, ap, subst, sym, ◌∙◌, w32, FitsSigned, arith, rules}
 use Rattle.std.proofs.lemmas.Int.{to_z-of_z}
 use Rattle.world.specs.Paired.{keys_of}
 use Rattle.world.proofs.Gathered.{Gathered, left, all_left, one_gathered, all_gathered}

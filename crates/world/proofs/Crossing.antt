@@ -18,6 +18,7 @@ use Rattle.world.specs.declared.count.Count.TheInside.{Inside}
 use Rattle.world.specs.contracts.count.Count.TheKnot as knot
 use Rattle.world.specs.contracts.count.Count as count
 use Rattle.world.specs.contracts.draft.Draft as draft
+use Rattle.world.specs.contracts.links.Links as links
 use Rattle.world.specs.contracts.tasks.Tasks as tasks
 use Rattle.world.specs.contracts.worlds.Snapshot as snapshot
 use Rattle.world.specs.contracts.worlds.World as world
@@ -40,17 +41,25 @@ tasks_sync =
     let readers = table_sync i32-field.row number_send number_sync in
     search (sendable, crosses, found, readers, due_sync) depth 60
 
+links_send : IsSend links.the_row
+links_send =
+    let found = table_send link.the_row link_send link_sync in
+    search (sendable, crosses, found, due_send) depth 60
+
+links_sync : IsSync links.the_row
+links_sync =
+    let found = table_sync link.the_row link_send link_sync in
+    search (sendable, crosses, found, due_sync) depth 60
+
 pub draft_send : IsSend draft.the_row
 draft_send =
     let objects = table_send object.the_row object_send object_sync in
-    let links = table_send link.the_row link_send link_sync in
-    search (sendable, crosses, objects, links, tasks_send) depth 60
+    search (sendable, crosses, objects, links_send, tasks_send) depth 60
 
 draft_sync : IsSync draft.the_row
 draft_sync =
     let objects = table_sync object.the_row object_send object_sync in
-    let links = table_sync link.the_row link_send link_sync in
-    search (sendable, crosses, objects, links, tasks_sync) depth 60
+    search (sendable, crosses, objects, links_sync, tasks_sync) depth 60
 
 pub snapshot_send : IsSend snapshot.the_row
 snapshot_send = search (sendable, crosses, draft_send) depth 60

@@ -6,11 +6,12 @@ use Rattle.std.specs.Ordering.{nat_cmp, int_cmp, ordering_then, is_le, is_lt}
 use Rattle.spec_world.specs.World.{Task}
 use Rattle.moo_task.specs.Waits.{due_at}
 use Rattle.due_table.specs.Pairs.{pair_cmp, first_pair_from}
-use Rattle.world.specs.Due.{put_due, put_if_due, by_moment, due_of, due_ids, first_due_from}
+use Rattle.world.specs.Paired.{put_pair, put_if_any}
+use Rattle.world.specs.Due.{by_moment, due_of, due_ids, first_due_from}
 use Rattle.world.specs.Numbered.{keyed, signed_key, signed}
 use Rattle.world.proofs.Maps.{signed_cmp}
 use Rattle.world.proofs.Ordered as ordered
-use Rattle.world.proofs.DueKept.{pairs_total, pairs_exact, AreSorted}
+use Rattle.world.proofs.PairsKept.{pairs_total, pairs_exact, AreSorted}
 
 -- ---- the moments of ids, from those of their keys
 
@@ -18,22 +19,22 @@ module _ (f : ℕ → ℤ) where
   abbrev named : ℕ × ℕ → ℕ × ℤ
   named d = (d.0, f d.1)
 
-  put_named : (m k : ℕ) (ds : List (ℕ × ℕ)) → put_due m (f k) (map named ds) ≡ map named (put_due m k ds)
+  put_named : (m k : ℕ) (ds : List (ℕ × ℕ)) → put_pair m (f k) (map named ds) ≡ map named (put_pair m k ds)
   put_named m k [] = refl
   put_named m k (d ∷ ds) = go (nat_lt d.0 m) (put_named m k ds)
     where
-      go : (b : Bool) → put_due m (f k) (map named ds) ≡ map named (put_due m k ds)
-          → cond b (named d ∷ put_due m (f k) (map named ds)) ((m, f k) ∷ named d ∷ map named ds) ≡ map named (cond b (d ∷ put_due m k ds) ((m, k) ∷ d ∷ ds))
+      go : (b : Bool) → put_pair m (f k) (map named ds) ≡ map named (put_pair m k ds)
+          → cond b (named d ∷ put_pair m (f k) (map named ds)) ((m, f k) ∷ named d ∷ map named ds) ≡ map named (cond b (d ∷ put_pair m k ds) ((m, k) ∷ d ∷ ds))
       go true later = ap (λ xs. named d ∷ xs) later
       go false later = refl
 
-  put_if_named : (m : Option ℕ) (k : ℕ) (ds : List (ℕ × ℕ)) → put_if_due m (f k) (map named ds) ≡ map named (put_if_due m k ds)
+  put_if_named : (m : Option ℕ) (k : ℕ) (ds : List (ℕ × ℕ)) → put_if_any m (f k) (map named ds) ≡ map named (put_if_any m k ds)
   put_if_named None k ds = refl
   put_if_named (Some m) k ds = put_named m k ds
 
   pub moments_named : (es : List (ℕ × Task)) → by_moment (keyed f es) ≡ map named (by_moment es)
   moments_named [] = refl
-  moments_named (e ∷ es) = ap (put_if_due (due_at (e.1).waiting) (f e.0)) (moments_named es) ∙ put_if_named (due_at (e.1).waiting) e.0 (by_moment es)
+  moments_named (e ∷ es) = ap (put_if_any (due_at (e.1).waiting) (f e.0)) (moments_named es) ∙ put_if_named (due_at (e.1).waiting) e.0 (by_moment es)
 
   pub first_named : ((a b : ℕ) → int_cmp (f a) (f b) ≡ nat_cmp a b) → (m k : ℕ) (ds : List (ℕ × ℕ)) → first_due_from m (f k) (map named ds) ≡ option_map named (first_pair_from (m, k) ds)
   first_named order m k [] = refl

@@ -15,5 +15,7 @@ pub mod Gathered
 pub mod TasksKept
 pub mod DueRows
 pub mod Ordered
-pub mod DueKept
+pub mod PairsKept
+pub mod PairsWalks
+pub mod LinksKept
 pub mod DueWalks

@@ -56,16 +56,6 @@ all_numbers (e ∷ es) = ap (λ ns. pos e.0 ∷ ns) (all_numbers es)
 
 -- ---- links
 
-pub links_of : (o : ℤ) (es : List (ℕ × Link)) → chosen (λ k l. cond (int_eq l.person o) (Some (pos k)) None) es ≡ map (λ e. e.0) (filter (λ e. int_eq (e.1).person o) (numbered es))
-links_of o [] = refl
-links_of o (e ∷ es) = go (int_eq (e.1).person o) (links_of o es)
-  where
-    go : (b : Bool) → chosen (λ k l. cond (int_eq l.person o) (Some (pos k)) None) es ≡ map (λ x. x.0) (filter (λ x. int_eq (x.1).person o) (numbered es))
-        → before (cond b (Some (pos e.0)) None) (chosen (λ k l. cond (int_eq l.person o) (Some (pos k)) None) es)
-        ≡ map (λ x. x.0) (cond b ((pos e.0, e.1) ∷ filter (λ x. int_eq (x.1).person o) (numbered es)) (filter (λ x. int_eq (x.1).person o) (numbered es)))
-    go true h = ap (λ js. pos e.0 ∷ js) h
-    go false h = h
-
 pub logged_in : (es : List (ℕ × Link)) → chosen {T = ℤ × ℤ} (λ k l. cond (int_le (pos 0) l.person) (Some (pos k, l.person)) None) es ≡ map (λ e. (e.0, (e.1).person)) (filter (λ e. int_le (pos 0) (e.1).person) (numbered es))
 logged_in [] = refl
 logged_in (e ∷ es) = go (int_le (pos 0) (e.1).person) (logged_in es)

@@ -119,6 +119,10 @@ none_above es n k x is lt = ap (λ m. put_record (numbered es) m (Some x)) is �
 pub one_below : {X : Type 0} (es : List (ℕ × X)) (n : ℤ) (k : ℕ) (x : X) → n ≡ negsuc k → put_record (numbered es) n (Some x) ≡ numbered es
 one_below es n k x is = ap (λ m. put_record (numbered es) m (Some x)) is
 
+pub any_below : {X : Type 0} (es : List (ℕ × X)) (n : ℤ) (k : ℕ) (x : Option X) → n ≡ negsuc k → put_record (numbered es) n x ≡ numbered es
+any_below es n k None is = none_below es n k is
+any_below es n k (Some x) is = one_below es n k x is
+
 -- a key at which there is a record is in a table's range
 pub key_within : {X : Type 0} (es : List (ℕ × X)) (k bound : ℕ) → All (λ e. e.0 < bound) es → IsTrue (is_some (find nat_cmp k es)) → k < bound
 key_within [] k bound all there = cc

@@ -1,5 +1,6 @@
 -- What is picked of a table in which a record comes or goes.
-use Rattle.std.proofs.Common.{◌≡◌, Bool, true, false, not, List, [], ◌∷◌, Option, Some, None, cond, is_eq, IsTrue, refl, sym, ◌∙◌, ap, subst, Ordering, Less, Equal, Greater}
+use Rattle.std.proofs.Common.{◌≡◌, Bool, true, false, not, List, [], ◌∷◌, Option, Some, None, cond, is_eq, IfSome, IsTrue, refl, sym, ◌∙◌, ap, subst, Ordering, Less, Equal, Greater}
+use Rattle.std.specs.List.{AllByRecursion}
 use Rattle.std.specs.Ordering.{eq_by_cmp, is_lt}
 use Rattle.std.specs.Cmp.{IsTotalOrder}
 use Rattle.std.specs.FinMap.{put, is_sorted, IsAntisymmetric}
@@ -55,6 +56,22 @@ module _ {K : Type 0} {R : K → K → Ordering} (o : IsTotalOrder R) (exact : I
   pub sorted_changed : {X : Type 0} (k : K) (x : Option X) (es : List (K × X)) → IsTrue (is_sorted R es) → IsTrue (is_sorted R (changed R k x es))
   sorted_changed k None es h = as_test _ (is_sorted-where_key R (λ j. not (eq_by_cmp R k j)) es (as_type _ h))
   sorted_changed k (Some x) es h = still_sorted o k x es h
+
+  -- what all entries have, they have behind a change
+  pub all_changed : {X : Type 0} (P : K × X → Type 0) (k : K) (x : Option X) (es : List (K × X)) → IfSome x (λ y. P (k, y)) → AllByRecursion P es → AllByRecursion P (changed R k x es)
+  all_changed P k None [] own h = tt
+  all_changed P k None (e ∷ es) own h = go (not (eq_by_cmp R k e.0)) (all_changed P k None es own h.1)
+    where
+      go : (b : Bool) → AllByRecursion P (removed k es) → AllByRecursion P (cond b (e ∷ removed k es) (removed k es))
+      go true rest = (h.0, rest)
+      go false rest = rest
+  all_changed P k (Some x) [] own h = (own, tt)
+  all_changed P k (Some x) (e ∷ es) own h = go (R k e.0) refl (all_changed P k (Some x) es own h.1)
+    where
+      go : (r : Ordering) → R k e.0 ≡ r → AllByRecursion P (put R k x es) → AllByRecursion P (by_order r ((k, x) ∷ e ∷ es) ((e.0, x) ∷ es) (e ∷ put R k x es))
+      go Less t rest = (own, h)
+      go Equal t rest = (subst (λ i. P (i, x)) (exact k e.0 t) own, h.1)
+      go Greater t rest = (h.0, rest)
 
   -- ---- what is picked
 

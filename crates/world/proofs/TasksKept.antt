@@ -1,55 +1,36 @@
 -- A task comes, is another one, or goes.
-use Rattle.std.proofs.Common.{◌≡◌, ℕ, ◌<◌, ℤ, List, [], ◌∷◌, Option, Some, None, IsTrue, cond, not, Bool, true, false, refl, sym, ◌∙◌, ap, subst, Ordering, Less, Equal, Greater}
+use Rattle.std.proofs.Common.{◌≡◌, ℕ, ◌<◌, ℤ, List, [], Option, Some, None, IsTrue, refl, sym, ◌∙◌, ap, subst}
 use Rattle.std.specs.Option.{option_and_then}
-use Rattle.std.specs.Ordering.{nat_cmp, eq_by_cmp}
+use Rattle.std.specs.Ordering.{nat_cmp}
 use Rattle.std.specs.Cmp.{nat_cmp_total}
-use Rattle.std.specs.FinMap.{put, is_sorted, nat_cmp-IsAntisymmetric}
-use Rattle.std.specs.FinMap.Entries.{by_order}
+use Rattle.std.specs.FinMap.{is_sorted, nat_cmp-IsAntisymmetric}
 use Rattle.spec_world.specs.World.{Task}
 use Rattle.spec_world.specs.Questions.{put_task}
 use Rattle.moo_task.specs.Waits.{read_on}
-use Rattle.world_table.specs.Entries.{without as without_key}
 use Rattle.world.specs.Due.{by_moment}
 use Rattle.world.specs.Numbered.{signed_key, signed}
 use Rattle.world.specs.Picked.{changed}
-use Rattle.world.specs.Tasks.{AreIds, AreTasks}
+use Rattle.world.specs.Tasks.{AreTasks}
 use Rattle.world.proofs.Maps.{with_signed, without_signed}
-use Rattle.world.proofs.Picked.{picked_put, picked_removed}
+use Rattle.world.proofs.Picked.{all_changed, picked_put, picked_removed}
 
 -- what the table then is
 pub task_put : (es new : List (ℕ × Task)) (i : ℤ) (k : ℕ) (t : Option Task) → signed_key k ≡ i → new ≡ changed nat_cmp k t es → signed new ≡ put_task (signed es) i t
 task_put es new i k None is e = ap signed e ∙ sym (without_signed es i k is)
 task_put es new i k (Some t) is e = ap signed e ∙ sym (with_signed es i k t is)
 
-ids_put : (es : List (ℕ × Task)) (k : ℕ) (t : Task) → k < 4294967296 → AreIds es → AreIds (put nat_cmp k t es)
-ids_put [] k t within h = (within, tt)
-ids_put (e ∷ es) k t within h = go (nat_cmp k e.0) (ids_put es k t within h.1)
-  where
-    go : (r : Ordering) → AreIds (put nat_cmp k t es) → AreIds (by_order r ((k, t) ∷ e ∷ es) ((e.0, t) ∷ es) (e ∷ put nat_cmp k t es))
-    go Less rest = (within, h)
-    go Equal rest = (h.0, h.1)
-    go Greater rest = (h.0, rest)
-
-ids_without : (es : List (ℕ × Task)) (k : ℕ) → AreIds es → AreIds (without_key k es)
-ids_without [] k h = tt
-ids_without (e ∷ es) k h = go (not (eq_by_cmp nat_cmp k e.0)) (ids_without es k h.1)
-  where
-    go : (b : Bool) → AreIds (without_key k es) → AreIds (cond b (e ∷ without_key k es) (without_key k es))
-    go true rest = (h.0, rest)
-    go false rest = rest
-
 -- its readers are those that read
 one_kept : (es : List (ℕ × Task)) (rs : List (ℕ × ℤ)) (ds : List (ℕ × ℕ)) (k : ℕ) (t : Option Task) → k < 4294967296 → IsTrue (is_sorted nat_cmp es) → AreTasks es rs ds
     → AreTasks (changed nat_cmp k t es) (changed nat_cmp k (option_and_then (λ t. read_on t.waiting) t) rs) (by_moment (changed nat_cmp k t es))
 one_kept es rs ds k None within sorted h =
     record {
-      ids = ids_without es k h.ids;
+      ids = all_changed nat_cmp_total nat_cmp-IsAntisymmetric (λ e. e.0 < 4294967296) k None es tt h.ids;
       readers = ap (changed nat_cmp k None) h.readers ∙ sym (picked_removed nat_cmp_total nat_cmp-IsAntisymmetric (λ t. read_on t.waiting) k es);
       moments = refl;
     }
 one_kept es rs ds k (Some t) within sorted h =
     record {
-      ids = ids_put es k t within h.ids;
+      ids = all_changed nat_cmp_total nat_cmp-IsAntisymmetric (λ e. e.0 < 4294967296) k (Some t) es within h.ids;
       readers = ap (changed nat_cmp k (read_on t.waiting)) h.readers ∙ sym (picked_put nat_cmp_total nat_cmp-IsAntisymmetric (λ t. read_on t.waiting) k t es sorted);
       moments = refl;
     }

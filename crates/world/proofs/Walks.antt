@@ -8,7 +8,7 @@ use Rattle.std.specs.FinMap.{is_sorted}
 use Rattle.std.specs.FinMap.Entries.{below_all}
 use Rattle.world_table.specs.Entries.{first_from}
 use Rattle.spec_value.specs.Table.{Numbered}
-use Rattle.world.specs.Numbered.{keyed, numbered, signed_key, signed}
+use Rattle.world.specs.Numbered.{keyed, numbered, signed_key, unsigned_key, signed}
 
 -- the entries at this key or above it
 abbrev pub from : {X : Type 0} → ℕ → List (ℕ × X) → List (ℕ × X)
@@ -121,20 +121,15 @@ pub same_numbered : {X : Type 0} (xs ys : List (ℕ × X)) → numbered xs ≡ n
 unfolding natural
 same_numbered xs ys e = same_keyed pos natural (λ k. refl) xs ys e
 
-key_back : ℤ → ℕ
-key_back (pos n) = n + 2147483648
-key_back (negsuc n) = 2147483647 - n
-
-key_comes_back : (k : ℕ) → key_back (signed_key k) ≡ k
-unfolding key_back
+pub key_comes_back : (k : ℕ) → unsigned_key (signed_key k) ≡ k
 key_comes_back k = go (nat_lt k 2147483648) refl
   where
-    go : (b : Bool) → nat_lt k 2147483648 ≡ b → key_back (cond b (negsuc (2147483647 - k)) (pos (k - 2147483648))) ≡ k
+    go : (b : Bool) → nat_lt k 2147483648 ≡ b → unsigned_key (cond b (negsuc (2147483647 - k)) (pos (k - 2147483648))) ≡ k
     go true e = let lt : k < 2147483648 = grind (arith, nat_tests) in omega arith
     go false e = let le : 2147483648 ≤ k = grind (arith, nat_tests) in omega arith
 
 pub same_signed : {X : Type 0} (xs ys : List (ℕ × X)) → signed xs ≡ signed ys → xs ≡ ys
-same_signed xs ys e = same_keyed signed_key key_back key_comes_back xs ys e
+same_signed xs ys e = same_keyed signed_key unsigned_key key_comes_back xs ys e
 
 -- ---- what a walk of both comes to
 

@@ -1,25 +1,15 @@
 -- Which tasks are due, and in what order.
-use Rattle.std.specs.Prelude.{ℕ, ℤ, nat_lt, nat_le, if◌then◌else◌, List, [], ◌∷◌, map, filter, Option, Some, None}
+use Rattle.std.specs.Prelude.{ℕ, ℤ, nat_le, List, map, filter, Option}
 use Rattle.std.specs.Ordering.{int_cmp}
 use Rattle.spec_world.specs.World.{Task}
 use Rattle.moo_task.specs.Waits.{due_at}
 use Rattle.due_table.specs.Order.{first_item_from}
 use Rattle.due_table.specs.Pairs.{pair_cmp}
-
--- something with its moment, before the first that is not due earlier
-abbrev pub put_due : {K : Type 0} → ℕ → K → List (ℕ × K) → List (ℕ × K)
-put_due m k [] = (m, k) ∷ []
-put_due m k (d ∷ ds) = if nat_lt d.0 m then d ∷ put_due m k ds else (m, k) ∷ d ∷ ds
-
--- nothing, where there is no moment
-abbrev pub put_if_due : {K : Type 0} → Option ℕ → K → List (ℕ × K) → List (ℕ × K)
-put_if_due None k ds = ds
-put_if_due (Some m) k ds = put_due m k ds
+use Rattle.world.specs.Paired.{paired}
 
 -- the tasks that wait for a moment, with it: by their moments, and those of one moment in the order in which they stand
 abbrev pub by_moment : {K : Type 0} → List (K × Task) → List (ℕ × K)
-by_moment [] = []
-by_moment (t ∷ ts) = put_if_due (due_at (t.1).waiting) t.0 (by_moment ts)
+by_moment ts = paired (λ t. due_at t.waiting) ts
 
 -- those whose moment has come
 abbrev pub due_of : {K : Type 0} → ℕ → List (ℕ × K) → List K

@@ -3,11 +3,13 @@ pub mod Trace
 pub mod Counted
 pub mod Counts
 pub mod Numbered
+pub mod Paired
 pub mod Ready
 pub mod Forks
 pub mod Objects
 pub mod Picked
 pub mod Tasks
+pub mod LinkTable
 pub mod Revised
 pub mod Due
 pub mod Moved

@@ -1,5 +1,5 @@
 -- Tables by natural numbers, as the world's maps by integers.
-use Rattle.std.specs.Prelude.{ℕ, ℤ, pos, negsuc, ◌-◌, nat_lt, if◌then◌else◌, List, map}
+use Rattle.std.specs.Prelude.{ℕ, ℤ, pos, negsuc, ◌+◌, ◌-◌, nat_lt, if◌then◌else◌, List, map}
 use Rattle.spec_value.specs.Table.{Numbered}
 
 -- each key is read as an integer
@@ -12,6 +12,11 @@ numbered es = keyed pos es
 -- the keys below 2 ^ 31 stand for the negative integers, the least first
 abbrev pub signed_key : ℕ → ℤ
 signed_key k = if nat_lt k 2147483648 then negsuc (2147483647 - k) else pos (k - 2147483648)
+
+-- the key that stands for an integer of 32 bits
+abbrev pub unsigned_key : ℤ → ℕ
+unsigned_key (pos n) = n + 2147483648
+unsigned_key (negsuc n) = 2147483647 - n
 
 abbrev pub signed : {X : Type 0} → List (ℕ × X) → Numbered X
 signed es = keyed signed_key es

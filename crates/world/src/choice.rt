@@ -73,26 +73,6 @@ impl Choice<i32, i32> for ReadersOf {
     }
 }
 
-/// The numbers of the links of a person.
-#[derive(Clone, Copy)]
-pub(crate) struct LinksOf {
-    pub(crate) person: i32,
-}
-
-impl Choice<Link, i32> for LinksOf {
-    ghost bound = { λ _. 1048576 };
-
-    ghost picks = { λ s k l. cond (int_eq l.person s.person) (Some (pos k)) None };
-
-    fn choose(&self, key: u64, link: &Link) -> Option<i32> {
-        if link.person == self.person {
-            Some(key as i32)
-        } else {
-            None
-        }
-    }
-}
-
 /// The numbers of the links on which players have logged in, with the players.
 #[derive(Clone, Copy)]
 pub(crate) struct LoggedIn;
@@ -158,8 +138,8 @@ pub(crate) fn is_gathered<R: Drop, T: Compared + Drop, C: Choice<R, T>, const LE
     count == items.len()
 }
 
-// Whether this item is there at a place.
-fn is_at<T: Compared>(items: &[T], place: usize, item: &T) -> bool
+/// Whether this item is there at a place.
+pub(crate) fn is_at<T: Compared>(items: &[T], place: usize, item: &T) -> bool
     ensures { IsTrue result ↔ slice_get items.now place ≡ Some item.now }
 {
     place < items.len() && items[place].is_same(item)

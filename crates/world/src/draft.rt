@@ -9,8 +9,9 @@ ghost use Rattle.world.specs.Besides.{is_about_verbs, AgreesBesides};
 ghost use Rattle.world.specs.Due.{by_moment, due_ids, first_due_from};
 ghost use Rattle.world.specs.Numbered.{numbered};
 
-use crate::choice::{AllNumbers, LinksOf, LoggedIn, gather, is_gathered};
+use crate::choice::{AllNumbers, gather};
 use crate::edits::{NewPart, NewValue};
+use crate::links::Links;
 use crate::records::{put_record, record_at, revise_record, same_records, set_record};
 use crate::tasks::Tasks;
 use moo_task::task::Task;
@@ -37,7 +38,7 @@ const LAST_NEXT: u64 = 33554432;
 pub struct Draft {
     pub(crate) objects: Table<Object, 4>,
     pub(crate) tasks: Tasks,
-    pub(crate) links: Table<Link, 4>,
+    pub(crate) links: Links,
     pub(crate) greatest: i32,
     pub(crate) next: u64,
     pub(crate) ending: bool,
@@ -71,7 +72,7 @@ impl Model for Draft {
     ghost view = { λ a. record {
       objects = numbered a.objects.entries;
       tasks = a.tasks;
-      links = numbered a.links.entries;
+      links = a.links;
       greatest = a.greatest;
       next = a.next;
       ending = a.ending;
@@ -86,7 +87,7 @@ impl Draft {
         Draft {
             objects: Table::empty(alloc),
             tasks: Tasks::empty(alloc),
-            links: Table::empty(alloc),
+            links: Links::empty(alloc),
             greatest: -1,
             next: 1,
             ending: false,
@@ -113,13 +114,12 @@ impl Draft {
     }
 
     /// A link more, or another link of that number.
-    #[tactic(auto, using(crate::proofs::Maps::with_positive))]
     pub fn put_link(&mut self, number: u32, link: Link) -> Result<(), AllocError>
         requires { number < 1048576 }
         ensures ok { OnOk result (self.new ≡ record (self.old) { links = with self.old.links (pos number) link }) }
         ensures err { OnErr result (self.new ≡ self.old) }
     {
-        self.links.put(u64::from(number), link)
+        self.links.insert(number, link)
     }
 
     /// Another greatest number of objects.
@@ -196,8 +196,7 @@ impl Draft {
     pub fn link_numbers(&self) -> Result<Numbers, AllocError>
         ensures { IfOk result (λ numbers. numbers ≡ map (λ e. e.0) self.now.links) }
     {
-        let _within = self.links.len();
-        let found = gather(self.alloc, &self.links, &AllNumbers)?;
+        let found = self.links.numbers(self.alloc)?;
         let numbers = Numbers::new(self.alloc, found)?;
         Ok(numbers)
     }
@@ -249,7 +248,7 @@ impl Draft {
     pub fn link(&self, number: i32) -> Option<&Link>
         ensures { option_map (λ k. k.now) result ≡ at self.now.links number }
     {
-        record_at(&self.links, number)
+        self.links.get(number)
     }
 
     /// The task of an id, if it waits.
@@ -320,8 +319,7 @@ impl Draft {
     fn connections(&self, person: i32) -> Result<Numbers, AllocError>
         ensures { IfOk result (λ cs. cs ≡ connections_of self.now person) }
     {
-        let _within = self.links.len();
-        let found = gather(self.alloc, &self.links, &LinksOf { person })?;
+        let found = self.links.connections(self.alloc, person)?;
         let connections = Numbers::new(self.alloc, found)?;
         Ok(connections)
     }
@@ -329,8 +327,7 @@ impl Draft {
     fn has_connections(&self, person: i32, connections: &[i32]) -> bool
         ensures { IsTrue result ↔ connections_of self.now person ≡ connections.now }
     {
-        let _within = self.links.len();
-        is_gathered(&self.links, &LinksOf { person }, connections)
+        self.links.has_connections(person, connections)
     }
 
     fn is_connections(&self, person: i32, answer: &Answer) -> bool
@@ -348,8 +345,7 @@ impl Draft {
     fn connected(&self) -> Result<Players, AllocError>
         ensures { IfOk result (λ ps. ps ≡ connected self.now) }
     {
-        let _within = self.links.len();
-        let found = gather(self.alloc, &self.links, &LoggedIn)?;
+        let found = self.links.connected(self.alloc)?;
         let players = Players::new(found);
         Ok(players)
     }
@@ -357,8 +353,7 @@ impl Draft {
     fn has_connected(&self, players: &[(i32, i32)]) -> bool
         ensures { IsTrue result ↔ connected self.now ≡ players.now }
     {
-        let _within = self.links.len();
-        is_gathered(&self.links, &LoggedIn, players)
+        self.links.has_connected(players)
     }
 
     fn is_connected(&self, answer: &Answer) -> bool
@@ -454,7 +449,7 @@ impl Draft {
     {
         same_records(&self.objects, &other.objects)
             && self.tasks.same(&other.tasks)
-            && same_records(&self.links, &other.links)
+            && self.links.same(&other.links)
             && self.greatest == other.greatest
             && self.next == other.next
             && self.ending == other.ending
@@ -470,7 +465,7 @@ impl Draft {
             Change::Value(number, name, value) => self.put_value(number, &name, &value),
             Change::Object(number, object) => set_record(&mut self.objects, number, object),
             Change::Task(id, task) => self.tasks.put(id, task),
-            Change::Link(number, link) => set_record(&mut self.links, number, link),
+            Change::Link(number, link) => self.links.put(number, link),
             Change::Greatest(greatest) => {
                 self.greatest = greatest;
                 Ok(())

@@ -1,10 +1,9 @@
 //! The moments for which tasks wait, with their keys.
-ghost use Rattle.std.specs.Prelude.{◌≡◌, ◌<◌, None, IfOk, MatchOption, map, option_map, unwrap_or};
+ghost use Rattle.std.specs.Prelude.{◌≡◌, ◌<◌, None, IfOk, map, option_map};
 ghost use Rattle.std.specs.List.{AllByRecursion};
 ghost use Rattle.std.specs.Option.{option_and_then};
 ghost use Rattle.moo_task.specs.Waits.{due_at};
 ghost use Rattle.world.specs.Due.{due_of, first_due_from};
-ghost use Rattle.world.specs.Moved.{moved};
 ghost use Rattle.world.specs.Numbered.{signed_key};
 
 use crate::tasks::{id_of, key_of};
@@ -17,37 +16,6 @@ pub(crate) fn moment_of(task: Option<&Task>) -> Option<u32>
     ensures { result ≡ option_and_then (λ t. due_at t.waiting) (option_map (λ t. t.now) task.entry) }
 {
     task?.due()
-}
-
-/// The moments where that of a key is another one. None where it is the same.
-pub(crate) fn with_moved(
-    moments: &DueTable,
-    key: u64,
-    old: Option<u32>,
-    new: Option<u32>,
-) -> Result<Option<DueTable>, AllocError>
-    requires { key < 4294967296 }
-    ensures { IfOk result (λ changed. MatchOption changed (old ≡ new) (λ t. t ≡ moved old new key moments.now)) }
-{
-    match (old, new) {
-        (None, None) => Ok(None),
-        (None, Some(new)) => Ok(Some(moments.with(new, key)?)),
-        (Some(old), None) => Ok(Some(moments.without(old, key)?)),
-        (Some(old), Some(new)) if old == new => Ok(None),
-        (Some(old), Some(new)) => {
-            let others = moments.without(old, key)?;
-            Ok(Some(others.with(new, key)?))
-        }
-    }
-}
-
-/// Other moments, if there are any.
-pub(crate) fn replace(moments: &mut DueTable, changed: Option<DueTable>)
-    ensures { moments.new ≡ unwrap_or changed moments.old }
-{
-    if let Some(changed) = changed {
-        *moments = changed;
-    }
 }
 
 /// The first task of this moment and this id, or after it, with its moment. No other is looked at.

@@ -1,9 +1,11 @@
 //! Tables of records, by the numbers of objects and links.
-ghost use Rattle.std.specs.Prelude.{◌≡◌, ◌↔◌, ◌<◌, ◌^◌, ℕ, ℤ, pos, negsuc, true, false, IfOk, OnOk, OnErr, IsTrue, is_some, None, option_map, MatchOption};
+ghost use Rattle.std.specs.Prelude.{◌≡◌, ◌↔◌, ◌<◌, ◌^◌, ◌*◌, ℕ, ℤ, pos, negsuc, true, false, IfOk, IfSome, OnOk, OnErr, IsTrue, is_some, None, option_map, MatchOption};
 ghost use Rattle.std.specs.List.{AllByRecursion};
+ghost use Rattle.std.specs.Ordering.{nat_cmp};
 ghost use Rattle.spec_value.specs.Table.{at, with};
 ghost use Rattle.spec_world.specs.Questions.{put_record as changed_record};
 ghost use Rattle.world.specs.Numbered.{numbered};
+ghost use Rattle.world.specs.Picked.{changed};
 ghost use Rattle.world.specs.Revised.{RevisesRecord};
 
 use moo_task::task::Task;
@@ -14,14 +16,14 @@ use world_table::Table;
 use world_table::revision::Revision;
 
 /// The greatest number that an object or a link may have.
-const LAST_NUMBER: u64 = 999_999;
+pub(crate) const LAST_NUMBER: u64 = 999_999;
 
 /// The record of a number.
 #[tactic(auto, using(crate::proofs::Maps::at_positive, crate::proofs::Maps::at_negative))]
 pub(crate) fn record_at<R: Drop>(records: &Table<R, 4>, number: i32) -> Option<&R>
     ensures { option_map (λ r. r.now) result ≡ at (numbered records.now.entries) number }
 {
-    match key_of(number) {
+    match number_key(number) {
         Some(key) => records.get(key),
         None => None,
     }
@@ -39,7 +41,7 @@ pub(crate) fn put_record<R: Drop>(
     ensures err { OnErr result (records.new ≡ records.old) }
 {
     let _known = records.len();
-    match key_of(number) {
+    match number_key(number) {
         Some(key) => records.put(key, value),
         None => unreachable!(),
     }
@@ -55,10 +57,26 @@ pub(crate) fn set_record<R: Drop>(
     ensures ok { OnOk result (numbered records.new.entries ≡ changed_record (numbered records.old.entries) number value) }
     ensures err { OnErr result (records.new ≡ records.old) }
 {
-    match (key_of(number), value) {
+    match (number_key(number), value) {
         (Some(key), Some(value)) if key <= LAST_NUMBER => records.put(key, value),
         (Some(key), None) => records.remove(key),
         (_, _) => Ok(()),
+    }
+}
+
+/// Another record for a key, or none. After an `Err` the table is as it was.
+pub(crate) fn change_record<R: Drop, const LEVELS: u32>(
+    records: &mut Table<R, LEVELS>,
+    key: u64,
+    value: Option<R>,
+) -> Result<(), AllocError>
+    requires { IfSome value (λ _. key < 2 ^ (5 * LEVELS)) }
+    ensures ok { OnOk result (records.new.entries ≡ changed nat_cmp key value records.old.entries) }
+    ensures err { OnErr result (records.new ≡ records.old) }
+{
+    match value {
+        Some(value) => records.put(key, value),
+        None => records.remove(key),
     }
 }
 
@@ -72,7 +90,7 @@ pub(crate) fn revise_record<R: Drop, E: Revision<R>>(
     ensures left { IfOk result (λ b. b ≡ false → records.new ≡ records.old) }
     ensures err { OnErr result (records.new ≡ records.old) }
 {
-    let Some(key) = key_of(number) else {
+    let Some(key) = number_key(number) else {
         return Ok(false);
     };
     if key > LAST_NUMBER {
@@ -82,13 +100,22 @@ pub(crate) fn revise_record<R: Drop, E: Revision<R>>(
     Ok(done)
 }
 
-fn key_of(number: i32) -> Option<u64>
+/// The key of a number, unless it is negative.
+pub(crate) fn number_key(number: i32) -> Option<u64>
     ensures { MatchOption result ((n : ℕ) × (number ≡ negsuc n)) (λ k. number ≡ pos k) }
 {
     if number < 0 {
         return None;
     }
     Some(number as u64)
+}
+
+/// The number that has a key.
+pub(crate) fn number_of(key: u64) -> i32
+    requires { key < 1048576 }
+    ensures { result ≡ pos key }
+{
+    key as i32
 }
 
 /// A record that can be compared.

@@ -11,8 +11,9 @@ ghost use Rattle.world.specs.Numbered.{signed_key};
 ghost use Rattle.world.specs.Picked.{changed};
 
 use crate::choice::{AllIds, ReadersOf, gather, is_gathered};
-use crate::moments::{gather_due, moment_of, next_due, replace, with_moved};
-use crate::records::same_entries;
+use crate::moments::{gather_due, moment_of, next_due};
+use crate::pairs::{replace, with_moved};
+use crate::records::{change_record, same_entries};
 use due_table::DueTable;
 use moo_task::task::Task;
 use std::alloc::{AllocError, Global};
@@ -81,7 +82,7 @@ impl Tasks {
         let old = moment_of(self.tasks.get(key));
         let new = moment_of(task.as_ref());
         let moments = with_moved(&self.moments, key, old, new)?;
-        changed_task(&mut self.tasks, key, task)?;
+        change_record(&mut self.tasks, key, task)?;
         self.readers = readers;
         replace(&mut self.moments, moments);
         Ok(())
@@ -149,18 +150,6 @@ impl Tasks {
     {
         let ids = gather_due(alloc, &self.moments, moment)?;
         Ok(ids)
-    }
-}
-
-// Another task of a key, or none. After an `Err` the table is as it was.
-fn changed_task(tasks: &mut Table<Task, 7>, key: u64, task: Option<Task>) -> Result<(), AllocError>
-    requires { key < 4294967296 }
-    ensures ok { OnOk result (tasks.new.entries ≡ changed nat_cmp key task tasks.old.entries) }
-    ensures err { OnErr result (tasks.new ≡ tasks.old) }
-{
-    match task {
-        Some(task) => tasks.put(key, task),
-        None => tasks.remove(key),
     }
 }
 

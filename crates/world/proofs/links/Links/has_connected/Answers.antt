@@ -1,9 +1,9 @@
-use Rattle.std.proofs.Common.{◌<◌, ◌≤◌, ◌∙◌, ℕ, sym, ap, arith, rules}
+use Rattle.std.proofs.Common.{◌<◌, ◌≤◌, ◌∙◌, ℕ, pos, int_le, sym, ap, arith, rules, map, filter}
 use Rattle.std.specs.List.{AllByRecursion}
-use Rattle.spec_world.specs.World.{World, Link}
-use Rattle.spec_world.specs.Listings.{connected}
+use Rattle.spec_value.specs.Table.{Numbered}
+use Rattle.spec_world.specs.World.{Link}
 use Rattle.world.proofs.Listed.{logged_in, within}
-use Rattle.world.proofs.draft.Draft.has_connected.Goals as goal
+use Rattle.world.proofs.links.Links.has_connected.Goals as goal
 
 pub is_gathered-requires : goal.is_gathered-requires
 is_gathered-requires c =
@@ -13,5 +13,5 @@ is_gathered-requires c =
 
 pub returns : goal.returns
 returns c =
-    let listed = logged_in c.self.inside.links.entries ∙ ap (λ (w : World). connected w) c.self.view_is in
+    let listed = logged_in c.self.inside.links.entries ∙ ap (λ (ls : Numbered Link). map (λ e. (e.0, (e.1).person)) (filter (λ e. int_le (pos 0) (e.1).person) ls)) c.self.view_is in
     (λ h. sym listed ∙ c.is_gathered.ensures.0 h, λ e. c.is_gathered.ensures.1 (listed ∙ e))

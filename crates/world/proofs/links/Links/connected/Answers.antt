@@ -1,9 +1,9 @@
-use Rattle.std.proofs.Common.{◌<◌, ◌≤◌, ◌∙◌, ℕ, ap, arith, rules}
+use Rattle.std.proofs.Common.{◌<◌, ◌≤◌, ◌∙◌, ℕ, pos, int_le, ap, arith, rules, map, filter}
 use Rattle.std.specs.List.{AllByRecursion}
-use Rattle.spec_world.specs.World.{World, Link}
-use Rattle.spec_world.specs.Listings.{connected}
+use Rattle.spec_value.specs.Table.{Numbered}
+use Rattle.spec_world.specs.World.{Link}
 use Rattle.world.proofs.Listed.{logged_in, within}
-use Rattle.world.proofs.draft.Draft.connected.Goals as goal
+use Rattle.world.proofs.links.Links.connected.Goals as goal
 
 pub gather-requires : goal.gather-requires
 gather-requires c =
@@ -12,4 +12,5 @@ gather-requires c =
     search (rules, keys, bound)
 
 pub returns : goal.returns
-returns c = c.new-players.ensures ∙ c.in_ok-found.ensures ∙ logged_in c.self.inside.links.entries ∙ ap (λ (w : World). connected w) c.self.view_is
+returns c =
+    c.in_ok-players.ensures ∙ logged_in c.self.inside.links.entries ∙ ap (λ (ls : Numbered Link). map (λ e. (e.0, (e.1).person)) (filter (λ e. int_le (pos 0) (e.1).person) ls)) c.self.view_is

@@ -1,8 +1,9 @@
 use Rattle.std.proofs.Common.{◌<◌, ◌≤◌, ◌∙◌, ℕ, ap, arith, rules, map}
 use Rattle.std.specs.List.{AllByRecursion}
-use Rattle.spec_world.specs.World.{World, Link}
+use Rattle.spec_value.specs.Table.{Numbered}
+use Rattle.spec_world.specs.World.{Link}
 use Rattle.world.proofs.Listed.{all_numbers, within}
-use Rattle.world.proofs.draft.Draft.link_numbers.Goals as goal
+use Rattle.world.proofs.links.Links.numbers.Goals as goal
 
 pub gather-requires : goal.gather-requires
 gather-requires c =
@@ -11,4 +12,4 @@ gather-requires c =
     search (rules, keys, bound)
 
 pub returns : goal.returns
-returns c = c.in_ok-numbers.ensures ∙ c.in_ok-found.ensures ∙ all_numbers c.self.inside.links.entries ∙ ap (λ (w : World). map (λ e. e.0) w.links) c.self.view_is
+returns c = c.in_ok-numbers.ensures ∙ all_numbers c.self.inside.links.entries ∙ ap (λ (ls : Numbered Link). map (λ e. e.0) ls) c.self.view_is

@@ -1,0 +1,3 @@
+pub mod ValueKinds
+pub mod Telling
+pub mod Wanting

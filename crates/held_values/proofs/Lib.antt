@@ -1,3 +1,4 @@
 pub mod ValueKinds
 pub mod Telling
 pub mod Wanting
+pub mod Stepping

@@ -34,7 +34,7 @@ turned_back st = onto_onto st [] [] ∙ append-nil st
 pub as_deep : (st us : List Datum) → from_deepest st ≡ from_deepest us → st ≡ us
 as_deep st us e = sym (turned_back st) ∙ ap from_deepest e ∙ turned_back us
 
-length_onto : (vs st : List Datum) → length (onto vs st) ≡ length vs + length st
+pub length_onto : (vs st : List Datum) → length (onto vs st) ≡ length vs + length st
 length_onto [] st = omega arith
 length_onto (v ∷ vs) st = omega (arith, length_onto vs (v ∷ st))
 

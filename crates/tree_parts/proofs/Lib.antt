@@ -7,3 +7,6 @@ pub mod Stored
 pub mod Descent
 pub mod FrameTasksPlaced
 pub mod Waiting
+pub mod Leading
+pub mod Found
+pub mod Among

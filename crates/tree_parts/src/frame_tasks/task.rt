@@ -1,12 +1,12 @@
 //! Tasks that wait, of what is under way.
-ghost use Rattle.std.specs.Prelude.{◌≡◌, [], ◌∷◌, IfOk, IfSome, IsTrue, OnOk};
+ghost use Rattle.std.specs.Prelude.{◌≡◌, [], ◌∷◌, IfOk, IfSome, IsTrue, is_some, OnOk};
 ghost use Rattle.tree_parts.specs.Arriving.{StandsThere};
 ghost use Rattle.tree_parts.specs.Telling.{WaitsAtCalls};
 ghost use Rattle.moo_code.specs.Machine.{verb};
 ghost use Rattle.spec_world.specs.World.{forked as forked_until};
 ghost use Rattle.moo_task.specs.Effects.{waiting_of};
 ghost use Rattle.moo_task.specs.Frames.{kept_of, outer_of, outers_of};
-ghost use Rattle.moo_task.specs.Keeping.{task_of};
+ghost use Rattle.moo_task.specs.Keeping.{AllAtCall, BeginsAlone, IsKept, task_of};
 ghost use Rattle.tree_parts.specs.Standing.{AllStand, OuterStands};
 
 use crate::frame_tasks::standing::stands_at_call;
@@ -18,7 +18,7 @@ use std::alloc::{AllocError, Global};
 
 /// The task that waits so, of what is under way with the innermost last; if it may be: what was forked is one verb at its
 /// beginning, without operands, and otherwise the innermost is a verb, and each verb stands at a call of its program with as many
-/// operands as are held there.
+/// operands as are held there. It is made exactly then.
 #[tactic(auto, using(moo_task::proofs::Waiting::one_more))]
 pub fn task_from(
     alloc: Global,
@@ -26,7 +26,8 @@ pub fn task_from(
     waiting: Waiting,
     verbs: Vec<Outer>,
 ) -> Result<Option<Task>, AllocError>
-    ensures { IfOk result (λ made. IfSome made (λ t. t ≡ task_of player (waiting_of waiting) (outers_of verbs.items))) }
+    ensures tells { IfOk result (λ made. IfSome made (λ t. t ≡ task_of player (waiting_of waiting) (outers_of verbs.items))) }
+    ensures finds { IfOk result (λ made. IsKept (waiting_of waiting) (outers_of verbs.items) → IsTrue (is_some made)) }
 {
     let mut outer = verbs;
     match outer.pop() {
@@ -43,7 +44,8 @@ fn with_innermost(
     frame: Frame,
     outer: Vec<Outer>,
 ) -> Result<Option<Task>, AllocError>
-    ensures { IfOk result (λ made. IfSome made (λ t. t ≡ task_of player (waiting_of waiting) (verb (kept_of frame) ∷ outers_of outer.items))) }
+    ensures tells { IfOk result (λ made. IfSome made (λ t. t ≡ task_of player (waiting_of waiting) (verb (kept_of frame) ∷ outers_of outer.items))) }
+    ensures finds { IfOk result (λ made. IsKept (waiting_of waiting) (verb (kept_of frame) ∷ outers_of outer.items) → IsTrue (is_some made)) }
 {
     match waiting {
         Waiting::Forked(due) => forked(alloc, player, due, frame, outer),
@@ -64,7 +66,8 @@ fn forked(
     frame: Frame,
     outer: Vec<Outer>,
 ) -> Result<Option<Task>, AllocError>
-    ensures { IfOk result (λ made. IfSome made (λ t. t ≡ task_of player (forked_until due) (verb (kept_of frame) ∷ outers_of outer.items))) }
+    ensures tells { IfOk result (λ made. IfSome made (λ t. t ≡ task_of player (forked_until due) (verb (kept_of frame) ∷ outers_of outer.items))) }
+    ensures finds { IfOk result (λ made. BeginsAlone (verb (kept_of frame) ∷ outers_of outer.items) → IsTrue (is_some made)) }
 {
     if !outer.is_empty() || !is_at_beginning(&frame) {
         return Ok(None);
@@ -74,7 +77,8 @@ fn forked(
 }
 
 fn is_at_beginning(frame: &Frame) -> bool
-    ensures { IsTrue result → (frame.now.state.place ≡ 0) × (frame.now.state.operands ≡ []) }
+    ensures tells { IsTrue result → (frame.now.state.place ≡ 0) × (frame.now.state.operands ≡ []) }
+    ensures finds { frame.now.state.place ≡ 0 → frame.now.state.operands ≡ [] → IsTrue result }
 {
     frame.state.place == 0 && frame.state.operands.len() == 0
 }
@@ -88,7 +92,8 @@ fn stopped(
     outer: Vec<Outer>,
 ) -> Result<Option<Task>, AllocError>
     requires { WaitsAtCalls (waiting_of waiting) }
-    ensures { IfOk result (λ made. IfSome made (λ t. t ≡ task_of player (waiting_of waiting) (verb (kept_of frame) ∷ outers_of outer.items))) }
+    ensures tells { IfOk result (λ made. IfSome made (λ t. t ≡ task_of player (waiting_of waiting) (verb (kept_of frame) ∷ outers_of outer.items))) }
+    ensures finds { IfOk result (λ made. AllAtCall (verb (kept_of frame) ∷ outers_of outer.items) → IsTrue (is_some made)) }
 {
     let verb_stands = stands_at_call(alloc, &frame)?;
     let others_stand = all_stand(alloc, outer.as_slice())?;
@@ -103,7 +108,8 @@ fn stopped(
 // Whether each verb among these stands at a call.
 #[tactic(auto, using(crate::proofs::Waiting::stand_more))]
 fn all_stand(alloc: Global, outers: &[Outer]) -> Result<bool, AllocError>
-    ensures { IfOk result (λ so. IsTrue so → AllStand (outers_of outers.now)) }
+    ensures tells { IfOk result (λ so. IsTrue so → AllStand (outers_of outers.now)) }
+    ensures finds { IfOk result (λ so. AllStand (outers_of outers.now) → IsTrue so) }
 {
     for outer in outers {
         let stands = stands(alloc, outer)?;
@@ -115,7 +121,8 @@ fn all_stand(alloc: Global, outers: &[Outer]) -> Result<bool, AllocError>
 }
 
 fn stands(alloc: Global, outer: &Outer) -> Result<bool, AllocError>
-    ensures { IfOk result (λ so. IsTrue so → OuterStands (outer_of outer.now)) }
+    ensures tells { IfOk result (λ so. IsTrue so → OuterStands (outer_of outer.now)) }
+    ensures finds { IfOk result (λ so. OuterStands (outer_of outer.now) → IsTrue so) }
 {
     match outer {
         Outer::Verb(frame) => stands_at_call(alloc, frame),

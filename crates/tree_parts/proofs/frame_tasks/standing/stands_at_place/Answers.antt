@@ -2,7 +2,7 @@ use Rattle.moo_task.specs.Frames.{kept_of}
 use Rattle.tree_parts.proofs.FrameTasksPlaced.{stands_there}
 use Rattle.tree_parts.proofs.frame_tasks.standing.stands_at_place.Goals as goal
 
-pub returns : goal.returns
-returns c =
+pub returns-clause-tells : goal.returns-clause-tells
+returns-clause-tells c =
     stands_there (kept_of c.args.frame.now) c.args.path.now c.tree.result.now c.len-count.result c.args.place c.in_ok-so.so c.requires c.if-place-frame.false c.tree.ensures
     c.len-count.ensures c.in_ok-so.ensures

@@ -6,9 +6,9 @@ use Rattle.tree_parts.specs.Standing.{AllStand}
 use Rattle.tree_parts.proofs.Waiting.{made_from}
 use Rattle.tree_parts.proofs.frame_tasks.task.stopped.Goals as goal
 
-pub returns : goal.returns
-returns c =
+pub returns-clause-tells : goal.returns-clause-tells
+returns-clause-tells c =
     made_from c.args.player (to_z w32 (of_z w32 c.args.player)) (waiting_of c.args.waiting) (kept_of c.args.frame) c.in_ok-outer.outer (outers_of c.args.outer.items)
-    c.in_ok-task.task c.requires (c.in_ok-verb_stands.ensures c.if-not-verb_stands.false)
-    (subst AllStand (ap outers_of c.as_slice.ensures.value) (c.in_ok-others_stand.ensures c.if-not-others_stand.false)) c.in_ok-outer.ensures
+    c.in_ok-task.task c.requires (c.in_ok-verb_stands.ensures.tells c.if-not-verb_stands.false)
+    (subst AllStand (ap outers_of c.as_slice.ensures.value) (c.in_ok-others_stand.ensures.tells c.if-not-others_stand.false)) c.in_ok-outer.ensures
     (to_z-of_z w32 c.args.player c.ranges.player) c.in_ok-task.ensures

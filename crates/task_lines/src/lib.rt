@@ -1,0 +1,2 @@
+//! The lines of tasks that wait, read.
+#![tactic(auto)]

@@ -2,3 +2,4 @@ pub mod ValueKinds
 pub mod Telling
 pub mod Wanting
 pub mod Stepping
+pub mod Natives

@@ -3,7 +3,12 @@
 #![tactic(auto)]
 
 mod count;
+pub mod down;
 pub mod fits;
+pub mod held;
 mod kinds;
 mod leaving;
+mod loops;
+pub mod native;
 mod walk;
+pub mod wanted;

@@ -6,6 +6,8 @@ use Rattle.std.specs.Ordering.{eq_by_cmp}
 use Rattle.std.specs.Cmp.Lexicographic.{slice_cmp}
 use Rattle.std.specs.FinMap.Entries.{below_all}
 use Rattle.std.proofs.lemmas.Option.{slice_get_within}
+use Rattle.std.specs.List.{list_all}
+use Rattle.std.proofs.lemmas.Bool.{ltb-true}
 use Rattle.spec_value.specs.Datum.{Datum, Text, same_text}
 use Rattle.spec_value.specs.Table.{Named, named, is_named}
 use Rattle.spec_value.proofs.Entries.{first_holds, second_holds}
@@ -16,6 +18,7 @@ use Rattle.spec_world.proofs.SlotTables.{sought}
 use Rattle.moo_code.specs.Slots.{slot_of, in_slot, variables_over, others}
 use Rattle.moo_code.proofs.Slots.{same_tables, variables_sorted, others_sorted, others_named, others_stay, others_have_none, slot_is_variable, name_has_slot}
 use Rattle.task_lines.specs.Gathering.{first_of, value_now, Gathers, slots_with, further_with}
+use Rattle.task_lines.specs.Tasks.{variable_reads}
 
 -- ---- a table's entries are found in it
 
@@ -172,3 +175,27 @@ all_gathered names slots further table sorted once h =
         others_stay (others names further) names slots q n ∙ others_named names further q
         ∙ ap (λ c. if c then None else named further q) n
         ∙ sym (ap (λ c. if c then in_slot (slice_get slots (slot_of names q)) else named further q) n)
+
+-- ---- one variable of the lines
+
+pub variable_at : (es : Named Datum) (i : ℕ) → i < length es → IsTrue (list_all variable_reads es) → (e : Text × Datum) × (slice_get es i ≡ Some e) × IsTrue (variable_reads e) × (drop i es ≡ e ∷ drop (suc i) es)
+variable_at [] i small h = absurd (omega (arith, small))
+variable_at (e ∷ es) zero small h = (e, refl, first_holds (variable_reads e) _ h, refl)
+variable_at (e ∷ es) (suc i) small h = variable_at es i (omega (arith, small)) (second_holds (variable_reads e) _ h)
+
+pub one_gathered : (names : List Text) (slots : List (Option Datum)) (further left : List (Text × Datum)) (table : Named Datum) (e : Text × Datum) (p : Option ℕ)
+    → p ≡ (if nat_lt (slot_of names e.0) (length names) then Some (slot_of names e.0) else None) → has_name names e.0 ≡ nat_lt (slot_of names e.0) (length names)
+    → named table e.0 ≡ Some e.1 → length slots ≡ length names → Gathers names slots further (e ∷ left) table
+    → Gathers names (slots_with p slots e.1) (further_with p further e) left table
+one_gathered names slots further left table e p is known there count h = go (nat_lt (slot_of names e.0) (length names)) refl
+  where
+    go : (b : Bool) → nat_lt (slot_of names e.0) (length names) ≡ b → Gathers names (slots_with p slots e.1) (further_with p further e) left table
+    go true n =
+        let small : slot_of names e.0 < length names = ltb-true (slot_of names e.0) (length names) n in
+        let place : p ≡ Some (slot_of names e.0) = is ∙ ap (λ b. if b then Some (slot_of names e.0) else None) n in
+        subst (λ q. Gathers names (slots_with q slots e.1) (further_with q further e) left table) (sym place)
+        (in_place names slots further left table e there (known ∙ n) (omega (arith, small, count)) h)
+    go false n =
+        let place : p ≡ None = is ∙ ap (λ b. if b then Some (slot_of names e.0) else None) n in
+        subst (λ q. Gathers names (slots_with q slots e.1) (further_with q further e) left table) (sym place)
+        (behind_others names slots further left table e (known ∙ n) h)

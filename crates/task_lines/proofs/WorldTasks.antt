@@ -3,14 +3,14 @@ use Rattle.std.proofs.Common.{◌≡◌, ◌∙◌, refl, sym, ap, subst, ℕ, z
 use Rattle.std.specs.Prelude.{◌≤ℤ◌, int_le, is_some}
 use Rattle.std.specs.List.{list_all}
 use Rattle.spec_value.specs.Datum.{Datum, Text, in_number_range, is_text, is_value, list, of_list}
-use Rattle.spec_value.specs.Table.{is_named, at}
+use Rattle.spec_value.specs.Table.{at}
 use Rattle.std.proofs.lemmas.Bool.{le-leb}
 use Rattle.spec_value.proofs.Keys.{as_type}
 use Rattle.spec_value.proofs.Entries.{first_holds, second_holds, both_hold}
 use Rattle.spec_program.specs.Construct.{Piece}
 use Rattle.spec_program.specs.Trees.{is_tree}
 use Rattle.spec_world.specs.World.{World, Link, Frame, Native, Entry, frame_entry, native_entry, Waiting, forked, timed, idle, reading_on, Task}
-use Rattle.spec_world.specs.WellFormed.{IsWellFormed, StandsAtCall, FramesStand, TaskStands, is_connection, link_fits, is_variable, pieces_fit, frame_fits, native_fits, entry_fits, begins_with_frame, frames, at_beginning, fork_fits, is_moment, waiting_fits, entries_fit}
+use Rattle.spec_world.specs.WellFormed.{IsWellFormed, StandsAtCall, FramesStand, TaskStands, is_connection, link_fits, frame_fits, native_fits, entry_fits, begins_with_frame, frames, at_beginning, fork_fits, is_moment, waiting_fits, entries_fit}
 use Rattle.spec_world.specs.Checkpoint.{start_values, values_held}
 use Rattle.spec_checkpoint.specs.Holding.{is_number, call_holds, piece_holds, frame_holds, native_holds, entry_holds, waiting_holds, task_holds}
 use Rattle.spec_checkpoint.proofs.Fields.{values_hold}
@@ -57,15 +57,12 @@ frame_reads f h fits nests =
       call = first_holds (call_holds f.call) _ h;
       start = first_holds (list_all is_value (start_values f.start)) _ behind_call;
       tree = first_holds (is_tree f.program) _ behind_start;
-      sorted =
-          first_holds (is_named f.variables) (list_all (λ e. is_variable e.0) f.variables)
-          (first_holds (is_named f.variables && list_all (λ e. is_variable e.0) f.variables) (pieces_fit f.pieces) fits);
       variables = all_variables f.variables variables (first_holds (list_all (λ e. nests_no_deeper e.1) f.variables) (list_all nests_no_deeper (values_held f.pieces)) nests);
       places = all_places f.pieces pieces;
       held =
           all_and is_value nests_no_deeper (values_held f.pieces) (held_are_values f.pieces pieces)
           (second_holds (list_all (λ e. nests_no_deeper e.1) f.variables) (list_all nests_no_deeper (values_held f.pieces)) nests);
-      fits = second_holds (is_named f.variables && list_all (λ e. is_variable e.0) f.variables) (pieces_fit f.pieces) fits;
+      fits = fits;
     }
 
 native_reads : (n : Native) → IsTrue (native_holds n) → IsTrue (native_fits n.name n.stage n.arguments) → IsTrue (nests_no_deeper (list (of_list n.arguments))) → NativeReads n

@@ -1,18 +1,26 @@
 -- What is under way in a task, as its lines tell it: the outermost first.
-use Rattle.std.specs.Prelude.{◌≡◌, ℕ, suc, ◌&&◌, not, nat_lt, Bool, true, false, List, [], ◌∷◌, ◌++◌, length, map, codes}
-use Rattle.std.specs.Fmt.{decimal}
-use Rattle.spec_value.specs.Datum.{Text}
+use Rattle.std.specs.Prelude.{ℕ, ℤ, suc, ◌&&◌, not, nat_lt, Bool, true, false, List, [], ◌∷◌, ◌++◌, length, map, codes}
+use Rattle.std.specs.Fmt.{decimal, signed_decimal}
+use Rattle.spec_value.specs.Datum.{Text, text}
+use Rattle.spec_value.specs.Literal.{literal}
 use Rattle.spec_program.specs.Spelling.{canonical_lines}
-use Rattle.spec_world.specs.World.{Frame, Native, Entry, frame_entry, native_entry}
-use Rattle.spec_world.specs.Checkpoint.{fields, counted, list_literal, path, part_numbers, values_held, literal_lines, variable_lines, start_values, call_line, native_text, entry_lines}
+use Rattle.spec_world.specs.World.{Call, Frame, Native, Waiting, Entry, frame_entry, native_entry}
+use Rattle.spec_world.specs.Checkpoint.{fields, counted, object_text, flag, list_literal, path, part_numbers, values_held, literal_lines, variable_lines, start_values, native_text, entry_lines, waiting_fields}
 use Rattle.moo_code.specs.Machine.{Kept, Outer, verb, native}
 use Rattle.moo_code.specs.Stands.{kept_of}
 use Rattle.moo_code.specs.Resuming.{waiting_kept}
 
 -- ---- lines
 
-abbrev pub native_line : Native → Text
-native_line n = fields (codes "native" ∷ native_text n.name ∷ decimal n.stage ∷ list_literal n.arguments ∷ [])
+abbrev pub own_fields : ℤ → Waiting → List Text
+own_fields i w = codes "task" ∷ signed_decimal i ∷ waiting_fields w
+
+abbrev pub call_fields : Call → ℕ → List Text
+call_fields c n =
+    codes "frame" ∷ object_text c.this ∷ object_text c.caller ∷ object_text c.definer ∷ object_text c.programmer ∷ literal (text c.verb) ∷ flag c.debug ∷ decimal n ∷ []
+
+abbrev pub native_fields : Native → List Text
+native_fields n = codes "native" ∷ native_text n.name ∷ decimal n.stage ∷ list_literal n.arguments ∷ []
 
 abbrev pub held_lines : Frame → List Text
 held_lines f = counted (codes "held") (length (values_held f.pieces)) ∷ literal_lines (values_held f.pieces)
@@ -29,8 +37,8 @@ lines_behind_call f = canonical_lines f.program ++ lines_behind_program f
 
 -- of an entry its own line, and those behind it
 abbrev pub own_line : Entry → Text
-own_line (frame_entry f) = call_line f.call (length (canonical_lines f.program))
-own_line (native_entry n) = native_line n
+own_line (frame_entry f) = fields (call_fields f.call (length (canonical_lines f.program)))
+own_line (native_entry n) = fields (native_fields n)
 
 abbrev pub lines_behind : Entry → List Text
 lines_behind (frame_entry f) = lines_behind_call f
@@ -55,6 +63,10 @@ outer_for is_fork (native_entry n) = native n
 abbrev pub is_native : Entry → Bool
 is_native (frame_entry f) = false
 is_native (native_entry n) = true
+
+abbrev pub is_native_outer : Outer → Bool
+is_native_outer (verb k) = false
+is_native_outer (native n) = true
 
 abbrev pub is_end : List Entry → Bool
 is_end [] = true

@@ -1,7 +1,9 @@
 -- Variables that are read one by one: into the slots of a program's names, or to the others.
-use Rattle.std.specs.Prelude.{◌≡◌, ℕ, List, [], ◌∷◌, ◌++◌, length, Option, Some, None, Bool, true, false, slice_get, slice_set, if◌then◌else◌}
-use Rattle.spec_value.specs.Datum.{Datum, Text}
+use Rattle.std.specs.Prelude.{◌≡◌, ℕ, List, [], ◌∷◌, ◌++◌, length, Option, Some, None, Bool, true, false, slice_get, slice_set, if◌then◌else◌, codes}
+use Rattle.spec_value.specs.Datum.{Datum, Text, text}
+use Rattle.spec_value.specs.Literal.{literal}
 use Rattle.spec_value.specs.Table.{Named, named}
+use Rattle.spec_world.specs.Checkpoint.{fields}
 use Rattle.spec_world.specs.WellFormed.{has_name}
 use Rattle.moo_code.specs.Slots.{slot_of, in_slot}
 
@@ -18,7 +20,12 @@ value_now names slots further q = if has_name names q then in_slot (slice_get sl
 abbrev pub Gathers : List Text → List (Option Datum) → List (Text × Datum) → List (Text × Datum) → Named Datum → Type 0
 Gathers names slots further left table = (q : Text) → first_of (value_now names slots further q) (named left q) ≡ named table q
 
--- a variable into its slot, or to the others
+-- ---- one more
+
+abbrev pub variable_line : Text × Datum → Text
+variable_line e = fields (codes "var" ∷ literal (text e.0) ∷ literal e.1 ∷ [])
+
+-- into its slot, or to the others
 abbrev pub slots_with : Option ℕ → List (Option Datum) → Datum → List (Option Datum)
 slots_with None slots v = slots
 slots_with (Some i) slots v = slice_set slots i (Some v)

@@ -2,10 +2,10 @@
 use Rattle.std.specs.Prelude.{◌≡◌, ◌≤◌, ℕ, ℤ, pos, ◌≤ℤ◌, ◌&&◌, Bool, true, false, List, [], ◌∷◌, Some, IsTrue}
 use Rattle.std.specs.List.{list_all}
 use Rattle.spec_value.specs.Datum.{Datum, Text, in_number_range, is_text, is_value, list, of_list}
-use Rattle.spec_value.specs.Table.{is_named, at}
+use Rattle.spec_value.specs.Table.{at}
 use Rattle.spec_program.specs.Trees.{is_tree}
 use Rattle.spec_world.specs.World.{World, Frame, Native, Entry, frame_entry, native_entry, Waiting, forked, timed, idle, reading_on, Task}
-use Rattle.spec_world.specs.WellFormed.{IsWellFormed, StandsAtCall, pieces_fit, native_fits, begins_with_frame, frames, fork_fits}
+use Rattle.spec_world.specs.WellFormed.{IsWellFormed, StandsAtCall, frame_fits, native_fits, begins_with_frame, frames, fork_fits}
 use Rattle.spec_world.specs.Checkpoint.{start_values, values_held}
 use Rattle.spec_checkpoint.specs.Holding.{call_holds, numbered_task_holds}
 use Rattle.moo_code.specs.Paths.{path_of}
@@ -20,11 +20,10 @@ pub record FrameReads (f : Frame) : Type 0 where
   pub call : IsTrue (call_holds f.call)
   pub start : IsTrue (list_all is_value (start_values f.start))
   pub tree : IsTrue (is_tree f.program)
-  pub sorted : IsTrue (is_named f.variables)
   pub variables : IsTrue (list_all variable_reads f.variables)
   pub places : IsTrue (are_places (path_of f.pieces))
   pub held : IsTrue (list_all is_readable (values_held f.pieces))
-  pub fits : IsTrue (pieces_fit f.pieces)
+  pub fits : IsTrue (frame_fits f)
 
 pub record NativeReads (n : Native) : Type 0 where
   pub fits : IsTrue (native_fits n.name n.stage n.arguments)

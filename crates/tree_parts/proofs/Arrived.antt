@@ -28,7 +28,7 @@ onto_behind (v ∷ st) us =
 pub deepest_first : (vs st : List Datum) → from_deepest (onto vs st) ≡ from_deepest st ++ vs
 deepest_first vs st = onto_onto vs st [] ∙ ap (onto st) (append-nil vs) ∙ onto_behind st vs
 
-turned_back : (st : List Datum) → from_deepest (from_deepest st) ≡ st
+pub turned_back : (st : List Datum) → from_deepest (from_deepest st) ≡ st
 turned_back st = onto_onto st [] [] ∙ append-nil st
 
 pub as_deep : (st us : List Datum) → from_deepest st ≡ from_deepest us → st ≡ us

@@ -81,3 +81,16 @@ all_stand (native_entry n ∷ es) [] w st = absurd w
 all_stand (native_entry n ∷ es) (verb k ∷ ks) w st = absurd w
 all_stand (frame_entry f ∷ es) (verb k ∷ ks) w st = (record { frame = f; waits = w.0; stands = st.0 }, all_stand es ks w.1 st.1)
 all_stand (native_entry n ∷ es) (native m ∷ ks) w st = (tt, all_stand es ks w.1 st)
+
+-- ---- as it is sought
+
+pub found_call : (k : Kept) (h : StandsThere k) (path : List ℕ) (tree : Program) (count : ℕ) (so : Bool) → path ≡ path_of (h.frame).pieces → tree ≡ k.program → count ≡ length k.operands
+    → so ≡ is_call_there (arrives (of_program tree) path count) → IsTrue so
+found_call k h path tree count so along whole all is =
+    subst IsTrue (sym (is ∙ (λ i. is_call_there (arrives (of_program (whole i)) (along i) (all i))))) (call_there k h)
+
+pub found_place : (k : Kept) (h : StandsThere k) (path : List ℕ) (place : ℕ) → place_at k.program path ≡ Some place → path ≡ path_of (h.frame).pieces → place ≡ k.place
+found_place k h path place at along = let both : Some place ≡ Some k.place = sym at ∙ ap (place_at k.program) along ∙ place_there k h in cc
+
+pub some_place : (k : Kept) (h : StandsThere k) (path : List ℕ) (found : Option ℕ) → found ≡ place_at k.program path → path ≡ path_of (h.frame).pieces → found ≡ Some k.place
+some_place k h path found is along = is ∙ ap (place_at k.program) along ∙ place_there k h

@@ -18,11 +18,11 @@ use Rattle.tree_parts.proofs.Arrived.{deepest_first}
 
 -- ---- pieces
 
-numbers_told : (ps : List Piece) → part_numbers ps ≡ map decimal (path_of ps)
+pub numbers_told : (ps : List Piece) → part_numbers ps ≡ map decimal (path_of ps)
 numbers_told [] = refl
 numbers_told (p ∷ ps) = ap (λ l. l ++ decimal p.part ∷ []) (numbers_told ps) ∙ sym (map-append decimal (path_of ps) (p.part ∷ []))
 
-held_told : (ps : List Piece) → values_held ps ≡ from_deepest (operands ps)
+pub held_told : (ps : List Piece) → values_held ps ≡ from_deepest (operands ps)
 held_told [] = refl
 held_told (p ∷ ps) = ap (λ l. l ++ p.held) (held_told ps) ∙ sym (deepest_first p.held (operands ps))
 

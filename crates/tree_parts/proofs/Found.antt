@@ -1,5 +1,6 @@
 -- A verb that waits at a call of its program is found there: by its place, by its path, and with its operands.
-use Rattle.std.proofs.Common.{◌≡◌, ◌∙◌, ap, sym, refl, subst, ℕ, zero, suc, pred, ◌+◌, ◌<◌, Bool, true, List, [], ◌∷◌, ◌++◌, length, Option, Some, None, IsTrue, length-append, arith}
+use Rattle.std.proofs.Common.{◌≡◌, ◌∙◌, ap, sym, refl, subst, ℕ, zero, suc, pred, ◌+◌, ◌<◌, Bool, true, List, [], ◌∷◌, ◌++◌, length, Option, Some, None, Result, Ok, Err, IfOk, IsTrue, length-append, arith}
+use Rattle.std.specs.Prelude.{option_map}
 use Rattle.spec_program.specs.Tree.{Program}
 use Rattle.spec_program.specs.Construct.{Construct, of_expr, of_program, Piece}
 use Rattle.spec_program.specs.Place.{part_at, tree_of, is_call, Linked}
@@ -14,6 +15,7 @@ use Rattle.moo_code.proofs.Paths.{is_placed}
 use Rattle.moo_code.proofs.Rebuilding.{frames_rebuilt}
 use Rattle.moo_places.specs.Reaching.{last_from, last_at_path}
 use Rattle.moo_places.proofs.Reached.{path_is_reached}
+use Rattle.moo_task.specs.Keeping.{WaitsAtCall}
 use Rattle.tree_parts.specs.Arriving.{arrives, StandsThere}
 use Rattle.tree_parts.specs.Arrived.{is_call_there}
 use Rattle.tree_parts.specs.Places.{place_at}
@@ -94,3 +96,25 @@ found_place k h path place at along = let both : Some place ≡ Some k.place = s
 
 pub some_place : (k : Kept) (h : StandsThere k) (path : List ℕ) (found : Option ℕ) → found ≡ place_at k.program path → path ≡ path_of (h.frame).pieces → found ≡ Some k.place
 some_place k h path found is along = is ∙ ap (place_at k.program) along ∙ place_there k h
+
+pub none_along : {A : Type 0} (f : A → List ℕ) (k : Kept) (h : StandsThere k) (found : Option A) → option_map f found ≡ call_path k → found ≡ None → ⊥
+none_along f k h found is none = absurd (cc (sym (ap (option_map f) none) ∙ is ∙ path_there k h))
+
+pub some_along : {A : Type 0} (f : A → List ℕ) (k : Kept) (h : StandsThere k) (found : Option A) (a : A) (slice : List ℕ) → option_map f found ≡ call_path k → found ≡ Some a → slice ≡ f a
+    → slice ≡ path_of (h.frame).pieces
+some_along f k h found a slice is some same =
+    let both : Some (f a) ≡ Some (path_of (h.frame).pieces) = sym (ap (option_map f) some) ∙ is ∙ path_there k h in
+    let one : f a ≡ path_of (h.frame).pieces = cc in
+    same ∙ one
+
+pub ok_map : {A E : Type 0} (r : Result A E) (P Q : A → Type 0) → IfOk r P → ((x : A) → P x → Q x) → IfOk r Q
+ok_map (Ok x) P Q h f = f x h
+ok_map (Err e) P Q h f = tt
+
+-- ---- a verb that waits with others
+
+pub first_stands : (k : Kept) (ks : List Outer) → WaitsAtCall k ks → StandsThere k
+first_stands k ks h = record { frame = h.frame; waits = (h.waiting).0; stands = (h.standing).0 }
+
+pub others_stand : (k : Kept) (ks : List Outer) → WaitsAtCall k ks → AllStand ks
+others_stand k ks h = all_stand h.entries ks (h.waiting).1 (h.standing).1

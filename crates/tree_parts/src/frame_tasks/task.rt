@@ -97,7 +97,10 @@ fn stopped(
 {
     let verb_stands = stands_at_call(alloc, &frame)?;
     let others_stand = all_stand(alloc, outer.as_slice())?;
-    if !verb_stands || !others_stand {
+    if !verb_stands {
+        return Ok(None);
+    }
+    if !others_stand {
         return Ok(None);
     }
     let outer = outers_from(alloc, outer)?;

@@ -1,5 +1,5 @@
 -- What stands behind a line and its line feed.
-use Rattle.std.proofs.Common.{arith, ◌≡◌, ◌≢◌, ◌↔◌, ◌+◌, ◌<◌, ◌++◌, ◌∷◌, ℕ, suc, List, Option, Some, None, MatchOption, get_or, length, drop, Bor, ap, sym, ◌∙◌, subst}
+use Rattle.std.proofs.Common.{arith, ◌≡◌, ◌≢◌, ◌↔◌, ◌+◌, ◌<◌, ◌++◌, ◌∷◌, ℕ, suc, List, Option, Some, None, MatchOption, get_or, length, drop, Bor, ap, sym, ◌∙◌}
 use Rattle.std.proofs.Math.Seq.{drop-append_seam, drop-cons}
 use Rattle.spec_value.specs.Datum.{Text}
 use Rattle.spec_program.specs.ReadPrograms.{joined_lines}

@@ -1,4 +1,4 @@
-use Rattle.std.proofs.Common.{rules, ◌≡◌, ◌∙◌, ap, sym}
+use Rattle.std.proofs.Common.{rules}
 use Rattle.spelled_text.proofs.Behind.{one_on}
 use Rattle.spelled_text.proofs.spelling.is_made_of.Goals as goal
 

@@ -1,8 +1,8 @@
-"""What lists of steps cost by several workers, by the clock and by the processors' time. `moo-play` runs every list by `run_list`; the plain play of a list
-cannot be seen from outside, so there is no column of it."""
+"""What lists of steps cost by several workers, by the clock and by the processors' time, beyond a run of no step over the same world. `moo-play` runs every
+list by `run_list`; the plain play of a list cannot be seen from outside, so there is no column of it."""
 import os
 
-from runs import Figure, play, script, sized, values_of
+from runs import Figure, beyond, play, script, sized, values_of
 from worlds import Thing, World
 
 ROOMS = 64
@@ -38,14 +38,16 @@ def lists():
 def figures(_peers):
     yield Figure("processors of this machine", "times", os.cpu_count() or 1)
     world = rooms()
+    idle = play(world, [])
     for what, count, lines in lists():
         path = script("steps", lines)
         alone = None
         for workers in WORKERS:
             played = play(world, path, "--workers", str(workers))
-            alone = alone or (values_of(played) and played)
-            beside = {"1 worker": count / alone.seconds} if workers > 1 else {}
+            clock, processor = max(played.seconds - idle.seconds, 1e-9), beyond(played, idle)
+            alone = alone or (values_of(played) and (clock, processor))
+            beside = {"1 worker": count / alone[0]} if workers > 1 else {}
             name = f"{what}, workers {workers}"
-            yield Figure(f"{name}, by the clock", "steps/s", count / played.seconds, beside)
-            beside = {"1 worker": alone.processor / count} if workers > 1 else {}
-            yield Figure(f"{name}, processor time a step", "us", played.processor / count, beside)
+            yield Figure(f"{name}, by the clock", "steps/s", count / clock, beside)
+            beside = {"1 worker": alone[1] / count} if workers > 1 else {}
+            yield Figure(f"{name}, processor time a step", "us", processor / count, beside)

@@ -9,6 +9,7 @@ mod draft_arguments;
 mod draft_catch;
 mod draft_expression;
 mod draft_handlers;
+mod draft_operands;
 mod draft_scatter;
 mod draft_statement;
 pub mod laws;

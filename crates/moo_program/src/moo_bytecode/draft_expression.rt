@@ -22,8 +22,8 @@ fn opens(expression: &Expression) -> bool
     )
 }
 
-// How many values a target's parts leave.
-fn height(target: &Target) -> Result<usize, AllocError>
+/// How many values a target's parts leave.
+pub(crate) fn height(target: &Target) -> Result<usize, AllocError>
     ensures { IfOk result (λ n. n ≡ arity target.now) }
 {
     match &target.node {
@@ -48,55 +48,21 @@ impl<'a> Draft<'a> {
             ExpressionNode::Literal(value) => self.own(Operation::Push(value)),
             ExpressionNode::Variable(name) => self.own(Operation::Load(name)),
             ExpressionNode::OwnLength => self.own(Operation::LengthOf(around.bracketed)),
-            ExpressionNode::Unary(operator, a) => {
-                self.own(Operation::Unary(*operator))?;
-                self.operand(around.above(0)?, a)
-            }
+            ExpressionNode::Unary(operator, a) => self.of_one(around, *operator, a),
             ExpressionNode::Binary(operator, a, b) => {
-                self.own(Operation::Binary(*operator))?;
-                self.operand(around.above(1)?, b)?;
-                self.operand(around.above(0)?, a)
+                self.of_two(around, Operation::Binary(*operator), a, b)
             }
-            ExpressionNode::Both(a, b) => {
-                self.operand(around.above(0)?, b)?;
-                self.own(Operation::AndThen)?;
-                self.operand(around.above(0)?, a)
-            }
-            ExpressionNode::Either(a, b) => {
-                self.operand(around.above(0)?, b)?;
-                self.own(Operation::OrElse)?;
-                self.operand(around.above(0)?, a)
-            }
+            ExpressionNode::Both(a, b) => self.deciding(around, Operation::AndThen, a, b),
+            ExpressionNode::Either(a, b) => self.deciding(around, Operation::OrElse, a, b),
             ExpressionNode::Conditional(condition, a, b) => {
-                self.operand(around.above(0)?, b)?;
-                self.own(Operation::Chosen)?;
-                self.operand(around.above(0)?, a)?;
-                self.own(Operation::Choose)?;
-                self.operand(around.above(0)?, condition)
+                self.conditional(around, condition, a, b)
             }
             ExpressionNode::Property(object, name) => {
-                self.own(Operation::ReadProperty)?;
-                self.operand(around.above(1)?, name)?;
-                self.operand(around.above(0)?, object)
+                self.of_two(around, Operation::ReadProperty, object, name)
             }
-            ExpressionNode::Index(whole, index) => {
-                let bracketed = Bracketed::Operand(around.height);
-                self.own(Operation::TakeItem)?;
-                self.operand(around.in_brackets(1, bracketed)?, index)?;
-                self.operand(around.above(0)?, whole)
-            }
-            ExpressionNode::Range(whole, first, last) => {
-                let bracketed = Bracketed::Operand(around.height);
-                self.own(Operation::TakeRange)?;
-                self.operand(around.in_brackets(2, bracketed)?, last)?;
-                self.operand(around.in_brackets(1, bracketed)?, first)?;
-                self.operand(around.above(0)?, whole)
-            }
-            ExpressionNode::Assignment(target, value) => {
-                self.own(Operation::Store(target))?;
-                self.operand(around.above(height(target)?)?, value)?;
-                self.target_part(around.above(0)?, target)
-            }
+            ExpressionNode::Index(whole, index) => self.index(around, whole, index),
+            ExpressionNode::Range(whole, first, last) => self.range(around, whole, first, last),
+            ExpressionNode::Assignment(target, value) => self.assignment(around, target, value),
             ExpressionNode::List(items) => {
                 self.argument_list(around, Operation::MakeList, items)
             }
@@ -150,29 +116,21 @@ impl<'a> Draft<'a> {
     {
         match &target.node {
             TargetNode::Variable(_) => Ok(()),
-            TargetNode::Property(object, name) => {
-                self.operand(around.above(1)?, name)?;
-                self.operand(around.above(0)?, object)
-            }
-            TargetNode::Index(target, index) => {
-                let bracketed = Bracketed::Target(target, around.height);
-                let below = height(target)?;
-                self.operand(around.in_brackets(below, bracketed)?, index)?;
-                self.target_part(around.above(0)?, target)
-            }
+            TargetNode::Property(object, name) => self.two_operands(around, object, name),
+            TargetNode::Index(target, index) => self.indexed_target(around, target, index),
             TargetNode::Range(target, first, last) => {
-                let bracketed = Bracketed::Target(target, around.height);
-                let below = height(target)?;
-                self.operand(around.in_brackets(next(below)?, bracketed)?, last)?;
-                self.operand(around.in_brackets(below, bracketed)?, first)?;
-                self.target_part(around.above(0)?, target)
+                self.ranged_target(around, target, first, last)
             }
         }
     }
 
-    // A target as a part.
+    /// A target as a part.
     #[cycle(expression)]
-    fn target_part(&mut self, around: Around<'a, '_>, target: &'a Target) -> Result<(), AllocError>
+    pub(crate) fn target_part(
+        &mut self,
+        around: Around<'a, '_>,
+        target: &'a Target,
+    ) -> Result<(), AllocError>
         ensures { OnOk result (state self.new ≡ over (inner (plain (of_target target.now)) (target_layout (around_of around.entry) target.now) stop) (state self.old)) }
     {
         self.close(Reception::Straight, None)?;

@@ -21,6 +21,36 @@ decreases-target l = 8 * target_depth l.target.now
 abbrev pub decreases-target_part : goal.decreases-target_part
 decreases-target_part l = 8 * target_depth l.target.now + 1
 
+abbrev pub decreases-of_one : goal.decreases-of_one
+decreases-of_one l = 8 * expr_depth l.operand.now + 3
+
+abbrev pub decreases-two_operands : goal.decreases-two_operands
+decreases-two_operands l = 8 * max (expr_depth l.left.now) (expr_depth l.right.now) + 3
+
+abbrev pub decreases-of_two : goal.decreases-of_two
+decreases-of_two l = 8 * max (expr_depth l.left.now) (expr_depth l.right.now) + 4
+
+abbrev pub decreases-deciding : goal.decreases-deciding
+decreases-deciding l = 8 * max (expr_depth l.left.now) (expr_depth l.right.now) + 3
+
+abbrev pub decreases-conditional : goal.decreases-conditional
+decreases-conditional l = 8 * max (expr_depth l.condition.now) (max (expr_depth l.first.now) (expr_depth l.second.now)) + 4
+
+abbrev pub decreases-index : goal.decreases-index
+decreases-index l = 8 * max (expr_depth l.whole.now) (expr_depth l.index.now) + 3
+
+abbrev pub decreases-range : goal.decreases-range
+decreases-range l = 8 * max (expr_depth l.whole.now) (max (expr_depth l.first.now) (expr_depth l.last.now)) + 3
+
+abbrev pub decreases-assignment : goal.decreases-assignment
+decreases-assignment l = 8 * max (target_depth l.target.now) (expr_depth l.value.now) + 3
+
+abbrev pub decreases-indexed_target : goal.decreases-indexed_target
+decreases-indexed_target l = 8 * max (target_depth l.within.now) (expr_depth l.index.now) + 3
+
+abbrev pub decreases-ranged_target : goal.decreases-ranged_target
+decreases-ranged_target l = 8 * max (target_depth l.within.now) (max (expr_depth l.first.now) (expr_depth l.last.now)) + 3
+
 abbrev pub decreases-argument : goal.decreases-argument
 decreases-argument l = 8 * arguments_depth (arguments_of (l.argument.now ∷ [])) + 2
 

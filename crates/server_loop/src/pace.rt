@@ -7,8 +7,11 @@ const WORTH_WORKERS: u64 = 5000;
 /// How many times the mean so far counts beside that of a new list.
 const WEIGHT: u64 = 7;
 
-/// How many times the loop looks again behind a list before it waits. A client that answers at once is then not waited for: waking the loop takes about as
-/// long as some ten of these looks.
+/// The most steps of a list behind which the loop looks for more before it waits. Behind a longer one it waits at once: what comes meanwhile makes the next
+/// list a long one too, which costs less a step.
+const FEW_STEPS: usize = 2;
+
+/// How many times it looks. A client that answers at once is then not waited for: waking the loop takes about as long as some ten of these looks.
 const LOOKS: u32 = 64;
 
 /// How many ticks a step took lately, and how many times more the loop looks before it waits.
@@ -37,7 +40,11 @@ impl Pace {
         }
         let mean = sum / (outcomes.len() as u64).max(1);
         self.mean = self.mean.saturating_mul(WEIGHT).saturating_add(mean) / (WEIGHT + 1);
-        self.looks = LOOKS;
+        self.looks = if outcomes.len() <= FEW_STEPS {
+            LOOKS
+        } else {
+            0
+        };
     }
 
     /// Whether the loop looks once more before it waits.

@@ -11,6 +11,7 @@ use connections::door::Door;
 use connections::links::Links;
 use speculate::gate::Gate;
 use std::alloc::{AllocError, Global};
+use std::hint;
 use std::rt::Clock;
 use std::sync::{Arc, Wait};
 use std::thread::{Parker, Threads};
@@ -35,7 +36,8 @@ pub struct Edge {
     pub saver: Option<Saver>,
 }
 
-/// Runs what has come and what is due, and tells what that tells. Where there is nothing, waits until something comes or is due.
+/// Runs what has come and what is due, and tells what that tells. Where there is nothing, and was nothing for a while,
+/// waits until something comes or is due.
 pub fn run_turn<G: Gate, R: Threads + Wait + Copy + Send + Sync + 'static, C: Clock>(
     rt: R,
     alloc: Global,
@@ -68,8 +70,12 @@ pub fn run_turn<G: Gate, R: Threads + Wait + Copy + Send + Sync + 'static, C: Cl
     }
     links.sweep(&rt);
     if draft.steps.is_empty() {
-        let next_due = next_moment(&world);
-        wait(&rt, bell, patience(next_due, draft.moment(), is_watching));
+        if pace.looks_again() {
+            hint::spin_loop();
+        } else {
+            let next_due = next_moment(&world);
+            wait(&rt, bell, patience(next_due, draft.moment(), is_watching));
+        }
         return Reached {
             world,
             asks: false,

@@ -17,7 +17,7 @@ use Rattle.spec_world.proofs.SlotChanges.{names_total, itself}
 use Rattle.spec_world.proofs.SlotTables.{sought}
 use Rattle.moo_code.specs.Slots.{slot_of, in_slot, variables_over, others}
 use Rattle.moo_code.proofs.Slots.{same_tables, variables_sorted, others_sorted, others_named, others_stay, others_have_none, slot_is_variable, name_has_slot}
-use Rattle.task_lines.specs.Gathering.{first_of, value_now, Gathers, slots_with, further_with, NoneGathered, OneGathered, AllGathered}
+use Rattle.task_lines.specs.Gathering.{first_of, value_now, Gathers, slots_with, further_with}
 use Rattle.task_lines.specs.Tasks.{variable_reads}
 
 -- ---- a table's entries are found in it
@@ -86,7 +86,7 @@ none_first : (o : Option Datum) → first_of o None ≡ o
 none_first None = refl
 none_first (Some v) = refl
 
-pub none_yet : NoneGathered
+pub none_yet : (names : List Text) (n : ℕ) (table : Named Datum) → Gathers names (replicate n None) [] table table
 none_yet names n table q = ap (λ o. first_of o (named table q)) (go (has_name names q))
   where
     go : (b : Bool) → (if b then in_slot (slice_get (replicate n None) (slot_of names q)) else None) ≡ None
@@ -161,7 +161,8 @@ behind_others names slots further left table e out h q = go (has_name names q) r
 
 -- ---- all of them
 
-pub all_gathered : AllGathered
+pub all_gathered : (names : List Text) (slots : List (Option Datum)) (further : List (Text × Datum)) (table : Named Datum) → IsTrue (is_named table) → IsTrue (names_once names)
+    → Gathers names slots further [] table → variables_over (others names further) names slots ≡ table
 all_gathered names slots further table sorted once h =
     same_tables (variables_over (others names further) names slots) table (variables_sorted (others names further) names slots (others_sorted names further)) sorted
     (λ q. go q (has_name names q) refl ∙ sym (none_first (value_now names slots further q)) ∙ h q)
@@ -182,7 +183,10 @@ variable_at [] i small h = absurd (omega (arith, small))
 variable_at (e ∷ es) zero small h = (e, refl, first_holds (variable_reads e) _ h, refl)
 variable_at (e ∷ es) (suc i) small h = variable_at es i (omega (arith, small)) (second_holds (variable_reads e) _ h)
 
-pub one_gathered : OneGathered
+pub one_gathered : (names : List Text) (slots : List (Option Datum)) (further left : List (Text × Datum)) (table : Named Datum) (e : Text × Datum) (p : Option ℕ)
+    → p ≡ (if nat_lt (slot_of names e.0) (length names) then Some (slot_of names e.0) else None) → has_name names e.0 ≡ nat_lt (slot_of names e.0) (length names)
+    → named table e.0 ≡ Some e.1 → length slots ≡ length names → Gathers names slots further (e ∷ left) table
+    → Gathers names (slots_with p slots e.1) (further_with p further e) left table
 one_gathered names slots further left table e p is known there count h = go (nat_lt (slot_of names e.0) (length names)) refl
   where
     go : (b : Bool) → nat_lt (slot_of names e.0) (length names) ≡ b → Gathers names (slots_with p slots e.1) (further_with p further e) left table

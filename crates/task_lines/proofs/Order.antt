@@ -8,7 +8,7 @@ use Rattle.spec_value.proofs.Entries.{both_hold}
 use Rattle.spec_world.specs.World.{Frame, Native, Entry, frame_entry, native_entry}
 use Rattle.spec_world.specs.WellFormed.{begins_with_frame, goes_on_after_frame, frames, fork_fits}
 use Rattle.spec_world.specs.Checkpoint.{entry_lines, each_entry}
-use Rattle.task_lines.specs.Entries.{lines_of, is_end, may_stand, may_follow, own_line, lines_behind, CallsFollow, ForkFollows, LinesTurned}
+use Rattle.task_lines.specs.Entries.{lines_of, is_end, may_stand, may_follow, own_line, lines_behind}
 
 -- ---- turned round
 
@@ -77,10 +77,10 @@ mutual
       both_hold (nat_lt verbs 50) _ (lt-ltb verbs 50 (omega (arith, few))) (after_frame (suc verbs) es h (omega (arith, few)))
   after_native first verbs (native_entry n ∷ es) h few = cc
 
-pub calls_follow : CallsFollow
+pub calls_follow : (es : List Entry) → IsTrue (begins_with_frame es) → frames es ≤ 50 → IsTrue (may_follow false true false 0 (reverse es))
 calls_follow es h few = let count = frames_turned es in after_native true 0 (reverse es) (turned es h) (omega (arith, few, count))
 
-pub fork_follows : ForkFollows
+pub fork_follows : (es : List Entry) → IsTrue (fork_fits es) → IsTrue (may_follow true true false 0 (reverse es))
 fork_follows [] h = cc
 fork_follows (native_entry n ∷ es) h = cc
 fork_follows (frame_entry f ∷ e ∷ es) h = cc
@@ -92,7 +92,7 @@ lines_both : (es fs : List Entry) → lines_of (es ++ fs) ≡ lines_of es ++ lin
 lines_both [] fs = refl
 lines_both (e ∷ es) fs = ap (λ l. entry_lines e ++ l) (lines_both es fs) ∙ sym (append_assoc (entry_lines e) (lines_of es) (lines_of fs))
 
-pub lines_turned : LinesTurned
+pub lines_turned : (es : List Entry) → each_entry es ≡ lines_of (reverse es)
 lines_turned [] = refl
 lines_turned (e ∷ es) =
     ap (λ l. l ++ entry_lines e) (lines_turned es)

@@ -11,7 +11,7 @@ use Rattle.moo_code.specs.Stands.{Waits}
 use Rattle.moo_code.specs.Paths.{path_of}
 use Rattle.moo_code.specs.Rebuilding.{call_path, down, from_deepest}
 use Rattle.moo_code.proofs.Rebuilding.{frames_rebuilt}
-use Rattle.world_checks.specs.Descent.{fits_down}
+use Rattle.held_values.specs.Descent.{fits_down}
 use Rattle.world_checks.proofs.Pieces.{pieces_down, down_pieces}
 use Rattle.world_checks.specs.Held.{OfCall}
 

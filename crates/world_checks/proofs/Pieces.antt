@@ -5,8 +5,8 @@ use Rattle.spec_value.proofs.Entries.{first_holds, second_holds, both_hold}
 use Rattle.spec_program.specs.Construct.{Construct, Piece}
 use Rattle.spec_program.specs.Place.{Part, part_at, held_count, pieces_at, in_part, in_tree}
 use Rattle.spec_world.specs.WellFormed.{held_fits, is_loop, loops, part_fits, pieces_fit}
-use Rattle.world_checks.specs.Descent.{on_part, on_tree, fits_down}
-use Rattle.world_checks.proofs.Leaving.{held_so_many}
+use Rattle.held_values.specs.Descent.{on_part, on_tree, fits_down}
+use Rattle.held_values.proofs.Telling.{held_so_many}
 
 -- ---- a step down
 

@@ -1,0 +1,5 @@
+pub mod ValueKinds
+pub mod Telling
+pub mod Wanting
+pub mod Stepping
+pub mod Natives

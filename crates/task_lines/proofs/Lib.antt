@@ -5,3 +5,4 @@ pub mod LineWords
 pub mod Made
 pub mod Loops
 pub mod MannerWords
+pub mod NamePlaces

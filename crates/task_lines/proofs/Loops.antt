@@ -14,6 +14,7 @@ use Rattle.held_values.specs.declared.fits.Wanted.{Wanted}
 use Rattle.held_values.specs.Wanted.{wanted_fits, all_fit}
 use Rattle.line_fields.specs.Values.{is_readable}
 use Rattle.task_lines.specs.Entries.{is_native, is_native_outer, is_end, verbs_with, may_stand, may_follow, outer_for}
+use Rattle.task_lines.specs.Tasks.{EntryReads, AllRead}
 
 -- ---- values
 
@@ -90,3 +91,40 @@ verbs_more is_fork is_first is_last is_behind verbs (native_entry n) native is h
 verbs_more is_fork is_first is_last is_behind verbs (frame_entry f) native is h =
     ap (λ b. if b then verbs else min (verbs + 1) (2 ^ 32 - 1)) is
     ∙ (let few = few_verbs is_fork is_first is_last is_behind verbs f h in omega (arith, few))
+
+-- the next entry, and those behind it
+pub record NextEntry (is_fork : Bool) (index count : ℕ) (is_behind : Bool) (verbs : ℕ) (xs : List Entry) : Type 0 where
+  pub entry : Entry
+  pub rest : List Entry
+  pub are : xs ≡ entry ∷ rest
+  pub reads : EntryReads is_fork entry
+  pub stands : IsTrue (may_stand is_fork (index == 0) (index + 1 == count) is_behind verbs entry)
+  pub all : AllRead is_fork rest
+  pub follows : IsTrue (may_follow is_fork false (is_native entry) (verbs_with verbs entry) rest)
+  pub left : length rest + (index + 1) ≡ count
+
+pub next_entry : (is_fork : Bool) (index count : ℕ) (is_behind : Bool) (verbs : ℕ) (xs : List Entry) → index < count → length xs + index ≡ count → AllRead is_fork xs
+    → IsTrue (may_follow is_fork (index == 0) is_behind verbs xs) → NextEntry is_fork index count is_behind verbs xs
+next_entry is_fork index count is_behind verbs [] less left h f = absurd (omega (arith, less, left))
+next_entry is_fork index count is_behind verbs (e ∷ es) less left h f =
+    let more : length es + (index + 1) ≡ count = omega (arith, left) in
+    record {
+      entry = e;
+      rest = es;
+      are = refl;
+      reads = h.0;
+      stands =
+          subst (λ b. IsTrue (may_stand is_fork (index == 0) b is_behind verbs e)) (is_last_is es index count more)
+          (first_holds (may_stand is_fork (index == 0) (is_end es) is_behind verbs e) _ f);
+      all = h.1;
+      follows = second_holds (may_stand is_fork (index == 0) (is_end es) is_behind verbs e) _ f;
+      left = more;
+    }
+
+pub no_longer_first : (index : ℕ) → false ≡ (index + 1 == 0)
+no_longer_first index = let some : 0 < index + 1 = omega arith in grind (arith, nat_tests, some)
+
+-- one more behind those that are read
+pub one_more : (done now ks : List Outer) (k : Outer) (g : Entry → Outer) (e : Entry) (es xs : List Entry) → now ≡ done ++ k ∷ [] → k ≡ g e → xs ≡ e ∷ es → done ++ map g xs ≡ ks → now ++ map g es ≡ ks
+one_more done now ks k g e es xs pushed same are before =
+    ap (λ os. os ++ map g es) pushed ∙ append_assoc done (k ∷ []) (map g es) ∙ ap (λ o. done ++ o ∷ map g es) same ∙ ap (λ ys. done ++ map g ys) (sym are) ∙ before

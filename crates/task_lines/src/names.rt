@@ -26,9 +26,10 @@ impl<'a> Model for SlotNames<'a> {
 
     ghost view = { λ a. a.own.now };
 
+    ghost use Rattle.std.specs.Prelude.{◌<◌, ◌^◌, length};
     ghost use Rattle.moo_program.specs.Names.{HasPlaces};
 
-    ghost invariant = { λ a. HasPlaces a.own.now a.places };
+    ghost invariant = { λ a. HasPlaces a.own.now a.places × (length a.own.now < 2 ^ 63) };
 }
 
 impl<'a> SlotNames<'a> {

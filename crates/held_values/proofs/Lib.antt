@@ -3,3 +3,4 @@ pub mod Telling
 pub mod Wanting
 pub mod Stepping
 pub mod Natives
+pub mod Pieces

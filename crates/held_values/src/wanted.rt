@@ -1,10 +1,11 @@
 //! What is held on the way to a call.
-ghost use Rattle.std.specs.Prelude.{◌≡◌, [], ◌∷◌, ◌++◌, map, option_map, replicate, IfOk, OnOk};
+ghost use Rattle.std.specs.Prelude.{◌≡◌, suc, [], ◌∷◌, ◌++◌, Some, map, option_map, replicate, IfOk, OnOk};
 ghost use Rattle.spec_program.specs.Construct.{of_program};
 ghost use Rattle.spec_program.specs.Place as spec;
 ghost use Rattle.moo_tree.specs.ExpressionView.{codes_of};
 ghost use Rattle.moo_tree.specs.StatementView.{arms_of};
 ghost use Rattle.tree_parts.specs.Nodes.{construct_of, holds_of, kinds_of};
+ghost use Rattle.tree_parts.specs.Parts.{part_of};
 ghost use Rattle.held_values.specs.declared.fits.Wanted.TheVariants as wanted;
 ghost use Rattle.held_values.specs.Wanted.{of_kind, wanted_in, wanted_down};
 ghost use Rattle.held_values.specs.Steps.{step_wanted};

@@ -1,4 +1,3 @@
-pub mod Pieces
 pub mod Names
 pub mod Calls
 pub mod Numbered

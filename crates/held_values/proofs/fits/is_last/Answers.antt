@@ -1,4 +1,4 @@
-use Rattle.std.proofs.Common.{◌≡◌, ap, sym, subst, IsTrue}
+use Rattle.std.proofs.Common.{sym, subst, IsTrue}
 use Rattle.std.specs.Prelude.{option_map}
 use Rattle.held_values.specs.Wanted.{is_last}
 use Rattle.held_values.proofs.fits.is_last.Goals as goal

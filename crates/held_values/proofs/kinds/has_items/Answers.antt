@@ -1,5 +1,4 @@
-use Rattle.std.proofs.Common.{◌≡◌, ◌∙◌, ap, sym, not}
-use Rattle.spec_value.specs.Datum.{list, of_list}
+use Rattle.std.proofs.Common.{◌∙◌, ap, not}
 use Rattle.held_values.specs.Wanted.{has_items}
 use Rattle.held_values.proofs.Wanting.{items_there}
 use Rattle.held_values.proofs.kinds.has_items.Goals as goal

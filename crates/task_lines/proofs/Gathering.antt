@@ -1,11 +1,9 @@
 -- Variables that are read one by one come to the table that the lines tell.
-use Rattle.std.proofs.Common.{◌≡◌, ◌∙◌, refl, sym, ap, subst, cond, ℕ, zero, suc, ◌<◌, ◌&&◌, Bool, true, false, List, [], ◌∷◌, ◌++◌, length, drop, replicate, Option, Some, None, IsTrue, arith, nat_cmp, is_lt, is_eq, Ordering, Less, Equal, Greater}
+use Rattle.std.proofs.Common.{◌≡◌, ◌∙◌, refl, sym, ap, subst, cond, ℕ, zero, suc, ◌<◌, Bool, true, false, List, [], ◌∷◌, ◌++◌, length, drop, replicate, Option, Some, None, IsTrue, arith, nat_cmp, is_lt, is_eq, Ordering, Less, Equal, Greater}
 use Rattle.std.specs.Prelude.{slice_get, slice_set, if◌then◌else◌}
 use Rattle.std.specs.Bool.{nat_lt}
-use Rattle.std.specs.Ordering.{eq_by_cmp}
 use Rattle.std.specs.Cmp.Lexicographic.{slice_cmp}
 use Rattle.std.specs.FinMap.Entries.{below_all}
-use Rattle.std.proofs.lemmas.Option.{slice_get_within}
 use Rattle.std.specs.List.{list_all}
 use Rattle.std.proofs.lemmas.Bool.{ltb-true}
 use Rattle.spec_value.specs.Datum.{Datum, Text, same_text}
@@ -17,6 +15,8 @@ use Rattle.spec_world.proofs.SlotChanges.{names_total, itself}
 use Rattle.spec_world.proofs.SlotTables.{sought}
 use Rattle.moo_code.specs.Slots.{slot_of, in_slot, variables_over, others}
 use Rattle.moo_code.proofs.Slots.{same_tables, variables_sorted, others_sorted, others_named, others_stay, others_have_none, slot_is_variable, name_has_slot}
+use Rattle.moo_program.specs.Names.{found_place}
+use Rattle.moo_program.proofs.Slots.{has_is}
 use Rattle.task_lines.specs.Gathering.{first_of, value_now, Gathers, slots_with, further_with}
 use Rattle.task_lines.specs.Tasks.{variable_reads}
 
@@ -199,3 +199,14 @@ one_gathered names slots further left table e p is known there count h = go (nat
         let place : p ≡ None = is ∙ ap (λ b. if b then Some (slot_of names e.0) else None) n in
         subst (λ q. Gathers names (slots_with q slots e.1) (further_with q further e) left table) (sym place)
         (behind_others names slots further left table e (known ∙ n) h)
+
+-- as it was put
+pub one_put : (names : List Text) (slots now : List (Option Datum)) (further later left : List (Text × Datum)) (table : Named Datum) (e v : Text × Datum) → v ≡ e
+    → now ≡ slots_with (found_place names v.0) slots v.1 → later ≡ further_with (found_place names v.0) further v
+    → named table e.0 ≡ Some e.1 → length slots ≡ length names → Gathers names slots further (e ∷ left) table → Gathers names now later left table
+one_put names slots now further later left table e v same put behind there count h =
+    let p : Option ℕ = found_place names e.0 in
+    let slots_are : now ≡ slots_with p slots e.1 = put ∙ ap (λ (u : Text × Datum). slots_with (found_place names u.0) slots u.1) same in
+    let further_are : later ≡ further_with p further e = behind ∙ ap (λ (u : Text × Datum). further_with (found_place names u.0) further u) same in
+    subst (λ ss. Gathers names ss later left table) (sym slots_are)
+    (subst (λ fs. Gathers names (slots_with p slots e.1) fs left table) (sym further_are) (one_gathered names slots further left table e p refl (has_is names e.0) there count h))

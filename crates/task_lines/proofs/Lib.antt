@@ -6,3 +6,5 @@ pub mod Made
 pub mod Loops
 pub mod MannerWords
 pub mod NamePlaces
+pub mod Standing
+pub mod Entering

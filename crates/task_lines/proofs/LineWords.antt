@@ -1,5 +1,5 @@
 -- The lines of tasks as fields: words, and literals of values.
-use Rattle.std.proofs.Common.{◌≡◌, ◌∙◌, refl, sym, ap, subst, ℕ, zero, suc, ◌+◌, ◌<◌, ◌≤◌, ◌^◌, nat_le, ℤ, pos, negsuc, Bool, true, false, List, [], ◌∷◌, ◌++◌, length, map, IsTrue, leb-true, arith}
+use Rattle.std.proofs.Common.{◌≡◌, refl, ℕ, zero, suc, ◌<◌, ◌≤◌, ◌^◌, nat_le, ℤ, pos, negsuc, true, List, [], ◌∷◌, ◌++◌, length, IsTrue, leb-true, arith}
 use Rattle.std.specs.Prelude.{◌≤ℤ◌, codes}
 use Rattle.std.specs.Fmt.{decimal, signed_decimal}
 use Rattle.std.specs.List.{list_all}
@@ -16,7 +16,7 @@ use Rattle.spec_checkpoint.proofs.Fields.{values_hold}
 use Rattle.line_fields.specs.Fields.{Field, word, held, all_spelled, is_field, are_fields}
 use Rattle.line_fields.specs.Values.{is_readable, nests_no_deeper}
 use Rattle.line_fields.proofs.Words.{word_decimal, word_number, word_signed, word_object, word_flag, word_native}
-use Rattle.task_lines.specs.Entries.{own_fields, call_fields, native_fields}
+use Rattle.task_lines.specs.Entries.{own_fields}
 use Rattle.task_lines.specs.Tasks.{WaitingReads, NativeReads, variable_reads}
 
 -- ---- how a task waits

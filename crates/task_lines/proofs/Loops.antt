@@ -1,13 +1,16 @@
 -- One after another: values that are held, and entries.
-use Rattle.std.proofs.Common.{◌≡◌, ◌∙◌, refl, sym, ap, subst, ℕ, zero, suc, ◌+◌, ◌-◌, ◌<◌, ◌≤◌, ◌==◌, ◌&&◌, not, min, ◌^◌, Bool, true, false, List, [], ◌∷◌, ◌++◌, length, map, drop, drop-cons, get_or, Option, Some, None, IsTrue, append_assoc, length-append, arith}
-use Rattle.std.specs.Prelude.{slice_get, if◌then◌else◌}
+use Rattle.std.proofs.Common.{◌≡◌, ◌∙◌, refl, sym, ap, subst, ℕ, suc, ◌+◌, ◌-◌, ◌<◌, ◌≤◌, ◌==◌, ◌&&◌, not, min, ◌^◌, Bool, false, List, [], ◌∷◌, ◌++◌, length, map, drop, drop-cons, get_or, Option, Some, None, IsTrue, append_assoc, length-append, arith}
+use Rattle.std.specs.Prelude.{slice_get, option_map, if◌then◌else◌}
+use Rattle.std.specs.Option.{option_copied}
+use Rattle.std.specs.Borrow.{Bor}
 use Rattle.std.specs.List.{list_all}
 use Rattle.std.specs.Bool.{nat_lt}
 use Rattle.std.proofs.lemmas.Bool.{ltb-true}
 use Rattle.std.proofs.lemmas.Bool.Decides.{nat_tests}
-use Rattle.spec_value.specs.Datum.{Datum}
+use Rattle.spec_value.specs.Datum.{Datum, Text}
 use Rattle.spec_value.proofs.Entries.{first_holds, second_holds}
 use Rattle.spec_world.specs.World.{Frame, Entry, frame_entry, native_entry}
+use Rattle.spec_world.specs.Checkpoint.{literal_lines}
 use Rattle.moo_code.specs.Machine.{Outer}
 use Rattle.moo_code.specs.Performing.{onto}
 use Rattle.held_values.specs.declared.fits.Wanted.{Wanted}
@@ -34,11 +37,11 @@ pub record NextHeld (before : Option Datum) (w : Wanted) (ws : List Wanted) (vs 
   pub all_readable : IsTrue (list_all is_readable rest)
   pub all_fits : IsTrue (all_fit (Some value) ws rest)
 
-pub next_held : (before : Option Datum) (ws : List Wanted) (i : ℕ) (w : Wanted) (vs : List Datum) → i < length ws → w ≡ get_or ws i w → IsTrue (all_fit before (drop i ws) vs)
+pub next_held : (before : Option Datum) (ws : List Wanted) (i : ℕ) (w d : Wanted) (vs : List Datum) → i < length ws → w ≡ get_or ws i d → IsTrue (all_fit before (drop i ws) vs)
     → IsTrue (list_all is_readable vs) → NextHeld before w (drop (i + 1) ws) vs
-next_held before ws i w vs small is h readable =
+next_held before ws i w d vs small is h readable =
     let next : suc i ≡ i + 1 = omega arith in
-    let left : drop i ws ≡ w ∷ drop (i + 1) ws = drop-cons ws i w small ∙ ap (λ x. x ∷ drop (suc i) ws) (sym is) ∙ ap (λ n. w ∷ drop n ws) next in
+    let left : drop i ws ≡ w ∷ drop (i + 1) ws = drop-cons ws i d small ∙ ap (λ x. x ∷ drop (suc i) ws) (sym is) ∙ ap (λ n. w ∷ drop n ws) next in
     go vs (subst (λ us. IsTrue (all_fit before us vs)) left h) readable
   where
     go : (vs : List Datum) → IsTrue (all_fit before (w ∷ drop (i + 1) ws) vs) → IsTrue (list_all is_readable vs) → NextHeld before w (drop (i + 1) ws) vs
@@ -68,9 +71,21 @@ last_pushed vs us v e = ap (λ xs. slice_get xs (length xs - 1)) e ∙ go vs
     go : (vs : List Datum) → slice_get (vs ++ v ∷ []) (length (vs ++ v ∷ []) - 1) ≡ Some v
     go vs = let count : length (vs ++ v ∷ []) - 1 ≡ length vs = (let both = length-append vs (v ∷ []) in omega (arith, both)) in ap (slice_get (vs ++ v ∷ [])) count ∙ at_end vs
 
+-- the last one is what was held before
+pub before_is : (o : Option (Bor Datum)) (items vs : List Datum) → option_copied o ≡ slice_get items (length items - 1) → items ≡ vs → option_map (λ (b : Bor Datum). b.now) o ≡ slice_get vs (length vs - 1)
+before_is o items vs last same = same_values o ∙ last ∙ ap (λ xs. slice_get xs (length xs - 1)) same
+  where
+    same_values : (o : Option (Bor Datum)) → option_map (λ (b : Bor Datum). b.now) o ≡ option_copied o
+    same_values None = refl
+    same_values (Some b) = refl
+
 pub onto_more : (vs : List Datum) (v : Datum) (st : List Datum) → onto (vs ++ v ∷ []) st ≡ v ∷ onto vs st
 onto_more [] v st = refl
 onto_more (u ∷ vs) v st = onto_more vs v (u ∷ st)
+
+pub as_many_literals : (vs : List Datum) (rest : List Text) → length vs ≤ length (literal_lines vs ++ rest)
+as_many_literals [] rest = omega arith
+as_many_literals (v ∷ vs) rest = let more = as_many_literals vs rest in omega (arith, more)
 
 -- ---- entries
 

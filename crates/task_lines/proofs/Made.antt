@@ -7,8 +7,8 @@ use Rattle.spec_value.specs.Table.{is_named}
 use Rattle.spec_value.proofs.Entries.{first_holds, second_holds, both_hold}
 use Rattle.spec_program.specs.Construct.{Piece}
 use Rattle.spec_world.specs.World.{Frame, Entry, frame_entry, native_entry, Waiting, forked, timed, idle, reading_on, Task}
-use Rattle.spec_world.specs.WellFormed.{FramesStand, is_variable, pieces_fit, frame_fits, entry_fits, begins_with_frame, fork_fits}
-use Rattle.moo_code.specs.Machine.{Outer, verb, native}
+use Rattle.spec_world.specs.WellFormed.{FramesStand, is_variable, pieces_fit, frame_fits, begins_with_frame, fork_fits}
+use Rattle.moo_code.specs.Machine.{Outer, native}
 use Rattle.moo_code.specs.Rebuilding.{entries_of}
 use Rattle.moo_code.specs.Resuming.{AllCounted}
 use Rattle.moo_code.specs.Resuming as resuming

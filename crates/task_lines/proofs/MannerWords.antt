@@ -1,9 +1,10 @@
 -- The words of ways to wait, and of built-in functions.
-use Rattle.std.proofs.Common.{◌≡◌, ◌∙◌, refl, ap, ℕ, suc, ◌≤◌, ℤ, pos, List, [], ◌∷◌, length, Option, Some, None, IsTrue}
-use Rattle.std.specs.Prelude.{◌≤ℤ◌, codes}
+use Rattle.std.proofs.Common.{◌≡◌, refl, ℕ, ◌≤◌, ℤ, pos, length, Some, IsTrue}
+use Rattle.std.specs.Prelude.{◌≤ℤ◌}
 use Rattle.std.specs.Fmt.{decimal, signed_decimal}
-use Rattle.spec_value.specs.Datum.{Datum, Text}
+use Rattle.spec_value.specs.Datum.{Datum}
 use Rattle.spec_value.specs.Literal.{literal}
+use Rattle.spec_world.specs.World as World
 use Rattle.spec_world.specs.World.{Waiting, forked, timed, idle, reading_on}
 use Rattle.spec_world.specs.Checkpoint.{native_text}
 use Rattle.moo_task.specs.Frames.{native_name_of}
@@ -34,6 +35,12 @@ name_word Move = refl
 name_word Create = refl
 name_word Recycle = refl
 name_word Eval = refl
+
+pub stored_name : (w : World.NativeName) → (n : NativeName) × (native_name_of n ≡ w)
+stored_name World.move_native = (Move, refl)
+stored_name World.create_native = (Create, refl)
+stored_name World.recycle_native = (Recycle, refl)
+stored_name World.eval_native = (Eval, refl)
 
 -- ---- by its manner
 

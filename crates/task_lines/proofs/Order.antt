@@ -1,5 +1,5 @@
 -- The entries of a task, the outermost first, stand where they may.
-use Rattle.std.proofs.Common.{◌≡◌, ◌∙◌, refl, sym, ap, subst, ℕ, zero, suc, ◌+◌, ◌≤◌, ◌&&◌, not, Bool, true, false, List, [], ◌∷◌, ◌++◌, length, map, reverse, IsTrue, append_assoc, arith}
+use Rattle.std.proofs.Common.{◌≡◌, ◌∙◌, refl, sym, ap, subst, ℕ, suc, ◌+◌, ◌≤◌, not, Bool, true, false, List, [], ◌∷◌, ◌++◌, length, reverse, IsTrue, append_assoc, arith}
 use Rattle.std.proofs.lemmas.Bool.{lt-ltb}
 use Rattle.std.proofs.lemmas.List.{append-nil, reverse-append, length-reverse}
 use Rattle.std.specs.Bool.{nat_lt}
@@ -8,7 +8,7 @@ use Rattle.spec_value.proofs.Entries.{both_hold}
 use Rattle.spec_world.specs.World.{Frame, Native, Entry, frame_entry, native_entry}
 use Rattle.spec_world.specs.WellFormed.{begins_with_frame, goes_on_after_frame, frames, fork_fits}
 use Rattle.spec_world.specs.Checkpoint.{entry_lines, each_entry}
-use Rattle.task_lines.specs.Entries.{lines_of, is_end, may_stand, may_follow, own_line, lines_behind}
+use Rattle.task_lines.specs.Entries.{lines_of, may_follow, own_line, lines_behind}
 use Rattle.task_lines.specs.Tasks.{OrderReads}
 
 -- ---- turned round

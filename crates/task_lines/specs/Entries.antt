@@ -1,5 +1,5 @@
 -- What is under way in a task, as its lines tell it: the outermost first.
-use Rattle.std.specs.Prelude.{ℕ, ℤ, suc, ◌&&◌, not, nat_lt, Bool, true, false, List, [], ◌∷◌, ◌++◌, length, map, codes}
+use Rattle.std.specs.Prelude.{ℕ, ℤ, suc, ◌&&◌, not, nat_lt, Bool, true, false, List, [], ◌∷◌, ◌++◌, length, codes}
 use Rattle.std.specs.Fmt.{decimal, signed_decimal}
 use Rattle.spec_value.specs.Datum.{Text, text}
 use Rattle.spec_value.specs.Literal.{literal}

@@ -1,5 +1,5 @@
 -- Variables that are read one by one: into the slots of a program's names, or to the others.
-use Rattle.std.specs.Prelude.{◌≡◌, ℕ, List, [], ◌∷◌, ◌++◌, length, Option, Some, None, Bool, true, false, slice_get, slice_set, if◌then◌else◌, codes}
+use Rattle.std.specs.Prelude.{◌≡◌, ℕ, List, [], ◌∷◌, ◌++◌, Option, Some, None, slice_get, slice_set, if◌then◌else◌, codes}
 use Rattle.spec_value.specs.Datum.{Datum, Text, text}
 use Rattle.spec_value.specs.Literal.{literal}
 use Rattle.spec_value.specs.Table.{Named, named}

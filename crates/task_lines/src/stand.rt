@@ -5,6 +5,7 @@ ghost use Rattle.spec_world.specs.World as world;
 ghost use Rattle.spec_world.specs.WellFormed.{StandsAtCall, pieces_fit};
 ghost use Rattle.spec_world.specs.Checkpoint.{fields, part_numbers, path as path_text};
 ghost use Rattle.moo_code.specs.Paths.{path_of};
+ghost use Rattle.held_values.specs.Wanted.{wanted_by};
 ghost use Rattle.line_fields.specs.Values.{are_places};
 ghost use Rattle.checkpoint_lines.specs.Rows.{Left, Reads};
 ghost use Rattle.task_lines.specs.Standing.{IsStand};
@@ -70,10 +71,25 @@ fn at_beginning(alloc: Global, path: &[usize]) -> Option<Stand>
 fn at_call(alloc: Global, program: &Program, path: &[usize]) -> Result<Option<Stand>, AllocError>
     ensures reads { (f : world.Frame) → StandsAtCall f → IsTrue (pieces_fit f.pieces) → program.now ≡ f.program → path.now ≡ path_of f.pieces → IfOk result (λ o. MatchOption o ⊥ (IsStand false f)) }
 {
-    let wanted = wanted_at(alloc, program.tree(), path)?;
-    let place = call_place(program, path)?;
-    match (wanted, place) {
-        (Some(wanted), Some(place)) => Ok(Some(Stand { place, wanted })),
-        _ => Ok(None),
+    let found = wanted_at(alloc, program.tree(), path)?;
+    match found {
+        Some(wanted) => placed(program, path, wanted),
+        None => Ok(None),
+    }
+}
+
+// At the call that the path leads to, where these values are wanted.
+fn placed(
+    program: &Program,
+    path: &[usize],
+    wanted: Vec<Wanted>,
+) -> Result<Option<Stand>, AllocError>
+    ensures reads { (f : world.Frame) → StandsAtCall f → IsTrue (pieces_fit f.pieces) → program.now ≡ f.program → path.now ≡ path_of f.pieces → wanted.items ≡ wanted_by f.pieces
+        → IfOk result (λ o. MatchOption o ⊥ (IsStand false f)) }
+{
+    let found = call_place(program, path)?;
+    match found {
+        Some(place) => Ok(Some(Stand { place, wanted })),
+        None => Ok(None),
     }
 }

@@ -21,7 +21,7 @@ pub returns : goal.returns
 returns c = record {
   reads = λ es rest h order l.
       let count = c.in_ok-count.ensures.reads (length es) (each_entry es ++ rest) refl (entries_counted es rest) l in
-      let here = subst (λ ts. Left c.next_count.new.lines (ts ++ rest)) (lines_turned es) count.1 in
+      let here = subst (λ ts. Left c.next_count.new.self (ts ++ rest)) (lines_turned es) count.1 in
       gives_map c.next_each.result _ _
       (c.next_each.ensures.reads (reverse es) rest (read_turned c.args.is_fork es h) (order_follows c.args.is_fork es order) (count.0 ∙ sym (length-reverse es)) here)
       (λ v p. (turned_back v.items (outer_for c.args.is_fork) es p.0, p.1));

@@ -1,10 +1,10 @@
-use Rattle.std.proofs.Common.{◌≡◌, ◌<◌, ◌^◌, ◌∷◌, [], true, refl, ap, arith}
+use Rattle.std.proofs.Common.{◌≡◌, ◌∷◌, [], true, refl, ap, arith}
 use Rattle.std.specs.Fmt.{decimal}
 use Rattle.std.proofs.lemmas.Result.{err_from_is_err_and}
-use Rattle.spec_value.proofs.Entries.{first_holds, second_holds, both_hold}
+use Rattle.spec_value.proofs.Entries.{both_hold}
 use Rattle.line_fields.specs.Fields.{word, is_field}
 use Rattle.line_fields.proofs.Words.{word_decimal}
-use Rattle.checkpoint_lines.specs.Rows.{field_at, Left}
+use Rattle.checkpoint_lines.specs.Rows.{field_at}
 use Rattle.checkpoint_lines.proofs.Giving.{gives_passed}
 use Rattle.task_lines.proofs.held.next_held_count.Goals as goal
 
@@ -24,8 +24,8 @@ returns-in_err-count c = record {
       absurd (cc (never));
 }
 
-pub returns-then-count : goal.returns-then-count
-returns-then-count c = record {
+pub returns-then-count-wanted : goal.returns-then-count-wanted
+returns-then-count-wanted c = record {
   reads = λ rest small e.
       let row = c.in_ok-row.ensures.reads (word (decimal c.args.wanted) ∷ []) rest refl (both_hold (is_field (word (decimal c.args.wanted))) true (word_decimal c.args.wanted (omega (arith, small))) refl) refl e in
       (tt, row.1);
@@ -37,5 +37,5 @@ returns c = record {
       let row = c.in_ok-row.ensures.reads (word (decimal c.args.wanted) ∷ []) rest refl (both_hold (is_field (word (decimal c.args.wanted))) true (word_decimal c.args.wanted (omega (arith, small))) refl) refl e in
       let count = c.in_ok-count.ensures.reads c.args.wanted small (ap (λ ts. field_at ts 1) row.0.0) in
       let same : c.in_ok-count.count ≡ c.args.wanted = cc (count) in
-      absurd (c.if-count.false same);
+      absurd (c.if-count-wanted.false same);
 }

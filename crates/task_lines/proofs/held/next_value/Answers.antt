@@ -1,12 +1,12 @@
-use Rattle.std.proofs.Common.{◌≡◌, ◌∷◌, [], true, length, IsTrue, refl, ap, sym, subst, ◌∙◌}
+use Rattle.std.proofs.Common.{◌≡◌, [], true, length, IsTrue, refl, ap, sym, subst, ◌∙◌}
 use Rattle.std.specs.Prelude.{option_map}
 use Rattle.std.proofs.lemmas.Result.{err_from_is_err_and}
 use Rattle.spec_value.specs.Datum.{is_value}
-use Rattle.spec_value.proofs.Entries.{first_holds, second_holds, both_hold}
+use Rattle.spec_value.proofs.Entries.{first_holds, both_hold}
 use Rattle.held_values.specs.Wanted.{wanted_fits}
 use Rattle.line_fields.specs.Fields.{held}
 use Rattle.line_fields.specs.Values.{nests_no_deeper}
-use Rattle.checkpoint_lines.specs.Rows.{field_at, Left}
+use Rattle.checkpoint_lines.specs.Rows.{field_at}
 use Rattle.checkpoint_lines.proofs.Giving.{gives_passed}
 use Rattle.task_lines.proofs.held.next_value.Goals as goal
 

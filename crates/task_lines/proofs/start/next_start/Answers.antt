@@ -1,9 +1,9 @@
-use Rattle.std.proofs.Common.{◌≡◌, ◌∷◌, [], refl, ap, ◌∙◌, subst, Some, None, MatchOption}
+use Rattle.std.proofs.Common.{◌≡◌, ◌∷◌, [], refl, ap, ◌∙◌, subst, MatchOption}
 use Rattle.std.proofs.lemmas.Result.{err_from_is_err_and}
 use Rattle.spec_value.specs.Datum.{list, of_list}
 use Rattle.spec_world.specs.Checkpoint.{start_values}
 use Rattle.line_fields.specs.Fields.{held}
-use Rattle.checkpoint_lines.specs.Rows.{field_at, Left}
+use Rattle.checkpoint_lines.specs.Rows.{field_at}
 use Rattle.checkpoint_lines.proofs.Giving.{gives_passed}
 use Rattle.task_lines.proofs.LineWords.{start_are, start_readable}
 use Rattle.task_lines.proofs.start.next_start.Goals as goal
@@ -32,11 +32,11 @@ returns-in-Some c = record {
       let value = c.in_ok-value.ensures.reads (list (of_list (start_values s))) (start_readable s h) (ap (λ ts. field_at ts 1) row.0.0) in
       let found = c.in_ok-found.ensures.reads s value in
       let here : c.in-Some.start ≡ s = subst (λ o. MatchOption o ⊥ (λ t. t ≡ s)) c.in-Some.is found in
-      (c.in_ok-new.ensures ∙ here, row.1);
+      (c.in_ok-new-in-Some.ensures ∙ here, row.1);
 }
 
-pub returns-in-None : goal.returns-in-None
-returns-in-None c = record {
+pub returns : goal.returns
+returns c = record {
   reads = λ s rest h e.
       let row = c.in_ok-row.ensures.reads (held (list (of_list (start_values s))) ∷ []) rest refl (start_are s h) refl e in
       let value = c.in_ok-value.ensures.reads (list (of_list (start_values s))) (start_readable s h) (ap (λ ts. field_at ts 1) row.0.0) in

@@ -1,5 +1,5 @@
 -- Numbers and counts of a well-formed world, and its links one by one.
-use Rattle.std.proofs.Common.{◌≡◌, ◌≤◌, ◌<◌, ◌≤ℤ◌, ◌^◌, ℕ, zero, suc, ◌+◌, ℤ, pos, negsuc, neg_ℤ, int_le, nat_le, max, min, List, [], ◌∷◌, ◌++◌, length, take, Some, IsTrue, refl, ap, ◌∙◌, arith, cond, slice_get, length-append}
+use Rattle.std.proofs.Common.{◌≡◌, ◌≤◌, ◌≤ℤ◌, ◌^◌, ℕ, suc, ℤ, pos, negsuc, neg_ℤ, int_le, nat_le, max, min, List, [], ◌∷◌, ◌++◌, length, take, Some, IsTrue, ap, ◌∙◌, arith, cond, slice_get, length-append}
 use Rattle.std.proofs.lemmas.Int.{ints}
 use Rattle.std.proofs.lemmas.Bool.{leb-true, le-leb, lt-ltb}
 use Rattle.spec_value.specs.Datum.{Text, in_number_range}

@@ -8,6 +8,7 @@ ghost use Rattle.spec_world.specs.World.{World};
 ghost use Rattle.spec_world.specs.Questions.{put_record};
 ghost use Rattle.spec_world.specs.WellFormed.{IsWellFormed};
 ghost use Rattle.spec_world.specs.Checkpoint.{counted, link_lines, each_object};
+ghost use Rattle.spec_checkpoint.specs.Records.{link_holds};
 ghost use Rattle.checkpoint_lines.specs.Rows.{Left, Reads};
 ghost use Rattle.object_lines.specs.Readable.{is_link_read, is_object_read};
 ghost use Rattle.draft_lines.specs.Front.{front_lines};
@@ -80,7 +81,7 @@ pub fn read_links(
     lines: &mut Lines<'_>,
     draft: &mut Draft,
 ) -> Result<(), DecodeError>
-    ensures reads { (w : World) (rest : List datum.Text) → IsWellFormed w → IsTrue (list_all is_link_read w.links) → draft.old.links ≡ [] → Left lines.old (counted (codes "links") (length w.links) ∷ (link_lines w.links ++ rest))
+    ensures reads { (w : World) (rest : List datum.Text) → IsWellFormed w → IsTrue (list_all link_holds w.links) → draft.old.links ≡ [] → Left lines.old (counted (codes "links") (length w.links) ∷ (link_lines w.links ++ rest))
         → Reads result lines.new rest (λ _. draft.new ≡ record (draft.old) { links = w.links }) }
 {
     let count = lines.next_count(alloc, b"links")?;

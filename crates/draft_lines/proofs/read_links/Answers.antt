@@ -1,6 +1,7 @@
 use Rattle.std.proofs.Common.{length, ◌++◌, refl}
 use Rattle.spec_world.specs.Checkpoint.{link_lines}
 use Rattle.draft_lines.proofs.Fronts.{links_counted}
+use Rattle.draft_lines.proofs.Links.{links_read}
 use Rattle.std.proofs.lemmas.Result.{err_from_is_err_and}
 use Rattle.checkpoint_lines.proofs.Giving.{gives_passed}
 use Rattle.draft_lines.proofs.read_links.Goals as goal
@@ -17,5 +18,5 @@ pub returns : goal.returns
 returns c = record {
   reads = λ w rest f h none l.
       let count = c.in_ok-count.ensures.reads (length w.links) (link_lines w.links ++ rest) refl (links_counted w.links rest) l in
-      c.so_many_links.ensures.reads w rest f h none count.0 count.1;
+      c.so_many_links.ensures.reads w rest f (links_read w f h) none count.0 count.1;
 }

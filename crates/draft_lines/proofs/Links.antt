@@ -18,7 +18,7 @@ by_places p (x ∷ xs) h = both_hold (p x) (list_all p xs) (h zero x refl) (by_p
 pub links_read : (w : World) → IsWellFormed w → IsTrue (list_all link_holds w.links) → IsTrue (list_all is_link_read w.links)
 links_read w f h =
     by_places is_link_read w.links (λ i e at.
-      both_hold (is_connection e.0) (link_holds e)
-      (first_holds (is_connection e.0) (int_eq (e.1).person (neg_ℤ (pos 3) -ℤ e.0) || on_object w (e.1).person (λ x. x.header.is_player))
-      (f.links e.0 e.1 (found_at w.links i e.0 e.1 f.links_in_order at)))
-      (holds_at link_holds w.links i e at h))
+    both_hold (is_connection e.0) (link_holds e)
+    (first_holds (is_connection e.0) (int_eq (e.1).person (neg_ℤ (pos 3) -ℤ e.0) || on_object w (e.1).person (λ x. x.header.is_player))
+    (f.links e.0 e.1 (found_at w.links i e.0 e.1 f.links_in_order at)))
+    (holds_at link_holds w.links i e at h))

@@ -1,5 +1,5 @@
 //! A world from its text.
-ghost use Rattle.std.specs.Prelude.{◌≡◌, Some, MatchOption, IfOk, IfSome};
+ghost use Rattle.std.specs.Prelude.{◌≡◌, Some, IsSomeAnd, IfOk, IfSome};
 ghost use Rattle.spec_world.specs.World as meant;
 ghost use Rattle.spec_world.specs.Checkpoint.{checkpoint_text};
 ghost use Rattle.view.specs.Sound.{IsSound};
@@ -37,7 +37,7 @@ pub fn decode(alloc: Global, bytes: &[u8]) -> Result<World, DecodeError>
 fn world_of(alloc: Global, draft: Option<Draft>, bytes: &[u8]) -> Result<Option<World>, AllocError>
     ensures text { IfOk result (λ o. IfSome o (λ w. bytes.now ≡ checkpoint_text w.plain)) }
     ensures opened { IfOk result (λ o. IfSome o (λ w. w.opened ≡ 0)) }
-    ensures finds { (w : meant.World) → draft ≡ Some w → IsSound w → bytes.now ≡ checkpoint_text w → IfOk result (λ o. MatchOption o ⊥ (λ x. x.plain ≡ w)) }
+    ensures finds { (w : meant.World) → draft ≡ Some w → IsSound w → bytes.now ≡ checkpoint_text w → IfOk result (λ o. IsSomeAnd o (λ x. x.plain ≡ w)) }
 {
     match draft {
         Some(draft) => checked(alloc, draft, bytes),
@@ -48,7 +48,7 @@ fn world_of(alloc: Global, draft: Option<Draft>, bytes: &[u8]) -> Result<Option<
 fn checked(alloc: Global, draft: Draft, bytes: &[u8]) -> Result<Option<World>, AllocError>
     ensures text { IfOk result (λ o. IfSome o (λ w. bytes.now ≡ checkpoint_text w.plain)) }
     ensures opened { IfOk result (λ o. IfSome o (λ w. w.opened ≡ 0)) }
-    ensures finds { IsSound draft → bytes.now ≡ checkpoint_text draft → IfOk result (λ o. MatchOption o ⊥ (λ x. x.plain ≡ draft)) }
+    ensures finds { IsSound draft → bytes.now ≡ checkpoint_text draft → IfOk result (λ o. IsSomeAnd o (λ x. x.plain ≡ draft)) }
 {
     let sound = is_sound(alloc, &draft)?;
     if !sound {

@@ -2,6 +2,7 @@
 ghost use Rattle.std.specs.Prelude.{◌≡◌, List, [], ◌∷◌, ◌++◌, length, Some, IsTrue, codes};
 ghost use Rattle.spec_value.specs.Datum as datum;
 ghost use Rattle.spec_world.specs.World as meant;
+ghost use Rattle.spec_world.specs.WellFormed.{IsWellFormed};
 ghost use Rattle.spec_world.specs.Checkpoint.{counted, each_task, world_lines};
 ghost use Rattle.checkpoint_lines.specs.Rows.{Left, Reads};
 ghost use Rattle.checkpoint.specs.Readable.{AreTasksRead, IsReadable};
@@ -33,7 +34,7 @@ pub fn next_draft(alloc: Global, lines: &mut Lines<'_>) -> Result<Option<Draft>,
 
 // Whether all tasks could be made of their lines.
 fn read_tasks(alloc: Global, lines: &mut Lines<'_>, draft: &mut Draft) -> Result<bool, DecodeError>
-    ensures reads { (w : meant.World) (rest : List datum.Text) → IsReadable w → draft.old.tasks ≡ [] → Left lines.old (counted (codes "tasks") (length w.tasks) ∷ (each_task w.tasks ++ rest))
+    ensures reads { (w : meant.World) (rest : List datum.Text) → IsWellFormed w → AreTasksRead w → draft.old.tasks ≡ [] → Left lines.old (counted (codes "tasks") (length w.tasks) ∷ (each_task w.tasks ++ rest))
         → Reads result lines.new rest (λ all. IsTrue all × (draft.new ≡ record (draft.old) { tasks = w.tasks })) }
 {
     let count = lines.next_count(alloc, b"tasks")?;
@@ -46,7 +47,7 @@ fn so_many_tasks(
     draft: &mut Draft,
     count: u64,
 ) -> Result<bool, DecodeError>
-    ensures reads { (w : meant.World) (rest : List datum.Text) → IsReadable w → draft.old.tasks ≡ [] → count ≡ length w.tasks → Left lines.old (each_task w.tasks ++ rest)
+    ensures reads { (w : meant.World) (rest : List datum.Text) → IsWellFormed w → AreTasksRead w → draft.old.tasks ≡ [] → count ≡ length w.tasks → Left lines.old (each_task w.tasks ++ rest)
         → Reads result lines.new rest (λ all. IsTrue all × (draft.new ≡ record (draft.old) { tasks = w.tasks })) }
 {
     let mut all = true;

@@ -1,12 +1,13 @@
 use Rattle.std.proofs.Common.{◌≡◌, ◌++◌, true, List, [], length, take, drop}
 use Rattle.spec_value.specs.Datum.{Text}
 use Rattle.spec_world.specs.World.{World}
+use Rattle.spec_world.specs.WellFormed.{IsWellFormed}
 use Rattle.spec_world.specs.Checkpoint.{each_task}
 use Rattle.checkpoint_lines.specs.Rows.{Left}
-use Rattle.checkpoint.specs.Readable.{IsReadable}
+use Rattle.checkpoint.specs.Readable.{AreTasksRead}
 use Rattle.checkpoint.proofs.draft.so_many_tasks.Given as goal
 
 abbrev pub invariant-reading : goal.invariant-reading
 invariant-reading l =
-    (w : World) (rest : List Text) → IsReadable w → l.fn.draft.tasks ≡ [] → l.fn.count ≡ length w.tasks → Left l.fn.lines (each_task w.tasks ++ rest)
+    (w : World) (rest : List Text) → IsWellFormed w → AreTasksRead w → l.fn.draft.tasks ≡ [] → l.fn.count ≡ length w.tasks → Left l.fn.lines (each_task w.tasks ++ rest)
     → Left l.lines (each_task (drop l._task w.tasks) ++ rest) × (l.all ≡ true) × (l.draft ≡ record l.fn.draft { tasks = take l._task w.tasks })

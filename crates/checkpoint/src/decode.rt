@@ -18,7 +18,8 @@ use world_checks::sound::is_sound;
 /// The world whose text the bytes are.
 ///
 /// An `Err` tells the first faulty line with the least of its faults, or that memory ran out. A text without other faults
-/// that no well-formed world has is told at its last line.
+/// that no well-formed world has is told at its last line. Of the text of a world that is readable the only `Err` is that
+/// memory ran out.
 pub fn decode(alloc: Global, bytes: &[u8]) -> Result<World, DecodeError>
     ensures text { IfOk result (λ w. bytes.now ≡ checkpoint_text w.plain) }
     ensures opened { IfOk result (λ w. w.opened ≡ 0) }

@@ -6,6 +6,4 @@
 
 pub mod decode;
 mod draft;
-pub mod held_values;
-pub mod task_records;
 pub mod world_files;

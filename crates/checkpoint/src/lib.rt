@@ -6,4 +6,5 @@
 
 pub mod decode;
 mod draft;
+pub mod laws;
 pub mod world_files;

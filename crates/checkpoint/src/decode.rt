@@ -1,6 +1,10 @@
 //! A world from its text.
-ghost use Rattle.std.specs.Prelude.{◌≡◌, IfOk, IfSome};
+ghost use Rattle.std.specs.Prelude.{◌≡◌, Some, IsSomeAnd, IfOk, IfSome};
+ghost use Rattle.spec_world.specs.World as meant;
 ghost use Rattle.spec_world.specs.Checkpoint.{checkpoint_text};
+ghost use Rattle.view.specs.Sound.{IsSound};
+ghost use Rattle.checkpoint_lines.specs.Gives.{Gives};
+ghost use Rattle.checkpoint.specs.Readable.{IsReadable};
 
 use crate::draft::next_draft;
 use checkpoint_lines::fault::{DecodeError, FaultKind};
@@ -14,10 +18,12 @@ use world_checks::sound::is_sound;
 /// The world whose text the bytes are.
 ///
 /// An `Err` tells the first faulty line with the least of its faults, or that memory ran out. A text without other faults
-/// that no well-formed world has is told at its last line.
+/// that no well-formed world has is told at its last line. Of the text of a world that is readable the only `Err` is that
+/// memory ran out.
 pub fn decode(alloc: Global, bytes: &[u8]) -> Result<World, DecodeError>
     ensures text { IfOk result (λ w. bytes.now ≡ checkpoint_text w.plain) }
     ensures opened { IfOk result (λ w. w.opened ≡ 0) }
+    ensures finds { (w : meant.World) → IsReadable w → bytes.now ≡ checkpoint_text w → Gives result (λ x. x.plain ≡ w) }
 {
     let mut lines = Lines::new(bytes);
     let draft = next_draft(alloc, &mut lines)?;
@@ -32,6 +38,7 @@ pub fn decode(alloc: Global, bytes: &[u8]) -> Result<World, DecodeError>
 fn world_of(alloc: Global, draft: Option<Draft>, bytes: &[u8]) -> Result<Option<World>, AllocError>
     ensures text { IfOk result (λ o. IfSome o (λ w. bytes.now ≡ checkpoint_text w.plain)) }
     ensures opened { IfOk result (λ o. IfSome o (λ w. w.opened ≡ 0)) }
+    ensures finds { (w : meant.World) → draft ≡ Some w → IsSound w → bytes.now ≡ checkpoint_text w → IfOk result (λ o. IsSomeAnd o (λ x. x.plain ≡ w)) }
 {
     match draft {
         Some(draft) => checked(alloc, draft, bytes),
@@ -42,6 +49,7 @@ fn world_of(alloc: Global, draft: Option<Draft>, bytes: &[u8]) -> Result<Option<
 fn checked(alloc: Global, draft: Draft, bytes: &[u8]) -> Result<Option<World>, AllocError>
     ensures text { IfOk result (λ o. IfSome o (λ w. bytes.now ≡ checkpoint_text w.plain)) }
     ensures opened { IfOk result (λ o. IfSome o (λ w. w.opened ≡ 0)) }
+    ensures finds { IsSound draft → bytes.now ≡ checkpoint_text draft → IfOk result (λ o. IsSomeAnd o (λ x. x.plain ≡ draft)) }
 {
     let sound = is_sound(alloc, &draft)?;
     if !sound {

@@ -6,6 +6,5 @@
 
 pub mod decode;
 mod draft;
-pub mod held_values;
-pub mod task_records;
+pub mod laws;
 pub mod world_files;

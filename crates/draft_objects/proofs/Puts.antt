@@ -15,7 +15,7 @@ use Rattle.named_objects.specs.Told.{Told, told, shown_object, object_names}
 use Rattle.named_objects.proofs.Tables.{below_at, found_at}
 
 module _ {X : Type 0} where
-  next_put : (es : Numbered X) (i : ℕ) (k : ℤ) (x : X) → IsTrue (is_numbered es) → slice_get es i ≡ Some (k, x) → with (take i es) k x ≡ take (suc i) es
+  pub next_put : (es : Numbered X) (i : ℕ) (k : ℤ) (x : X) → IsTrue (is_numbered es) → slice_get es i ≡ Some (k, x) → with (take i es) k x ≡ take (suc i) es
   next_put [] i k x h e = cc
   next_put (f ∷ es) zero k x h e = let same : f ≡ (k, x) = cc in ap (λ (g : ℤ × X). g ∷ []) (sym same)
   next_put (f ∷ es) (suc i) k x h e =

@@ -1,11 +1,9 @@
 -- Variables that are read one by one come to the table that the lines tell.
-use Rattle.std.proofs.Common.{◌≡◌, ◌∙◌, refl, sym, ap, subst, cond, ℕ, zero, suc, ◌<◌, ◌&&◌, Bool, true, false, List, [], ◌∷◌, ◌++◌, length, drop, replicate, Option, Some, None, IsTrue, arith, nat_cmp, is_lt, is_eq, Ordering, Less, Equal, Greater}
+use Rattle.std.proofs.Common.{◌≡◌, ◌∙◌, refl, sym, ap, subst, cond, ℕ, zero, suc, ◌<◌, Bool, true, false, List, [], ◌∷◌, ◌++◌, length, drop, replicate, Option, Some, None, IsTrue, arith, nat_cmp, is_lt, is_eq, Ordering, Less, Equal, Greater}
 use Rattle.std.specs.Prelude.{slice_get, slice_set, if◌then◌else◌}
 use Rattle.std.specs.Bool.{nat_lt}
-use Rattle.std.specs.Ordering.{eq_by_cmp}
 use Rattle.std.specs.Cmp.Lexicographic.{slice_cmp}
 use Rattle.std.specs.FinMap.Entries.{below_all}
-use Rattle.std.proofs.lemmas.Option.{slice_get_within}
 use Rattle.std.specs.List.{list_all}
 use Rattle.std.proofs.lemmas.Bool.{ltb-true}
 use Rattle.spec_value.specs.Datum.{Datum, Text, same_text}
@@ -17,7 +15,9 @@ use Rattle.spec_world.proofs.SlotChanges.{names_total, itself}
 use Rattle.spec_world.proofs.SlotTables.{sought}
 use Rattle.moo_code.specs.Slots.{slot_of, in_slot, variables_over, others}
 use Rattle.moo_code.proofs.Slots.{same_tables, variables_sorted, others_sorted, others_named, others_stay, others_have_none, slot_is_variable, name_has_slot}
-use Rattle.task_lines.specs.Gathering.{first_of, value_now, Gathers, slots_with, further_with, NoneGathered, OneGathered, AllGathered}
+use Rattle.moo_program.specs.Names.{found_place}
+use Rattle.moo_program.proofs.Slots.{has_is}
+use Rattle.task_lines.specs.Gathering.{first_of, value_now, Gathers, slots_with, further_with}
 use Rattle.task_lines.specs.Tasks.{variable_reads}
 
 -- ---- a table's entries are found in it
@@ -86,7 +86,7 @@ none_first : (o : Option Datum) → first_of o None ≡ o
 none_first None = refl
 none_first (Some v) = refl
 
-pub none_yet : NoneGathered
+pub none_yet : (names : List Text) (n : ℕ) (table : Named Datum) → Gathers names (replicate n None) [] table table
 none_yet names n table q = ap (λ o. first_of o (named table q)) (go (has_name names q))
   where
     go : (b : Bool) → (if b then in_slot (slice_get (replicate n None) (slot_of names q)) else None) ≡ None
@@ -161,7 +161,8 @@ behind_others names slots further left table e out h q = go (has_name names q) r
 
 -- ---- all of them
 
-pub all_gathered : AllGathered
+pub all_gathered : (names : List Text) (slots : List (Option Datum)) (further : List (Text × Datum)) (table : Named Datum) → IsTrue (is_named table) → IsTrue (names_once names)
+    → Gathers names slots further [] table → variables_over (others names further) names slots ≡ table
 all_gathered names slots further table sorted once h =
     same_tables (variables_over (others names further) names slots) table (variables_sorted (others names further) names slots (others_sorted names further)) sorted
     (λ q. go q (has_name names q) refl ∙ sym (none_first (value_now names slots further q)) ∙ h q)
@@ -182,7 +183,10 @@ variable_at [] i small h = absurd (omega (arith, small))
 variable_at (e ∷ es) zero small h = (e, refl, first_holds (variable_reads e) _ h, refl)
 variable_at (e ∷ es) (suc i) small h = variable_at es i (omega (arith, small)) (second_holds (variable_reads e) _ h)
 
-pub one_gathered : OneGathered
+pub one_gathered : (names : List Text) (slots : List (Option Datum)) (further left : List (Text × Datum)) (table : Named Datum) (e : Text × Datum) (p : Option ℕ)
+    → p ≡ (if nat_lt (slot_of names e.0) (length names) then Some (slot_of names e.0) else None) → has_name names e.0 ≡ nat_lt (slot_of names e.0) (length names)
+    → named table e.0 ≡ Some e.1 → length slots ≡ length names → Gathers names slots further (e ∷ left) table
+    → Gathers names (slots_with p slots e.1) (further_with p further e) left table
 one_gathered names slots further left table e p is known there count h = go (nat_lt (slot_of names e.0) (length names)) refl
   where
     go : (b : Bool) → nat_lt (slot_of names e.0) (length names) ≡ b → Gathers names (slots_with p slots e.1) (further_with p further e) left table
@@ -195,3 +199,14 @@ one_gathered names slots further left table e p is known there count h = go (nat
         let place : p ≡ None = is ∙ ap (λ b. if b then Some (slot_of names e.0) else None) n in
         subst (λ q. Gathers names (slots_with q slots e.1) (further_with q further e) left table) (sym place)
         (behind_others names slots further left table e (known ∙ n) h)
+
+-- as it was put
+pub one_put : (names : List Text) (slots now : List (Option Datum)) (further later left : List (Text × Datum)) (table : Named Datum) (e v : Text × Datum) → v ≡ e
+    → now ≡ slots_with (found_place names v.0) slots v.1 → later ≡ further_with (found_place names v.0) further v
+    → named table e.0 ≡ Some e.1 → length slots ≡ length names → Gathers names slots further (e ∷ left) table → Gathers names now later left table
+one_put names slots now further later left table e v same put behind there count h =
+    let p : Option ℕ = found_place names e.0 in
+    let slots_are : now ≡ slots_with p slots e.1 = put ∙ ap (λ (u : Text × Datum). slots_with (found_place names u.0) slots u.1) same in
+    let further_are : later ≡ further_with p further e = behind ∙ ap (λ (u : Text × Datum). further_with (found_place names u.0) further u) same in
+    subst (λ ss. Gathers names ss later left table) (sym slots_are)
+    (subst (λ fs. Gathers names (slots_with p slots e.1) fs left table) (sym further_are) (one_gathered names slots further left table e p refl (has_is names e.0) there count h))

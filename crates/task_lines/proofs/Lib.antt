@@ -1,3 +1,10 @@
 pub mod Gathering
 pub mod Order
 pub mod WorldTasks
+pub mod LineWords
+pub mod Made
+pub mod Loops
+pub mod MannerWords
+pub mod NamePlaces
+pub mod Standing
+pub mod Entering

@@ -1,14 +1,15 @@
 -- The entries of a task, the outermost first, stand where they may.
-use Rattle.std.proofs.Common.{◌≡◌, ◌∙◌, refl, sym, ap, subst, ℕ, zero, suc, ◌+◌, ◌≤◌, ◌&&◌, not, Bool, true, false, List, [], ◌∷◌, ◌++◌, length, map, reverse, IsTrue, append_assoc, arith}
+use Rattle.std.proofs.Common.{◌≡◌, ◌∙◌, refl, sym, ap, subst, ℕ, suc, ◌+◌, ◌≤◌, not, Bool, true, false, List, [], ◌∷◌, ◌++◌, length, reverse, IsTrue, append_assoc, arith}
 use Rattle.std.proofs.lemmas.Bool.{lt-ltb}
-use Rattle.std.proofs.lemmas.List.{append-nil, reverse-append}
+use Rattle.std.proofs.lemmas.List.{append-nil, reverse-append, length-reverse}
 use Rattle.std.specs.Bool.{nat_lt}
 use Rattle.spec_value.specs.Datum.{Text}
 use Rattle.spec_value.proofs.Entries.{both_hold}
 use Rattle.spec_world.specs.World.{Frame, Native, Entry, frame_entry, native_entry}
 use Rattle.spec_world.specs.WellFormed.{begins_with_frame, goes_on_after_frame, frames, fork_fits}
 use Rattle.spec_world.specs.Checkpoint.{entry_lines, each_entry}
-use Rattle.task_lines.specs.Entries.{lines_of, is_end, may_stand, may_follow, own_line, lines_behind, CallsFollow, ForkFollows, LinesTurned}
+use Rattle.task_lines.specs.Entries.{lines_of, may_follow, own_line, lines_behind}
+use Rattle.task_lines.specs.Tasks.{OrderReads}
 
 -- ---- turned round
 
@@ -77,14 +78,18 @@ mutual
       both_hold (nat_lt verbs 50) _ (lt-ltb verbs 50 (omega (arith, few))) (after_frame (suc verbs) es h (omega (arith, few)))
   after_native first verbs (native_entry n ∷ es) h few = cc
 
-pub calls_follow : CallsFollow
+pub calls_follow : (es : List Entry) → IsTrue (begins_with_frame es) → frames es ≤ 50 → IsTrue (may_follow false true false 0 (reverse es))
 calls_follow es h few = let count = frames_turned es in after_native true 0 (reverse es) (turned es h) (omega (arith, few, count))
 
-pub fork_follows : ForkFollows
+pub fork_follows : (es : List Entry) → IsTrue (fork_fits es) → IsTrue (may_follow true true false 0 (reverse es))
 fork_follows [] h = cc
 fork_follows (native_entry n ∷ es) h = cc
 fork_follows (frame_entry f ∷ e ∷ es) h = cc
 fork_follows (frame_entry f ∷ []) h = refl
+
+pub order_follows : (is_fork : Bool) (es : List Entry) → OrderReads is_fork es → IsTrue (may_follow is_fork true false 0 (reverse es))
+order_follows true es h = fork_follows es h
+order_follows false es h = calls_follow es h.0 h.1
 
 -- ---- lines
 
@@ -92,7 +97,7 @@ lines_both : (es fs : List Entry) → lines_of (es ++ fs) ≡ lines_of es ++ lin
 lines_both [] fs = refl
 lines_both (e ∷ es) fs = ap (λ l. entry_lines e ++ l) (lines_both es fs) ∙ sym (append_assoc (entry_lines e) (lines_of es) (lines_of fs))
 
-pub lines_turned : LinesTurned
+pub lines_turned : (es : List Entry) → each_entry es ≡ lines_of (reverse es)
 lines_turned [] = refl
 lines_turned (e ∷ es) =
     ap (λ l. l ++ entry_lines e) (lines_turned es)
@@ -116,3 +121,9 @@ as_many_lines (frame_entry f ∷ es) rest =
     longer [] us = omega arith
     longer (t ∷ ts) us = let rest = longer ts us in omega (arith, rest)
 as_many_lines (native_entry n ∷ es) rest = let more = as_many_lines es rest in omega (arith, more)
+
+pub entries_counted : (es : List Entry) (rest : List Text) → length es ≤ length (each_entry es ++ rest)
+entries_counted es rest =
+    let many = as_many_lines (reverse es) rest in
+    let turned = ap (λ (ts : List Text). length (ts ++ rest)) (lines_turned es) in
+    let count = length-reverse es in omega (arith, many, turned, count)

@@ -1,5 +1,5 @@
 -- The tasks of a well-formed world are as they must be for their lines to be read.
-use Rattle.std.proofs.Common.{◌≡◌, ◌∙◌, refl, sym, ap, subst, ℕ, zero, suc, ◌+◌, ◌-◌, ◌*◌, ◌≤◌, nat_le, ℤ, pos, negsuc, ◌&&◌, Bool, true, false, List, [], ◌∷◌, ◌++◌, Option, Some, None, IsTrue, leb-true, arith}
+use Rattle.std.proofs.Common.{◌≡◌, refl, ℕ, ◌-◌, ◌*◌, ◌≤◌, nat_le, ℤ, pos, negsuc, ◌&&◌, Bool, true, false, List, [], ◌∷◌, ◌++◌, Option, Some, None, IsTrue, leb-true, arith}
 use Rattle.std.specs.Prelude.{◌≤ℤ◌, int_le, is_some}
 use Rattle.std.specs.List.{list_all}
 use Rattle.spec_value.specs.Datum.{Datum, Text, in_number_range, is_text, is_value, list, of_list}
@@ -10,14 +10,14 @@ use Rattle.spec_value.proofs.Entries.{first_holds, second_holds, both_hold}
 use Rattle.spec_program.specs.Construct.{Piece}
 use Rattle.spec_program.specs.Trees.{is_tree}
 use Rattle.spec_world.specs.World.{World, Link, Frame, Native, Entry, frame_entry, native_entry, Waiting, forked, timed, idle, reading_on, Task}
-use Rattle.spec_world.specs.WellFormed.{IsWellFormed, StandsAtCall, FramesStand, TaskStands, is_connection, link_fits, frame_fits, native_fits, entry_fits, begins_with_frame, frames, at_beginning, fork_fits, is_moment, waiting_fits, entries_fit}
+use Rattle.spec_world.specs.WellFormed.{IsWellFormed, FramesStand, TaskStands, is_connection, frame_fits, native_fits, entry_fits, begins_with_frame, frames, at_beginning, fork_fits, is_moment, waiting_fits, entries_fit}
 use Rattle.spec_world.specs.Checkpoint.{start_values, values_held}
 use Rattle.spec_checkpoint.specs.Holding.{is_number, call_holds, piece_holds, frame_holds, native_holds, entry_holds, waiting_holds, task_holds}
 use Rattle.spec_checkpoint.proofs.Fields.{values_hold}
 use Rattle.spec_checkpoint.proofs.FrameRecords.{held_are_values}
 use Rattle.moo_code.specs.Paths.{path_of}
 use Rattle.line_fields.specs.Values.{nests_no_deeper, is_readable, are_places}
-use Rattle.task_lines.specs.Tasks.{variable_reads, FrameReads, NativeReads, FrameStands, EntryReads, OrderReads, AllRead, WaitingReads, is_forked, TaskReads, frame_nests, entry_nests, waiting_nests, task_nests, TasksAreRead}
+use Rattle.task_lines.specs.Tasks.{variable_reads, FrameReads, NativeReads, OrderReads, AllRead, WaitingReads, is_forked, frame_nests, entry_nests, waiting_nests, TasksAreRead}
 
 -- ---- frames
 

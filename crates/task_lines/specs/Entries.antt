@@ -1,12 +1,11 @@
 -- What is under way in a task, as its lines tell it: the outermost first.
-use Rattle.std.specs.Prelude.{◌≡◌, ◌≤◌, ℕ, ℤ, suc, ◌&&◌, not, nat_lt, Bool, true, false, List, [], ◌∷◌, ◌++◌, length, map, reverse, IsTrue, codes}
+use Rattle.std.specs.Prelude.{ℕ, ℤ, suc, ◌&&◌, not, nat_lt, Bool, true, false, List, [], ◌∷◌, ◌++◌, length, codes}
 use Rattle.std.specs.Fmt.{decimal, signed_decimal}
 use Rattle.spec_value.specs.Datum.{Text, text}
 use Rattle.spec_value.specs.Literal.{literal}
 use Rattle.spec_program.specs.Spelling.{canonical_lines}
 use Rattle.spec_world.specs.World.{Call, Frame, Native, Waiting, Entry, frame_entry, native_entry}
-use Rattle.spec_world.specs.Checkpoint.{fields, counted, object_text, flag, list_literal, path, part_numbers, values_held, literal_lines, variable_lines, start_values, native_text, entry_lines, each_entry, waiting_fields}
-use Rattle.spec_world.specs.WellFormed.{begins_with_frame, frames, fork_fits}
+use Rattle.spec_world.specs.Checkpoint.{fields, counted, object_text, flag, list_literal, path, part_numbers, values_held, literal_lines, variable_lines, start_values, native_text, entry_lines, waiting_fields}
 use Rattle.moo_code.specs.Machine.{Kept, Outer, verb, native}
 use Rattle.moo_code.specs.Stands.{kept_of}
 use Rattle.moo_code.specs.Resuming.{waiting_kept}
@@ -87,14 +86,3 @@ abbrev pub may_follow : Bool → Bool → Bool → ℕ → List Entry → Bool
 may_follow is_fork is_first is_behind verbs [] = true
 may_follow is_fork is_first is_behind verbs (e ∷ es) =
     may_stand is_fork is_first (is_end es) is_behind verbs e && may_follow is_fork false (is_native e) (verbs_with verbs e) es
-
--- ---- laws
-
-abbrev pub CallsFollow : Type 0
-CallsFollow = (es : List Entry) → IsTrue (begins_with_frame es) → frames es ≤ 50 → IsTrue (may_follow false true false 0 (reverse es))
-
-abbrev pub ForkFollows : Type 0
-ForkFollows = (es : List Entry) → IsTrue (fork_fits es) → IsTrue (may_follow true true false 0 (reverse es))
-
-abbrev pub LinesTurned : Type 0
-LinesTurned = (es : List Entry) → each_entry es ≡ lines_of (reverse es)

@@ -1,11 +1,11 @@
 -- Variables that are read one by one: into the slots of a program's names, or to the others.
-use Rattle.std.specs.Prelude.{◌≡◌, ℕ, List, [], ◌∷◌, ◌++◌, length, replicate, nat_lt, Option, Some, None, Bool, true, false, slice_get, slice_set, if◌then◌else◌, IsTrue, codes}
+use Rattle.std.specs.Prelude.{◌≡◌, ℕ, List, [], ◌∷◌, ◌++◌, Option, Some, None, slice_get, slice_set, if◌then◌else◌, codes}
 use Rattle.spec_value.specs.Datum.{Datum, Text, text}
 use Rattle.spec_value.specs.Literal.{literal}
-use Rattle.spec_value.specs.Table.{Named, named, is_named}
+use Rattle.spec_value.specs.Table.{Named, named}
 use Rattle.spec_world.specs.Checkpoint.{fields}
-use Rattle.spec_world.specs.WellFormed.{has_name, names_once}
-use Rattle.moo_code.specs.Slots.{slot_of, in_slot, variables_over, others}
+use Rattle.spec_world.specs.WellFormed.{has_name}
+use Rattle.moo_code.specs.Slots.{slot_of, in_slot}
 
 -- the first value that is there
 abbrev pub first_of : Option Datum → Option Datum → Option Datum
@@ -33,20 +33,3 @@ slots_with (Some i) slots v = slice_set slots i (Some v)
 abbrev pub further_with : Option ℕ → List (Text × Datum) → Text × Datum → List (Text × Datum)
 further_with None further e = further ++ e ∷ []
 further_with (Some i) further e = further
-
--- ---- laws
-
-abbrev pub NoneGathered : Type 0
-NoneGathered = (names : List Text) (n : ℕ) (table : Named Datum) → Gathers names (replicate n None) [] table table
-
-abbrev pub OneGathered : Type 0
-OneGathered =
-    (names : List Text) (slots : List (Option Datum)) (further left : List (Text × Datum)) (table : Named Datum) (e : Text × Datum) (p : Option ℕ)
-    → p ≡ (if nat_lt (slot_of names e.0) (length names) then Some (slot_of names e.0) else None) → has_name names e.0 ≡ nat_lt (slot_of names e.0) (length names)
-    → named table e.0 ≡ Some e.1 → length slots ≡ length names → Gathers names slots further (e ∷ left) table
-    → Gathers names (slots_with p slots e.1) (further_with p further e) left table
-
-abbrev pub AllGathered : Type 0
-AllGathered =
-    (names : List Text) (slots : List (Option Datum)) (further : List (Text × Datum)) (table : Named Datum) → IsTrue (is_named table) → IsTrue (names_once names)
-    → Gathers names slots further [] table → variables_over (others names further) names slots ≡ table

@@ -1,5 +1,5 @@
 -- What a task that waits must be for its lines to be read.
-use Rattle.std.specs.Prelude.{◌≡◌, ◌≤◌, ℕ, ℤ, pos, ◌≤ℤ◌, ◌&&◌, Bool, true, false, List, [], ◌∷◌, Some, IsTrue}
+use Rattle.std.specs.Prelude.{◌≡◌, ◌≤◌, ℤ, pos, ◌≤ℤ◌, ◌&&◌, Bool, true, false, List, [], ◌∷◌, Some, IsTrue}
 use Rattle.std.specs.List.{list_all}
 use Rattle.spec_value.specs.Datum.{Datum, Text, in_number_range, is_text, is_value, list, of_list}
 use Rattle.spec_value.specs.Table.{at}

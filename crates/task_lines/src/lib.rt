@@ -1,4 +1,16 @@
-//! What the lines of a task that waits must tell to be read, and how what is read comes to the task: definitions and laws.
+//! The lines of tasks that wait, read one by one: how a task waits, the verbs and built-in functions under way, their variables and the
+//! values that they hold.
 #![tactic(auto)]
 
-pub mod laws;
+pub mod entries;
+mod entry;
+mod frame;
+mod head;
+mod held;
+mod names;
+mod native;
+mod stand;
+mod start;
+pub mod task;
+mod variables;
+mod waiting;

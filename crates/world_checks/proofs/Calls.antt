@@ -11,8 +11,8 @@ use Rattle.moo_code.specs.Stands.{Waits}
 use Rattle.moo_code.specs.Paths.{path_of}
 use Rattle.moo_code.specs.Rebuilding.{call_path, down, from_deepest}
 use Rattle.moo_code.proofs.Rebuilding.{frames_rebuilt}
-use Rattle.world_checks.specs.Descent.{fits_down}
-use Rattle.world_checks.proofs.Pieces.{pieces_down, down_pieces}
+use Rattle.held_values.specs.Descent.{fits_down}
+use Rattle.held_values.proofs.Pieces.{pieces_down, down_pieces}
 use Rattle.world_checks.specs.Held.{OfCall}
 
 pub call_holds : (k : Kept) (path : List ℕ) → call_path k ≡ Some path → IsTrue (fits_down 0 (of_program k.program) path (from_deepest k.operands)) → OfCall k

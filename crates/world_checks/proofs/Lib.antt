@@ -1,6 +1,3 @@
-pub mod Pieces
-pub mod ValueKinds
-pub mod Leaving
 pub mod Names
 pub mod Calls
 pub mod Numbered
@@ -19,7 +16,6 @@ pub mod Each
 pub mod EachOf
 pub mod Respelled
 pub mod Forks
-pub mod Natives
 pub mod TaskTold
 pub mod Told
 pub mod Fitting

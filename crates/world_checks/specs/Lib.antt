@@ -1,13 +1,10 @@
-pub mod Descent
 pub mod Naming
-pub mod Told
 pub mod Held
 pub mod Marks
 pub mod Merge
 pub mod Ways
 pub mod Guessed
 pub mod Persons
-pub mod Arguments
 pub mod TaskChecksTasks
 pub mod Waiting
 pub mod Spelled

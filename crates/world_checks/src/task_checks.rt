@@ -2,7 +2,6 @@
 //!
 //! A task's type promises where its verbs stand. What is left to see are the built-in functions between them, the variables and
 //! the values that verbs hold, how many verbs there are, and moments.
-pub mod native;
 pub mod order;
 pub mod outers;
 pub mod spelled;

@@ -1,6 +1,8 @@
 //! The world of a file.
-ghost use Rattle.std.specs.Prelude.{◌≡◌, IfOk};
+ghost use Rattle.std.specs.Prelude.{◌≡◌, IfOk, IsOkAnd};
+ghost use Rattle.spec_world.specs.World as meant;
 ghost use Rattle.spec_world.specs.Checkpoint.{checkpoint_text};
+ghost use Rattle.checkpoint.specs.Readable.{IsReadable};
 
 use crate::decode::decode;
 use checkpoint_lines::fault::DecodeError;
@@ -25,7 +27,8 @@ pub fn read_world_file<R: AllocGlobal + Files>(
 
 /// The world of a text, or the line of the text's fault.
 pub fn world_of(alloc: Global, text: &[u8]) -> Result<Result<World, String>, AllocError>
-    ensures { IfOk result (λ read. IfOk read (λ world. text.now ≡ checkpoint_text world.plain)) }
+    ensures text { IfOk result (λ read. IfOk read (λ world. text.now ≡ checkpoint_text world.plain)) }
+    ensures finds { (w : meant.World) → IsReadable w → text.now ≡ checkpoint_text w → IfOk result (λ read. IsOkAnd read (λ world. world.plain ≡ w)) }
 {
     match decode(alloc, text) {
         Ok(world) => Ok(Ok(world)),

@@ -6,11 +6,11 @@ ghost use Rattle.spec_program.specs.Construct.{of_program};
 ghost use Rattle.moo_code.specs.Rebuilding.{from_deepest};
 ghost use Rattle.moo_code.specs.Stands.{Waits};
 ghost use Rattle.moo_task.specs.Frames.{kept_of};
-ghost use Rattle.world_checks.specs.Descent.{fits_down};
+ghost use Rattle.held_values.specs.Descent.{fits_down};
 ghost use Rattle.world_checks.specs.Held.{OfCall};
 
-use crate::held_checks::down::path_fits;
 use crate::piece_checks::variables::variables_fit;
+use held_values::down::path_fits;
 use moo_task::frame::Frame;
 use std::alloc::{AllocError, Global};
 use tree_parts::frame_paths::paths::call_path;

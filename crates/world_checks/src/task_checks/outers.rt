@@ -4,8 +4,8 @@ ghost use Rattle.moo_task.specs.Frames.{outer_of, outers_of};
 ghost use Rattle.world_checks.specs.Waiting.{OuterFits, OuterFound, AllFit, AllFound, OutersFit, OutersFound};
 
 use crate::piece_checks::fit::frame_fits;
-use crate::task_checks::native::native_fits;
 use crate::task_checks::order::begins_with_verb;
+use held_values::native::native_fits;
 use moo_task::frame::Outer;
 use moo_task::outers::Outers;
 use std::alloc::{AllocError, Global};

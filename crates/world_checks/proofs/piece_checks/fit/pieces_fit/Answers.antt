@@ -2,7 +2,7 @@ use Rattle.std.proofs.Common.{◌≡◌, None, IsTrue, sym, subst}
 use Rattle.spec_program.specs.Construct.{of_program}
 use Rattle.moo_code.specs.Rebuilding.{call_path, from_deepest}
 use Rattle.moo_task.specs.Frames.{kept_of}
-use Rattle.world_checks.specs.Descent.{fits_down}
+use Rattle.held_values.specs.Descent.{fits_down}
 use Rattle.world_checks.proofs.Calls.{call_holds, holds_call, call_there}
 use Rattle.world_checks.proofs.piece_checks.fit.pieces_fit.Goals as goal
 

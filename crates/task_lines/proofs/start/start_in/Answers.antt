@@ -1,0 +1,7 @@
+use Rattle.std.proofs.Common.{sym, ◌∙◌}
+use Rattle.spec_world.specs.Checkpoint.{start_values}
+use Rattle.line_fields.proofs.Lists.{items_same}
+use Rattle.task_lines.proofs.start.start_in.Goals as goal
+
+pub returns-in-Some : goal.returns-in-Some
+returns-in-Some c = record { reads = λ s e. c.start_of.ensures.reads s (items_same c.in-Some.items.now (start_values s) (sym c.in-Some.ensures.reads ∙ e)) }

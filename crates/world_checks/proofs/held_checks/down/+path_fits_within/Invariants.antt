@@ -1,5 +1,0 @@
-use Rattle.std.proofs.Common.{length}
-use Rattle.world_checks.proofs.held_checks.down.+path_fits_within.Given as goal
-
-abbrev pub decreases-path_fits_within : goal.decreases-path_fits_within
-decreases-path_fits_within l = length l.path.now

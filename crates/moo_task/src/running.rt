@@ -99,6 +99,7 @@ impl Running {
     }
 
     /// An error of an expression that ends at a place: by the d bit it is raised, else its code is the value.
+    #[inline(never)]
     pub fn fails(
         &mut self,
         alloc: Global,
@@ -118,6 +119,7 @@ impl Running {
     }
 
     /// The same of an error with its own message and value.
+    #[inline(never)]
     pub fn complains(&mut self, end: usize, mut failure: Failure) -> Result<Outcome, AllocError>
         ensures led { IfOk result (λ o. (s : Scene) → fails_at self.old s end (failure_meant failure) ≡ led o s self.new) }
         ensures keeps { IfOk result (λ o. Keeps o self.old self.new) }

@@ -1,7 +1,7 @@
-use Rattle.std.proofs.Common.{◌≡◌, ◌∙◌, ap, sym, refl, ◌<◌, ◌∷◌, [], ℤ, w32, to_z, of_z, arith, rules}
+use Rattle.std.proofs.Common.{◌≡◌, ◌∙◌, ap, refl, ◌<◌, ◌∷◌, ℤ, w32, to_z, of_z, arith, rules}
 use Rattle.spec_world.specs.World.{Start}
 use Rattle.moo_code.specs.Machine.{verb, verbs}
-use Rattle.moo_task.specs.Frames.{kept_of, begun, native_of}
+use Rattle.moo_task.specs.Frames.{kept_of, begun}
 use Rattle.moo_task.specs.Outcomes.{native_between}
 use Rattle.moo_task.specs.declared.frame.Frame.{Frame}
 use Rattle.moo_task.proofs.Entering.{entered}

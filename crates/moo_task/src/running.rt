@@ -90,6 +90,7 @@ impl Running {
     }
 
     /// The verb goes on at a place with one more operand.
+    #[inline]
     pub fn goes(&mut self, end: usize, value: Value) -> Result<Outcome, AllocError>
         ensures led { IfOk result (λ o. (s : Scene) → goes_at self.old s end value ≡ led o s self.new) }
         ensures keeps { IfOk result (λ o. Keeps o self.old self.new) }
@@ -141,7 +142,7 @@ impl Running {
     }
 
     // The verb that runs waits for another one, which begins with these arguments.
-    #[inline]
+    #[inline(always)]
     fn wait_for(
         &mut self,
         alloc: Global,
@@ -164,7 +165,7 @@ impl Running {
     }
 
     /// A verb is entered with these arguments, where there is room for one more that waits.
-    #[inline]
+    #[inline(always)]
     pub fn enter_verb(
         &mut self,
         alloc: Global,
@@ -183,6 +184,7 @@ impl Running {
 
     /// A verb is entered with these arguments, or with a built-in function that waits for it between: `E_MAXREC` where too
     /// many verbs are under way. The call ends at a place.
+    #[inline(never)]
     pub fn enter(
         &mut self,
         alloc: Global,
@@ -244,6 +246,7 @@ impl Running {
     }
 
     // What a built-in function answers, whose value may not weigh too much.
+    #[inline]
     fn answers(&mut self, alloc: Global, end: usize, answer: Answer) -> Result<Outcome, AllocError>
         ensures led { IfOk result (λ o. (s : Scene) → native_answers_at self.old s end (answer_of answer) ≡ led o s self.new) }
         ensures keeps { IfOk result (λ o. Keeps o self.old self.new) }

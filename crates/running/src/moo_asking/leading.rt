@@ -12,13 +12,13 @@ use moo_task::moo_machine::leaving::Leaving;
 use moo_task::moo_machine::raising::raised;
 use moo_task::moo_machine::verb::Did;
 use moo_task::outcome::Outcome;
-use moo_task::running::Running;
+use moo_task::running::{MOST_WAITING, Running};
 use moo_value::error::MooError;
 use rules::inherit::verb::FoundVerb;
 use std::alloc::{AllocError, Global};
 
 /// Where what an instruction did leads the task.
-#[inline]
+#[inline(always)]
 pub fn led_by(alloc: Global, task: &Running, did: Did) -> Result<Outcome, AllocError>
     ensures { IfOk result (λ o. (s : Scene) → shown (around task.now s) task.now.frame.call did task.now.frame.state ≡ led o s task.now) }
 {
@@ -42,7 +42,7 @@ fn led_by_error(alloc: Global, task: &Running, error: MooError) -> Result<Outcom
 }
 
 /// Where a call of a verb leads the task: into the verb that was found, if one was.
-#[inline]
+#[inline(always)]
 pub fn led_by_call(alloc: Global, task: &mut Running, called: Called) -> Result<Outcome, AllocError>
     requires { HasList called }
     ensures led { IfOk result (λ o. (s : Scene) →
@@ -53,9 +53,13 @@ pub fn led_by_call(alloc: Global, task: &mut Running, called: Called) -> Result<
         Called::Went(did) => led_by(alloc, task, did),
         Called::Entered(call, found, arguments) => {
             let program = program_of(&found)?;
-            let end = task.frame.call_end()?;
-            let outcome = task.enter(alloc, None, end, call, program, arguments)?;
-            Ok(outcome)
+            if task.outer.verbs() >= MOST_WAITING {
+                let end = task.frame.call_end()?;
+                let outcome = task.enter(alloc, None, end, call, program, arguments)?;
+                return Ok(outcome);
+            }
+            task.enter_verb(alloc, call, program, arguments)?;
+            Ok(Outcome::On)
         }
     }
 }

@@ -34,7 +34,7 @@ pub enum Called {
 }
 
 /// A call of a verb on an object, by its word.
-#[inline]
+#[inline(always)]
 pub fn call_verb<V: View>(
     view: &mut V,
     call: &Call,
@@ -126,6 +126,7 @@ pub fn callee_above(call: &Call, found: &FoundVerb) -> Result<Call, AllocError>
 }
 
 // Arguments, if they are a list that weighs no more than a value may.
+#[inline(always)]
 fn weighed(arguments: Value) -> Result<Value, MooError>
     ensures weighs { (s : Scene) (f : Data → Effect) → with_arguments s f arguments ≡ weighed_effect s f result }
     ensures listed { IfOk result (λ v. v ≡ list (items_of v)) }
@@ -149,7 +150,7 @@ fn complains(call: &Call, state: &mut State, error: MooError) -> Result<Called, 
 }
 
 // A verb that was found on an object by a word is entered.
-#[inline]
+#[inline(always)]
 fn enters_on(
     call: &Call,
     state: &mut State,

@@ -159,7 +159,7 @@ fn raise_into(task: &mut Running, frame: Frame, failure: Failure) -> Result<Outc
 }
 
 /// A verb that waited runs again, with the ticks that are left.
-#[inline]
+#[inline(always)]
 pub fn resume(task: &mut Running, frame: Frame)
     ensures { task.new ≡ resumed task.old frame }
 {

@@ -1,10 +1,9 @@
 -- Variables that a program does not name agree where those agree that stand in one of two lists.
-use Rattle.std.proofs.Common.{◌≡◌, ◌∙◌, ap, sym, refl, ℕ, zero, suc, ◌+◌, ◌<◌, ◌⊎◌, inl, inr, Bool, true, false, cond, List, [], ◌∷◌, length, map, get_or, Option, Some, None, IsTrue, subst, arith}
+use Rattle.std.proofs.Common.{◌≡◌, ◌∙◌, ap, sym, refl, ℕ, zero, suc, ◌+◌, ◌<◌, ◌⊎◌, inl, inr, Bool, true, false, cond, List, [], ◌∷◌, length, map, get_or, Option, Some, None, subst, arith}
 use Rattle.std.specs.Prelude.{slice_get, ◌==◌}
 use Rattle.std.proofs.lemmas.Bool.{eqb-true, eqb-false}
 use Rattle.spec_value.specs.Datum.{Datum, Text, same_text}
 use Rattle.spec_value.specs.Table.{named}
-use Rattle.spec_world.specs.WellFormed.{has_name}
 use Rattle.spec_world.proofs.SlotTables.{sought, text_or_not}
 use Rattle.moo_task.specs.Variables.{variable_of}
 use Rattle.moo_task.specs.declared.variables.Variable.{Variable}

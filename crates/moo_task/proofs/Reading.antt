@@ -1,9 +1,9 @@
 -- Ways to leave a part, back from the values that held them.
-use Rattle.std.proofs.Common.{◌≡◌, ◌∙◌, ap, refl, sym, arith, ℕ, zero, suc, ◌<◌, ℤ, pos, negsuc, List, [], ◌∷◌, ◌++◌, length, take, get_or, Option, Some, None}
+use Rattle.std.proofs.Common.{◌≡◌, ◌∙◌, ap, refl, sym, arith, ℕ, zero, suc, ◌<◌, pos, negsuc, List, [], ◌∷◌, ◌++◌, length, take, get_or, Option, Some, None}
 use Rattle.std.specs.Prelude.{option_map}
 use Rattle.spec_value.specs.Datum.{Datum, integer, object, text, error, list, Data, no_data, item, of_list}
-use Rattle.spec_moo.specs.Leaving.{Traced, Leaving, broken, continued, onto_trace, read_traced, read_trace, read_loops, read_left}
-use Rattle.moo_task.specs.Meant.{left_of, read_count}
+use Rattle.spec_moo.specs.Leaving.{Traced, Leaving, onto_trace, read_traced, read_trace, read_loops}
+use Rattle.moo_task.specs.Meant.{read_count}
 
 -- ---- the verbs of a traceback
 

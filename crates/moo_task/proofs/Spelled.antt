@@ -1,7 +1,6 @@
 -- A verb as it is spelled in a line.
-use Rattle.std.proofs.Common.{◌≡◌, ◌++◌, ◌∙◌, ℤ, List, ℕ, codes, sym, ap, append_assoc, Result, Ok, Err}
+use Rattle.std.proofs.Common.{◌≡◌, ◌++◌, ◌∙◌, List, ℕ, codes, sym, ap, append_assoc, Result, Ok, Err}
 use Rattle.std.specs.Prelude.{IfOk}
-use Rattle.std.specs.Fmt.{signed_decimal}
 use Rattle.spec_value.specs.Datum.{object}
 use Rattle.spec_value.specs.Literal.{to_text}
 use Rattle.spec_moo.specs.Leaving.{Traced}

@@ -1,6 +1,6 @@
 -- The verbs of a traceback, as values.
 use Rattle.std.proofs.Common.{◌≡◌, List, [], ◌∷◌, ◌++◌, map, refl, ap}
-use Rattle.spec_value.specs.Datum.{Datum, item, of_list}
+use Rattle.spec_value.specs.Datum.{item, of_list}
 use Rattle.spec_moo.specs.Leaving.{Traced, traced_value, trace_values}
 
 pub values_of_trace : (ts : List Traced) → of_list (map traced_value ts) ≡ trace_values ts

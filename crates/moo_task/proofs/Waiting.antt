@@ -1,5 +1,5 @@
 -- What waits, as it is stored.
-use Rattle.std.proofs.Common.{◌≡◌, ◌∙◌, ap, sym, refl, ℕ, suc, ◌+◌, ◌<◌, ◌≤◌, ℤ, List, [], ◌∷◌, ◌++◌, length, map, reverse, take, get_or, append_assoc, arith}
+use Rattle.std.proofs.Common.{◌≡◌, ◌∙◌, ap, sym, refl, ℕ, ◌+◌, ◌<◌, ◌≤◌, ℤ, List, [], ◌∷◌, ◌++◌, length, map, reverse, take, get_or, append_assoc, arith}
 use Rattle.std.proofs.lemmas.List.{reverse-append, length-reverse, take_more}
 use Rattle.spec_moo.specs.Leaving.{Traced}
 use Rattle.spec_moo.specs.Pending.{outer_trace}

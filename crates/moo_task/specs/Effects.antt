@@ -1,5 +1,4 @@
 -- What the answers of built-in functions mean.
-use Rattle.std.specs.Prelude.{ℕ}
 use Rattle.spec_value.specs.Datum.{of_list}
 use Rattle.spec_world.specs.World as world
 use Rattle.spec_moo.specs.Scene.{Scene}

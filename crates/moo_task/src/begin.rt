@@ -57,28 +57,29 @@ fn starting_slots(
     ensures { IfOk result (λ slots. (args : Data) → arguments ≡ list args
         → slots.items ≡ starting_slots_of player call.now call.now.verb start.now args ++ replicate own None) }
 {
-    let mut slots = Vec::from_array(
-        alloc,
-        [
-            Some(arguments),
-            Some(Value::text(start.argstr.clone()?)),
-            Some(Value::object(call.caller)),
-            Some(Value::object(start.dobj)),
-            Some(Value::text(start.dobjstr.clone()?)),
-            Some(Value::integer(3)),
-            Some(Value::integer(0)),
-            Some(Value::object(start.iobj)),
-            Some(Value::text(start.iobjstr.clone()?)),
-            Some(Value::integer(4)),
-            Some(Value::integer(0)),
-            Some(Value::integer(1)),
-            Some(Value::object(player)),
-            Some(Value::text(start.prepstr.clone()?)),
-            Some(Value::integer(2)),
-            Some(Value::object(call.this)),
-            Some(Value::text(call.verb.clone()?)),
-        ],
-    )?;
+    let argstr = start.argstr.clone()?;
+    let dobjstr = start.dobjstr.clone()?;
+    let iobjstr = start.iobjstr.clone()?;
+    let prepstr = start.prepstr.clone()?;
+    let verb = call.verb.clone()?;
+    let mut slots = Vec::with_capacity(alloc, own.saturating_add(17))?;
+    slots.push_reserved(Some(arguments));
+    slots.push_reserved(Some(Value::text(argstr)));
+    slots.push_reserved(Some(Value::object(call.caller)));
+    slots.push_reserved(Some(Value::object(start.dobj)));
+    slots.push_reserved(Some(Value::text(dobjstr)));
+    slots.push_reserved(Some(Value::integer(3)));
+    slots.push_reserved(Some(Value::integer(0)));
+    slots.push_reserved(Some(Value::object(start.iobj)));
+    slots.push_reserved(Some(Value::text(iobjstr)));
+    slots.push_reserved(Some(Value::integer(4)));
+    slots.push_reserved(Some(Value::integer(0)));
+    slots.push_reserved(Some(Value::integer(1)));
+    slots.push_reserved(Some(Value::object(player)));
+    slots.push_reserved(Some(Value::text(prepstr)));
+    slots.push_reserved(Some(Value::integer(2)));
+    slots.push_reserved(Some(Value::object(call.this)));
+    slots.push_reserved(Some(Value::text(verb)));
     'own: for _name in 0..own {
         slots.push(None)?;
     }

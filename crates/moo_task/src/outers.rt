@@ -60,6 +60,7 @@ impl Outers {
     }
 
     /// One more verb waits.
+    #[inline(always)]
     pub fn push_verb(&mut self, frame: Frame) -> Result<(), AllocError>
         ensures ok { OnOk result (self.new ≡ verb (kept_of frame) ∷ self.old) }
         ensures err { OnErr result (self.new ≡ self.old) }
@@ -79,6 +80,7 @@ impl Outers {
     }
 
     /// The innermost that waits.
+    #[inline(always)]
     pub fn pop(&mut self) -> Option<Outer>
         ensures { MatchOption result ((self.old ≡ []) × (self.new ≡ [])) (λ o. self.old ≡ outer_of o ∷ self.new) }
     {

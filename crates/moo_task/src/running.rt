@@ -1,14 +1,15 @@
 //! A task under way.
-ghost use Rattle.std.specs.Prelude.{◌≡◌, ◌∷◌, [], suc, IfOk};
+ghost use Rattle.std.specs.Prelude.{◌≡◌, ◌<◌, ◌∷◌, [], ℕ, suc, IfOk, OnOk};
 ghost use Rattle.spec_value.specs.Datum.{Data, list};
 ghost use Rattle.spec_moo.specs.Scene.{Scene};
 ghost use Rattle.spec_moo.specs.Leaving.{failure};
 ghost use Rattle.moo_value.specs.Errors.{code_of};
 ghost use Rattle.moo_value.specs.Answers.{answer_of};
-ghost use Rattle.moo_code.specs.Machine.{at_place};
+ghost use Rattle.moo_code.specs.Machine.{at_place, verb, verbs as verbs_of};
 ghost use Rattle.moo_task.specs.Meant.{failure_meant};
 ghost use Rattle.moo_task.specs.Frames.{kept_of, begun};
 ghost use Rattle.moo_task.specs.Outcomes.{led, running_kept, ticks_of, Keeps};
+ghost use Rattle.moo_task.specs.declared.outcome.Outcome.{Outcome as Meant};
 ghost use Rattle.moo_task.specs.Outcomes.{goes_at, fails_at, native_between, enters_at, native_answers_at, natively_at};
 
 use crate::begin::begin;
@@ -89,6 +90,7 @@ impl Running {
     }
 
     /// The verb goes on at a place with one more operand.
+    #[inline]
     pub fn goes(&mut self, end: usize, value: Value) -> Result<Outcome, AllocError>
         ensures led { IfOk result (λ o. (s : Scene) → goes_at self.old s end value ≡ led o s self.new) }
         ensures keeps { IfOk result (λ o. Keeps o self.old self.new) }
@@ -99,6 +101,7 @@ impl Running {
     }
 
     /// An error of an expression that ends at a place: by the d bit it is raised, else its code is the value.
+    #[inline(never)]
     pub fn fails(
         &mut self,
         alloc: Global,
@@ -118,6 +121,7 @@ impl Running {
     }
 
     /// The same of an error with its own message and value.
+    #[inline(never)]
     pub fn complains(&mut self, end: usize, mut failure: Failure) -> Result<Outcome, AllocError>
         ensures led { IfOk result (λ o. (s : Scene) → fails_at self.old s end (failure_meant failure) ≡ led o s self.new) }
         ensures keeps { IfOk result (λ o. Keeps o self.old self.new) }
@@ -137,8 +141,50 @@ impl Running {
         Ok(Outcome::On)
     }
 
+    // The verb that runs waits for another one, which begins with these arguments.
+    #[inline(always)]
+    fn wait_for(
+        &mut self,
+        alloc: Global,
+        call: Call,
+        program: Program,
+        arguments: Value,
+    ) -> Result<(), AllocError>
+        ensures player { OnOk result (self.new.player ≡ self.old.player) }
+        ensures begins { OnOk result ((args : Data) → arguments ≡ list args
+            → kept_of self.new.frame ≡ begun self.old.player self.old.frame.start call program args) }
+        ensures waits { OnOk result (self.new.outer ≡ verb (kept_of self.old.frame) ∷ self.old.outer) }
+        ensures ticks { OnOk result (ticks_of self.new ≡ ticks_of self.old) }
+    {
+        let start = self.frame.start.clone()?;
+        let ticks = self.frame.state.ticks;
+        let called = begin(alloc, self.player, start, call, program, arguments, ticks)?;
+        let caller = mem::replace(&mut self.frame, called);
+        self.outer.push_verb(caller)?;
+        Ok(())
+    }
+
+    /// A verb is entered with these arguments, where there is room for one more that waits.
+    #[inline(always)]
+    pub fn enter_verb(
+        &mut self,
+        alloc: Global,
+        call: Call,
+        program: Program,
+        arguments: Value,
+    ) -> Result<(), AllocError>
+        requires { verbs_of self.old.outer < 49 }
+        ensures led { OnOk result ((s : Scene) (end : ℕ) (args : Data) → arguments ≡ list args
+            → enters_at self.old s [] end call program args ≡ led Meant.On s self.new) }
+        ensures player { OnOk result (self.new.player ≡ self.old.player) }
+    {
+        self.wait_for(alloc, call, program, arguments)?;
+        Ok(())
+    }
+
     /// A verb is entered with these arguments, or with a built-in function that waits for it between: `E_MAXREC` where too
     /// many verbs are under way. The call ends at a place.
+    #[inline(never)]
     pub fn enter(
         &mut self,
         alloc: Global,
@@ -155,11 +201,7 @@ impl Running {
         if self.outer.verbs() >= MOST_WAITING {
             return self.fails(alloc, end, MooError::TooManyCalls);
         }
-        let start = self.frame.start.clone()?;
-        let ticks = self.frame.state.ticks;
-        let called = begin(alloc, self.player, start, call, program, arguments, ticks)?;
-        let caller = mem::replace(&mut self.frame, called);
-        self.outer.push_verb(caller)?;
+        self.wait_for(alloc, call, program, arguments)?;
         match between {
             Some(native) => {
                 self.outer.push_native(native)?;
@@ -204,6 +246,7 @@ impl Running {
     }
 
     // What a built-in function answers, whose value may not weigh too much.
+    #[inline]
     fn answers(&mut self, alloc: Global, end: usize, answer: Answer) -> Result<Outcome, AllocError>
         ensures led { IfOk result (λ o. (s : Scene) → native_answers_at self.old s end (answer_of answer) ≡ led o s self.new) }
         ensures keeps { IfOk result (λ o. Keeps o self.old self.new) }

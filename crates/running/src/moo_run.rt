@@ -6,6 +6,7 @@ pub mod leaving;
 pub mod natives;
 mod onward;
 mod parts;
+mod returning;
 pub mod run;
 mod simple;
 pub mod step;

@@ -1,5 +1,5 @@
 //! The operands of a verb under way.
-ghost use Rattle.std.specs.Prelude.{◌≡◌, ◌<◌, ◌≤◌, ◌+◌, ◌^◌, [], ◌∷◌, length, drop, take, reverse, map, OnOk, OnErr, MatchOption, IfOk};
+ghost use Rattle.std.specs.Prelude.{◌≡◌, ◌<◌, ◌≤◌, ◌+◌, ◌^◌, [], ◌∷◌, length, drop, take, reverse, map, OnOk, OnErr, MatchOption, IfOk, vec_len, vec_capacity};
 ghost use Rattle.moo_value.specs.Answers.{answer_of};
 ghost use Rattle.spec_moo.specs.Effects.Lists.{first_held, length_in};
 ghost use Rattle.moo_code.specs.Performing.{onto, from_height};
@@ -44,15 +44,20 @@ impl Operands {
     }
 
     /// Puts a value on top.
+    #[inline(always)]
     pub fn push(&mut self, value: Value) -> Result<(), AllocError>
         ensures ok { OnOk result (self.new ≡ value ∷ self.old) }
         ensures err { OnErr result (self.new ≡ self.old) }
     {
-        self.values.push(value)?;
+        if self.values.len() == self.values.capacity() {
+            make_room(&mut self.values)?;
+        }
+        self.values.push_reserved(value);
         Ok(())
     }
 
     /// Takes the value on top.
+    #[inline(always)]
     pub fn pop(&mut self) -> Option<Value>
         ensures { MatchOption result ((self.old ≡ []) × (self.new ≡ [])) (λ x. self.old ≡ x ∷ self.new) }
     {
@@ -139,6 +144,17 @@ impl Operands {
         }
         Some(&self.values[whole - count..whole])
     }
+}
+
+// Room for some more.
+#[cold]
+#[inline(never)]
+fn make_room(values: &mut Vec<Value>) -> Result<(), AllocError>
+    ensures items { values.new.items ≡ values.old.items }
+    ensures room { OnOk result (vec_len values.new < vec_capacity values.new) }
+{
+    values.reserve(8)?;
+    Ok(())
 }
 
 // Codes that are known: all of them, or none yet.

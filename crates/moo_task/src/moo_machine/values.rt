@@ -21,6 +21,7 @@ use std::alloc::{AllocError, Global};
 #[tactic(auto, using(crate::proofs::Next::next_place), unfolding(moo_code::specs::Machine::does, moo_code::specs::Performing::performed))]
 impl State {
     /// Goes on with one more operand.
+    #[inline]
     pub fn goes_on(&mut self, value: Value) -> Result<Did, AllocError>
         requires { self.old.place + 1 < 2 ^ 64 }
         ensures { IfOk result (λ d. (a : Around) (c : CallOf) → answered_of a c (gives value) self.old ≡ shown a c d self.new) }
@@ -31,6 +32,7 @@ impl State {
     }
 
     /// Goes on with what an operation answered; without the d bit an error is a value.
+    #[inline]
     pub fn answers(&mut self, call: &Call, answer: Answer) -> Result<Did, AllocError>
         requires { self.old.place + 1 < 2 ^ 64 }
         ensures { IfOk result (λ d. (a : Around) → answered_of a call.now (answer_of answer) self.old ≡ shown a call.now d self.new) }

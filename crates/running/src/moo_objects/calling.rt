@@ -1,6 +1,6 @@
 //! Calls of verbs (Programmer's Manual, "Calling Built-in Functions and Other Verbs").
 ghost use Rattle.std.specs.Prelude.{◌≡◌, ◌<◌, ◌+◌, ◌^◌, true, codes, IfOk, OnOk};
-ghost use Rattle.spec_value.specs.Datum.{list, Data, Text as TextOf, same_text};
+ghost use Rattle.spec_value.specs.Datum.{list, text as text_of, Data, Text as TextOf, same_text};
 ghost use Rattle.spec_moo.specs.Scene.{Scene};
 ghost use Rattle.spec_moo.specs.Calling.{verb_call};
 ghost use Rattle.spec_moo.specs.Effect.{Effect, erring};
@@ -21,7 +21,7 @@ use moo_value::text::Text;
 use moo_value::value::{Shown, Value};
 use rules::access::calling::{called_verb, passed_verb};
 use rules::inherit::verb::FoundVerb;
-use std::alloc::{AllocError, Global};
+use std::alloc::AllocError;
 use view::law::View;
 
 /// What a call of a verb did.
@@ -34,8 +34,8 @@ pub enum Called {
 }
 
 /// A call of a verb on an object, by its word.
+#[inline(always)]
 pub fn call_verb<V: View>(
-    alloc: Global,
     view: &mut V,
     call: &Call,
     state: &mut State,
@@ -67,7 +67,7 @@ pub fn call_verb<V: View>(
     };
     let found = called_verb(view, &object, &word)?;
     match found {
-        Ok(found) => enters_on(alloc, call, state, &object, &word, found, arguments),
+        Ok(found) => enters_on(call, state, &object, &word, found, arguments),
         Err(error) => complains(call, state, error),
     }
 }
@@ -126,6 +126,7 @@ pub fn callee_above(call: &Call, found: &FoundVerb) -> Result<Call, AllocError>
 }
 
 // Arguments, if they are a list that weighs no more than a value may.
+#[inline(always)]
 fn weighed(arguments: Value) -> Result<Value, MooError>
     ensures weighs { (s : Scene) (f : Data → Effect) → with_arguments s f arguments ≡ weighed_effect s f result }
     ensures listed { IfOk result (λ v. v ≡ list (items_of v)) }
@@ -137,6 +138,8 @@ fn weighed(arguments: Value) -> Result<Value, MooError>
 }
 
 // An error of the call itself.
+#[cold]
+#[inline(never)]
 fn complains(call: &Call, state: &mut State, error: MooError) -> Result<Called, AllocError>
     requires { state.old.place + 1 < 2 ^ 64 }
     ensures left { IfOk result (λ d. (a : Around) → effect_of a call.now (erring (here a state.old) (code_of error)) state.old ≡ shown_called a call.now d state.new) }
@@ -147,8 +150,8 @@ fn complains(call: &Call, state: &mut State, error: MooError) -> Result<Called, 
 }
 
 // A verb that was found on an object by a word is entered.
+#[inline(always)]
 fn enters_on(
-    alloc: Global,
     call: &Call,
     state: &mut State,
     object: &Value,
@@ -165,12 +168,22 @@ fn enters_on(
 {
     word.know();
     match (object.shown(), word.shown()) {
-        (Shown::Object(object), Shown::Text(word)) => {
-            let word = Text::from_str(alloc, word)?;
+        (Shown::Object(object), Shown::Text(_)) => {
+            let word = word_of(word)?;
             let entered = callee(call, object, word, &found);
             Ok(Called::Entered(entered, found, arguments))
         }
         _ => complains(call, state, MooError::TypeMismatch),
+    }
+}
+
+// The word of a call, shared with the value that is a text.
+fn word_of(word: &Value) -> Result<Text, AllocError>
+    ensures { IfOk result (λ t. word.now ≡ text_of t) }
+{
+    match word.as_text() {
+        Some(text) => text.clone(),
+        None => Err(AllocError),
     }
 }
 

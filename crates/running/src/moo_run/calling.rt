@@ -1,6 +1,6 @@
 //! Calls of functions.
 ghost use Rattle.std.specs.Prelude.{◌≡◌, ◌<◌, ◌+◌, ◌^◌, false, codes, IfOk, OnOk};
-ghost use Rattle.spec_value.specs.Datum.{Data, list, to_list, same_text};
+ghost use Rattle.spec_value.specs.Datum.{Data, list, same_text};
 ghost use Rattle.rules.specs.Lines.{AreAgreeing};
 ghost use Rattle.view.specs.Law.{Goes, Lasts};
 ghost use Rattle.moo_task.specs.Outcomes.{Keeps};
@@ -14,7 +14,6 @@ use moo_task::outcome::Outcome;
 use moo_task::running::Running;
 use moo_value::answer::WEIGHT_LIMIT;
 use moo_value::error::MooError;
-use moo_value::items::copied;
 use moo_value::text::Text;
 use moo_value::value::{Shown, Value};
 use std::alloc::{AllocError, Global};
@@ -116,18 +115,8 @@ fn call_native<V: View, N: Natives>(
     ensures keeps { IfOk result (λ o. Keeps o task.old task.new) }
     ensures well_formed { OnOk result (AreAgreeing V.holds V.now view.new) }
 {
-    let items = items_of(alloc, arguments)?;
+    let items = arguments.into_items(alloc)?;
     let effect = natives.call(alloc, view, deeds, task, name, items)?;
     let outcome = task.natively(alloc, end, effect)?;
     Ok(outcome)
-}
-
-// The items of a list; of another value there are none.
-fn items_of(alloc: Global, arguments: Value) -> Result<Vec<Value>, AllocError>
-    ensures { IfOk result (λ items. (args : Data) → arguments ≡ list args → items.items ≡ to_list args) }
-{
-    match arguments.shown() {
-        Shown::List(items) => copied(alloc, items),
-        _ => Ok(Vec::new(alloc)),
-    }
 }

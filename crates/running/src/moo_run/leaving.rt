@@ -158,8 +158,9 @@ fn raise_into(task: &mut Running, frame: Frame, failure: Failure) -> Result<Outc
     Ok(Outcome::Leaves(Leaving::Failed(failure)))
 }
 
-// A verb that waited runs again, with the ticks that are left.
-fn resume(task: &mut Running, frame: Frame)
+/// A verb that waited runs again, with the ticks that are left.
+#[inline(always)]
+pub fn resume(task: &mut Running, frame: Frame)
     ensures { task.new ≡ resumed task.old frame }
 {
     let ticks = task.frame.state.ticks;

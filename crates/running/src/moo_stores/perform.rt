@@ -57,6 +57,7 @@ pub fn assignment(
 }
 
 // `$` of a variable or of a part of one.
+#[inline(never)]
 fn length_of_target(
     alloc: Global,
     state: &mut State,

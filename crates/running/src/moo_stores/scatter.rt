@@ -37,6 +37,7 @@ fn part_or_end(parts: &[Part], number: usize, end: usize, behind: usize) -> usiz
 }
 
 /// The list on top, which stays, is scattered among variables; then comes the default of the first item that wants it, or the end.
+#[inline(never)]
 pub fn scatter(
     alloc: Global,
     state: &mut State,
@@ -78,6 +79,7 @@ pub fn scatter(
 }
 
 /// After the default of the item with a number, or at the beginning of them: then comes the next one that is wanted, or the end.
+#[inline(never)]
 pub fn scatter_on(
     alloc: Global,
     state: &mut State,

@@ -1,4 +1,4 @@
-use Rattle.std.proofs.Common.{List, ◌∷◌, [], ◌++◌, ◌∙◌, ap}
+use Rattle.std.proofs.Common.{◌∷◌, [], ◌++◌, ◌∙◌, ap}
 use Rattle.spec_value.specs.Datum.{Text}
 use Rattle.moo_task.proofs.Callers.{one_caller}
 use Rattle.moo_task.proofs.task_telling.lines.push_callers.Goals as goal

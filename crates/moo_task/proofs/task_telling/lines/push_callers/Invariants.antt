@@ -1,4 +1,4 @@
-use Rattle.std.proofs.Common.{◌≡◌, ◌++◌, drop, []}
+use Rattle.std.proofs.Common.{◌≡◌, ◌++◌, drop}
 use Rattle.spec_moo.specs.Telling.{called_from}
 use Rattle.moo_task.proofs.task_telling.lines.push_callers.Given as goal
 

@@ -1,4 +1,3 @@
-use Rattle.std.proofs.Common.{List, ◌∙◌, ap, sym}
 use Rattle.moo_task.proofs.Callers.{told_whole, told_none}
 use Rattle.moo_task.proofs.task_telling.lines.traceback.Goals.{in-Some+in_ok-line+in_ok-push+in_ok-push_callers, in_default}
 use Rattle.moo_task.proofs.task_telling.lines.traceback.Goals as goal

@@ -1,4 +1,4 @@
-use Rattle.std.proofs.Common.{◌≡◌, ◌∙◌, ◌-◌, ap, sym, arith, suc, ◌∷◌, length}
+use Rattle.std.proofs.Common.{◌≡◌, ◌∙◌, ap, sym, arith, suc, ◌∷◌, length}
 use Rattle.spec_value.specs.Datum.{list, of_list, joined, type_mismatch}
 use Rattle.moo_value.specs.Parts.{list_with_part}
 use Rattle.moo_program.specs.Drafting.{unraised_of}

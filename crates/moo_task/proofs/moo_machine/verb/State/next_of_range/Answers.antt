@@ -1,6 +1,5 @@
 use Rattle.std.proofs.Common.{◌≡◌, ◌∙◌, ap, sym, refl, suc, [], ◌∷◌, true}
-use Rattle.spec_value.specs.Datum.{list, of_list}
-use Rattle.spec_moo.specs.Effects.Loops.{list_turn, are_bounds}
+use Rattle.spec_moo.specs.Effects.Loops.{are_bounds}
 use Rattle.moo_code.specs.Machine.{place_for}
 use Rattle.moo_task.specs.Turns.{turn_of}
 use Rattle.moo_task.proofs.Next.{next_place}

@@ -1,4 +1,4 @@
-use Rattle.std.proofs.Common.{◌≡◌, ◌∙◌, ◌-◌, ap, sym, arith, suc, ◌∷◌, length}
+use Rattle.std.proofs.Common.{◌≡◌, ◌∙◌, ap, sym, arith, suc, ◌∷◌, length}
 use Rattle.spec_value.specs.Datum.{type_mismatch}
 use Rattle.moo_program.specs.Drafting.{unraised_of}
 use Rattle.moo_task.specs.Shown.{fails_of}

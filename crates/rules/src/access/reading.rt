@@ -35,11 +35,9 @@ pub fn read_property<V: View>(
     ensures left { IfOk result (λ a. Tells V.holds V.now view.old view.new (λ w. read w programmer object.now name.now ≡ answer_of a)) }
     ensures sound { OnOk result (StaysSound V.home V.now view.old view.new) }
 {
-    name.know();
-    match (object.shown(), name.shown()) {
-        (Shown::Object(object), Shown::Text(name)) => {
-            let name = Text::from_str(alloc, name)?;
-            read_by_name(alloc, view, programmer, object, &name)
+    match (object.shown(), name.as_text()) {
+        (Shown::Object(object), Some(name)) => {
+            read_by_name(alloc, view, programmer, object, name)
         }
         _ => Ok(Err(MooError::TypeMismatch)),
     }

@@ -40,11 +40,9 @@ pub fn write_property<V: View>(
         (λ before after. IsWritten before after (write before programmer object.now name.now value) a)) }
     ensures well_formed { AreAgreeing V.holds V.now view.old → OnOk result (AreAgreeing V.holds V.now view.new) }
 {
-    name.know();
-    match (object.shown(), name.shown()) {
-        (Shown::Object(object), Shown::Text(name)) => {
-            let name = Text::from_str(alloc, name)?;
-            write_by_name(alloc, view, programmer, object, &name, value)
+    match (object.shown(), name.as_text()) {
+        (Shown::Object(object), Some(name)) => {
+            write_by_name(alloc, view, programmer, object, name, value)
         }
         _ => Ok(Err(MooError::TypeMismatch)),
     }
@@ -211,13 +209,12 @@ fn with_attribute(
 fn with_name(alloc: Global, header: Header, value: &Value) -> Result<Option<Header>, AllocError>
     ensures { IfOk result (λ h. (x : Object) → x.header ≡ header → with_built_in x own_name value.now ≡ option_map (λ k. record x { header = k }) h) }
 {
-    value.know();
-    match value.shown() {
-        Shown::Text(name) => Ok(Some(Header {
-            name: Text::from_str(alloc, name)?,
+    match value.as_text() {
+        Some(name) => Ok(Some(Header {
+            name: name.clone()?,
             ..header
         })),
-        _ => Ok(None),
+        None => Ok(None),
     }
 }
 

@@ -91,6 +91,7 @@ fn read_own<V: View>(
 }
 
 /// Why there is no slot of a name: the object is not there, or has no such property.
+#[inline(never)]
 pub(crate) fn missing<V: View>(view: &mut V, object: i32) -> Result<MooError, AllocError>
     ensures lasts { Lasts V.holds V.home V.anchor view.old view.new result }
     ensures left { IfOk result (λ e. Tells V.holds V.now view.old view.new (λ w. missing_error (object_at w object) ≡ code_of e)) }

@@ -93,6 +93,7 @@ fn write_own<V: View>(
 
 // Of a built-in one. Nobody writes where an object is and what it holds.
 #[tactic(auto, unfolding(spec_world::specs::Permissions::may))]
+#[inline(never)]
 fn write_built_in<V: View>(
     alloc: Global,
     view: &mut V,
@@ -209,12 +210,13 @@ fn with_attribute(
 fn with_name(alloc: Global, header: Header, value: &Value) -> Result<Option<Header>, AllocError>
     ensures { IfOk result (λ h. (x : Object) → x.header ≡ header → with_built_in x own_name value.now ≡ option_map (λ k. record x { header = k }) h) }
 {
-    match value.as_text() {
-        Some(name) => Ok(Some(Header {
-            name: name.clone()?,
+    value.know();
+    match value.shown() {
+        Shown::Text(name) => Ok(Some(Header {
+            name: Text::from_str(alloc, name)?,
             ..header
         })),
-        None => Ok(None),
+        _ => Ok(None),
     }
 }
 

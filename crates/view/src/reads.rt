@@ -54,6 +54,15 @@ impl Reads {
         self.items.as_slice()
     }
 
+    /// Makes room for so many reads more, so that the next ones take no memory.
+    #[inline(never)]
+    pub fn reserve(&mut self, more: usize) -> Result<(), AllocError>
+        ensures { self.new ≡ self.old }
+    {
+        self.items.reserve(more)?;
+        Ok(())
+    }
+
     /// One more read.
     pub fn push(&mut self, question: Question, answer: Answer) -> Result<(), AllocError>
         ensures ok { OnOk result (self.new ≡ self.old ++ record { question = question_of question; answer = answer_of answer } ∷ []) }

@@ -9,8 +9,11 @@ use std::marker::Model;
 use view::question::{Answer, Question};
 use view::reads::{Read, Reads};
 
+// As long as there are so many reads at most, their marks alone are looked at.
+const FEW: usize = 12;
+
 // How many places there are at first.
-const FIRST: usize = 32;
+const FIRST: usize = 64;
 
 // How many places a question may have.
 const TRIES: usize = 4;
@@ -18,11 +21,14 @@ const TRIES: usize = 4;
 // No read has this index.
 const VACANT: usize = usize::MAX;
 
-/// What was read. A question that was asked before is mostly found again: a place names a read that may be the one of a question, and its
-/// question is compared.
+/// What was read. A question that was asked before is mostly found again: by the marks of a few reads, and of many by a place that names a read
+/// which may be the one of the question. Its question is compared.
 #[derive(Drop)]
 pub(crate) struct Asked {
     reads: Reads,
+    // the marks of the first reads
+    marks: [u32; FEW],
+    // the places of all reads, once they are more
     places: Vec<usize>,
     alloc: Global,
 }
@@ -47,6 +53,7 @@ impl Asked {
     {
         Asked {
             reads: Reads::new(alloc),
+            marks: [0; FEW],
             places: Vec::new(alloc),
             alloc,
         }
@@ -58,6 +65,7 @@ impl Asked {
     {
         let Asked {
             reads,
+            marks: _,
             places: _,
             alloc: _,
         } = self;
@@ -65,7 +73,37 @@ impl Asked {
     }
 
     /// The answer that a question of this mark had, if it is found among those that were asked. It takes no memory.
+    #[inline(always)]
     pub(crate) fn find(&self, mark: u64, question: &Question) -> Option<&Answer>
+        ensures { IfSome result (λ a. Contains self.now record { question = question_of question.now; answer = answer_of a.now }) }
+    {
+        if self.reads.as_slice().len() > FEW {
+            return self.find_by_place(mark, question);
+        }
+        self.find_by_mark(mark, question)
+    }
+
+    // The same where there are few reads: the last one first.
+    #[inline(always)]
+    fn find_by_mark(&self, mark: u64, question: &Question) -> Option<&Answer>
+        ensures { IfSome result (λ a. Contains self.now record { question = question_of question.now; answer = answer_of a.now }) }
+    {
+        let short = short_of(mark);
+        let mut index = self.reads.as_slice().len().min(FEW);
+        while index > 0 {
+            index -= 1;
+            if self.marks[index] == short
+                && let Some(answer) = answer_at(self.reads.as_slice(), index, question)
+            {
+                return Some(answer);
+            }
+        }
+        None
+    }
+
+    // The same where there are many.
+    #[inline(never)]
+    fn find_by_place(&self, mark: u64, question: &Question) -> Option<&Answer>
         ensures { IfSome result (λ a. Contains self.now record { question = question_of question.now; answer = answer_of a.now }) }
     {
         for step in 0..TRIES {
@@ -101,6 +139,14 @@ impl Asked {
         ensures err { OnErr result (self.new ≡ self.old) }
     {
         let index = self.reads.as_slice().len();
+        if index == 0 {
+            self.reads.reserve(FEW)?;
+        }
+        if index < FEW {
+            self.reads.push(question, answer)?;
+            self.marks[index] = short_of(mark);
+            return Ok(());
+        }
         if index >= self.places.len() / 2 {
             self.grow()?;
         }
@@ -137,6 +183,12 @@ fn answer_at<'r>(reads: &'r [Read], index: usize, question: &Question) -> Option
     } else {
         None
     }
+}
+
+// The upper half of a mark, which depends on all that it was made of.
+#[inline(always)]
+fn short_of(mark: u64) -> u32 {
+    (mark >> 32) as u32
 }
 
 // The place of a mark at a try, where the count of places is a power of two.

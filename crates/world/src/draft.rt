@@ -488,6 +488,10 @@ impl Draft {
     {
         match change {
             Change::Value(number, name, value) => self.put_value(*number, name, value),
+            Change::Next(next) => {
+                self.raise(*next);
+                Ok(())
+            }
             _ => self.put_copy(change),
         }
     }

@@ -1,5 +1,5 @@
 //! A view of a snapshot that keeps what was read.
-ghost use Rattle.std.specs.Prelude.{◌≡◌, ◌++◌, ◌∷◌, [], ℕ, false, None, IfOk, OnOk, OnErr};
+ghost use Rattle.std.specs.Prelude.{◌≡◌, ◌++◌, ◌∷◌, [], ℕ, false, None, Some, IfOk, OnOk, OnErr};
 ghost use Rattle.std.specs.Option.{unwrap_or};
 ghost use Rattle.spec_world.specs.World.{World as Plain};
 ghost use Rattle.spec_world.specs.Questions.{ask, apply, apply_all, Agrees};
@@ -84,6 +84,7 @@ impl<'s> Tracked<'s> {
     }
 
     // The answer now to a question, to which the snapshot has this answer.
+    #[inline(always)]
     fn answer(&self, question: &Question, home: &Answer) -> Result<Answer, AllocError>
         requires { answer_of home.now ≡ ask self.now.home (question_of question.now) }
         ensures { IfOk result (λ a. answer_of a ≡ ask (apply_all self.now.changes self.now.home) (question_of question.now)) }
@@ -171,21 +172,20 @@ fn put_on(snapshot: &Snapshot, fork: &mut Option<Draft>, change: &Change) -> Res
 {
     match fork {
         Some(draft) => draft.put_kept(change),
-        None => {
-            *fork = Some(begun(snapshot, change)?);
-            Ok(())
-        }
+        None => begin(snapshot, fork, change),
     }
 }
 
-// A snapshot's records with a first change.
+// A first change, of a fork that is begun by it.
 #[inline(never)]
-fn begun(snapshot: &Snapshot, change: &Change) -> Result<Draft, AllocError>
-    ensures { IfOk result (λ d. d ≡ apply (change_of change.now) snapshot.now) }
+fn begin(snapshot: &Snapshot, fork: &mut Option<Draft>, change: &Change) -> Result<(), AllocError>
+    ensures ok { OnOk result (fork.new ≡ Some (apply (change_of change.now) snapshot.now)) }
+    ensures err { OnErr result (fork.new ≡ fork.old) }
 {
     let mut draft = snapshot.share()?;
     draft.put_kept(change)?;
-    Ok(draft)
+    *fork = Some(draft);
+    Ok(())
 }
 
 // No change is made, and none is to be.

@@ -78,15 +78,17 @@ impl<R> Place<R> {
     pub fn get(&self, key: u64) -> Option<&Arc<R>>
         ensures { option_map (λ r. arc_value r.now) result ≡ find nat_cmp (key % reach self.now.height) self.now.entries }
     {
-        match &self.held {
-            Held::Nothing => None,
-            Held::Record(value) => Some(value),
-            Held::Block(below, places) => {
-                let at = index_of(key, *below);
-                if at < places.len() {
-                    places[at].get(key)
-                } else {
-                    None
+        let mut place = self;
+        loop {
+            match &place.held {
+                Held::Nothing => return None,
+                Held::Record(value) => return Some(value),
+                Held::Block(below, places) => {
+                    let at = index_of(key, *below);
+                    if at >= places.len() {
+                        return None;
+                    }
+                    place = &places[at];
                 }
             }
         }

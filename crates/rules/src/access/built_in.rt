@@ -88,6 +88,7 @@ fn named_in(rows: &[(&str, BuiltIn)], name: &str) -> Option<BuiltIn>
 }
 
 /// The value of a built-in property of an object, which all may read. `E_INVIND` where the object is not there.
+#[inline(never)]
 pub fn read_built_in<V: View>(
     alloc: Global,
     view: &mut V,

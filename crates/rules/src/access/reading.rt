@@ -35,11 +35,9 @@ pub fn read_property<V: View>(
     ensures left { IfOk result (λ a. Tells V.holds V.now view.old view.new (λ w. read w programmer object.now name.now ≡ answer_of a)) }
     ensures sound { OnOk result (StaysSound V.home V.now view.old view.new) }
 {
-    name.know();
-    match (object.shown(), name.shown()) {
-        (Shown::Object(object), Shown::Text(name)) => {
-            let name = Text::from_str(alloc, name)?;
-            read_by_name(alloc, view, programmer, object, &name)
+    match (object.shown(), name.as_text()) {
+        (Shown::Object(object), Some(name)) => {
+            read_by_name(alloc, view, programmer, object, name)
         }
         _ => Ok(Err(MooError::TypeMismatch)),
     }
@@ -93,6 +91,7 @@ fn read_own<V: View>(
 }
 
 /// Why there is no slot of a name: the object is not there, or has no such property.
+#[inline(never)]
 pub(crate) fn missing<V: View>(view: &mut V, object: i32) -> Result<MooError, AllocError>
     ensures lasts { Lasts V.holds V.home V.anchor view.old view.new result }
     ensures left { IfOk result (λ e. Tells V.holds V.now view.old view.new (λ w. missing_error (object_at w object) ≡ code_of e)) }

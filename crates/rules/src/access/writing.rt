@@ -40,11 +40,9 @@ pub fn write_property<V: View>(
         (λ before after. IsWritten before after (write before programmer object.now name.now value) a)) }
     ensures well_formed { AreAgreeing V.holds V.now view.old → OnOk result (AreAgreeing V.holds V.now view.new) }
 {
-    name.know();
-    match (object.shown(), name.shown()) {
-        (Shown::Object(object), Shown::Text(name)) => {
-            let name = Text::from_str(alloc, name)?;
-            write_by_name(alloc, view, programmer, object, &name, value)
+    match (object.shown(), name.as_text()) {
+        (Shown::Object(object), Some(name)) => {
+            write_by_name(alloc, view, programmer, object, name, value)
         }
         _ => Ok(Err(MooError::TypeMismatch)),
     }
@@ -95,6 +93,7 @@ fn write_own<V: View>(
 
 // Of a built-in one. Nobody writes where an object is and what it holds.
 #[tactic(auto, unfolding(spec_world::specs::Permissions::may))]
+#[inline(never)]
 fn write_built_in<V: View>(
     alloc: Global,
     view: &mut V,

@@ -30,6 +30,7 @@ pub fn find_property<V: View>(
 }
 
 /// The value of a property whose slot on the object is known.
+#[inline(always)]
 pub fn value_of<V: View>(
     view: &mut V,
     object: i32,
@@ -49,6 +50,7 @@ pub fn value_of<V: View>(
 }
 
 // The value that the ancestors above an object give.
+#[inline(never)]
 fn inherited<V: View>(view: &mut V, object: i32, name: &Text) -> Result<Option<Value>, AllocError>
     requires home { V.holds view.old (V.home view.old) }
     requires well_formed { AreAgreeing V.holds V.now view.old }

@@ -51,6 +51,7 @@ pub fn owns_or_is_wizard<V: View>(
 }
 
 /// Whether an object is there and has the flag of a wizard.
+#[inline(never)]
 pub fn is_wizard<V: View>(view: &mut V, object: i32) -> Result<bool, AllocError>
     ensures lasts { Lasts V.holds V.home V.anchor view.old view.new result }
     ensures left { IfOk result (λ b. Tells V.holds V.now view.old view.new (λ w. is_wizard_of w object ≡ b)) }

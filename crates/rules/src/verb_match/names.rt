@@ -1,5 +1,6 @@
 //! Which words the names of a verb spell, in time linear in both (Programmer's Manual, "Verbs on Objects": names with stars).
-ghost use Rattle.std.specs.Prelude.{◌≡◌, ◌<◌, ◌≤◌, ◌+◌, take, drop, length, true, MatchOption, Some, None};
+ghost use Rattle.std.specs.Prelude.{◌≡◌, ◌↔◌, ◌<◌, ◌≤◌, ◌+◌, take, drop, length, true, IsTrue, MatchOption, Some, None};
+ghost use Rattle.std.specs.Char.{to_ascii_lowercase};
 ghost use Rattle.spec_value.specs.Datum.{fold_case, same_text};
 ghost use Rattle.spec_value.specs.TextSearch.{begins};
 ghost use Rattle.spec_world.specs.VerbNames.{any_spells, spells as spells_of, spelled, before_star, after_star, cut_at_spaces, names_in};
@@ -99,9 +100,17 @@ pub fn begins_with(text: &[u8], front: &[u8]) -> bool
         if index >= text.len() {
             return false;
         }
-        if text[index].to_ascii_lowercase() != byte.to_ascii_lowercase() {
+        if !is_same_letter(text[index], *byte) {
             return false;
         }
     }
     true
+}
+
+// Whether two characters are the same. Case is ignored, and mostly it is the same.
+#[inline(always)]
+fn is_same_letter(a: u8, b: u8) -> bool
+    ensures { IsTrue result ↔ to_ascii_lowercase a ≡ to_ascii_lowercase b }
+{
+    a == b || a.to_ascii_lowercase() == b.to_ascii_lowercase()
 }

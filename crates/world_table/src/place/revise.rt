@@ -38,6 +38,7 @@ impl<R: Drop> Place<R> {
 }
 
 // Changes a record that has no other owner.
+#[inline(never)]
 fn revise_own<R: Drop, E: Revision<R>>(found: &mut Arc<R>, revision: &E) -> Result<bool, AllocError>
     ensures done { IfOk result (λ b. b ≡ true → E.makes revision.now (arc_value found.old) (arc_value found.new)) }
     ensures left { IfOk result (λ b. b ≡ false → arc_value found.new ≡ arc_value found.old) }

@@ -1,4 +1,4 @@
-use Rattle.std.proofs.Common.{◌≡◌, ap, ◌∙◌, rules, w32, to_z, of_z}
+use Rattle.std.proofs.Common.{◌≡◌, sym, ap, ◌∙◌, rules, w32, to_z, of_z}
 use Rattle.std.proofs.lemmas.Int.{to_z-of_z}
 use Rattle.spec_value.specs.Datum.{Text, text}
 use Rattle.spec_world.specs.World.{object_at}
@@ -10,22 +10,22 @@ use Rattle.rules.proofs.WriteRules.{write_as, written_as}
 use Rattle.rules.proofs.WritesKeep.{written_known}
 use Rattle.rules.proofs.access.writing.write_property.Goals as goal
 
-pub returns-in_ok-name-in-Object-Text-clause-left : goal.returns-in_ok-name-in-Object-Text-clause-left
-returns-in_ok-name-in-Object-Text-clause-left g c =
+pub returns-in-Object-Some-clause-left : goal.returns-in-Object-Some-clause-left
+returns-in-Object-Some-clause-left g c =
     let programmer = to_z-of_z w32 c.args.programmer c.ranges.programmer in
-    let at : to_z w32 (of_z w32 c.in-Object-Text.object) ≡ c.in-Object-Text.object = search rules in
-    let name : text c.in_ok-name-in-Object-Text.name ≡ c.args.name.now = ap (λ (t : Text). text t) c.in_ok-name-in-Object-Text.ensures ∙ c.in-Object-Text.ensures' in
+    let at : to_z w32 (of_z w32 c.in-Object-Some.object) ≡ c.in-Object-Some.object = search rules in
+    let name : text c.in-Object-Some.name.now ≡ c.args.name.now = sym c.in-Object-Some.ensures'.some in
     if_ok_as
     (λ a. Goes g.V.View.holds g.V.View.now c.args.view.now c.write_by_name.new.view
-    (λ before after. IsWritten before after (write_object before c.args.programmer c.in-Object-Text.object c.in_ok-name-in-Object-Text.name c.args.value (object_at before c.in-Object-Text.object)) a))
+    (λ before after. IsWritten before after (write_object before c.args.programmer c.in-Object-Some.object c.in-Object-Some.name.now c.args.value (object_at before c.in-Object-Some.object)) a))
     (λ a. Goes g.V.View.holds g.V.View.now c.args.view.now c.write_by_name.new.view (λ before after. IsWritten before after (write before c.args.programmer c.args.object.now c.args.name.now c.args.value) a))
     (λ a. written_as g.V.View.holds g.V.View.now c.args.view.now c.write_by_name.new.view
-    (λ w. write_object w c.args.programmer c.in-Object-Text.object c.in_ok-name-in-Object-Text.name c.args.value (object_at w c.in-Object-Text.object))
+    (λ w. write_object w c.args.programmer c.in-Object-Some.object c.in-Object-Some.name.now c.args.value (object_at w c.in-Object-Some.object))
     (λ w. write w c.args.programmer c.args.object.now c.args.name.now c.args.value)
-    (λ w. write_as w c.args.programmer c.in-Object-Text.object c.in_ok-name-in-Object-Text.name c.args.value c.args.object.now c.args.name.now c.in-Object-Text.ensures name) a)
+    (λ w. write_as w c.args.programmer c.in-Object-Some.object c.in-Object-Some.name.now c.args.value c.args.object.now c.args.name.now c.in-Object-Some.ensures name) a)
     c.write_by_name.result (rw (programmer, at) at c.write_by_name.ensures.left)
 
-pub returns-in_ok-name-in-Object-Text-clause-well_formed : goal.returns-in_ok-name-in-Object-Text-clause-well_formed
-returns-in_ok-name-in-Object-Text-clause-well_formed g c =
+pub returns-in-Object-Some-clause-well_formed : goal.returns-in-Object-Some-clause-well_formed
+returns-in-Object-Some-clause-well_formed g c =
     written_known g.V.View.holds g.V.View.now c.args.view.now c.write_by_name.new.view c.args.programmer c.args.object.now c.args.name.now c.args.value c.write_by_name.result
-    (returns-in_ok-name-in-Object-Text-clause-left g c)
+    (returns-in-Object-Some-clause-left g c)

@@ -117,6 +117,7 @@ fn command<V: View>(view: &mut V, player: i32, said: Said) -> Result<Command, Al
 }
 
 // A call of the room's `huh`, if it has one.
+#[inline(never)]
 fn huh<V: View>(view: &mut V, player: i32, said: Said) -> Result<Command, AllocError>
     requires home { V.holds view.old (V.home view.old) }
     requires well_formed { AreAgreeing V.holds V.now view.old }

@@ -69,6 +69,6 @@ no_parts line (w ∷ ws) h = absurd (omega arith)
 pub some_parts : (line : Text) (ws : List Text) (v : Text) (rest : List Text) → ws ≡ v ∷ rest → parts_of_words line ws ≡ Some (parts_at v rest (after_first line) (find_preposition rest))
 some_parts line ws v rest h = ap (parts_of_words line) h
 
-pub parts_are : (line e : Text) (ws : List Text) → e ≡ expanded line → ws ≡ words e → line_parts line ≡ parts_of_words e ws
+pub parts_are : (line e : Text) → expanded line ≡ e → line_parts line ≡ parts_of_words e (words e)
 unfolding line_parts
-parts_are line e ws h k = ap (λ x. parts_of_words x (words x)) (sym h) ∙ ap (parts_of_words e) (sym k)
+parts_are line e h = ap (λ x. parts_of_words x (words x)) h

@@ -1,6 +1,7 @@
 mod Fronts
 mod Reading
 mod Spaces
+mod OneWords
 pub mod Numbers
 pub mod Fits
 pub mod Tallies

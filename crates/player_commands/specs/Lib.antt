@@ -1,5 +1,6 @@
 pub mod Behind
 pub mod Cutting
+pub mod OneWord
 pub mod CommandLinesMeant
 pub mod Numbers
 pub mod Fits

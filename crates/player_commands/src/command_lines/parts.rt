@@ -1,12 +1,14 @@
 //! The parts of a line.
-ghost use Rattle.std.specs.Prelude.{◌≡◌, ◌≤◌, [], ◌∷◌, ◌++◌, take, drop, length, option_map, IfOk, OnOk, IsTrue, string_bytes};
+ghost use Rattle.std.specs.Prelude.{◌≡◌, ◌≤◌, [], ◌∷◌, ◌++◌, take, drop, length, option_map, IfOk, OnOk, IsTrue, None, string_bytes};
 ghost use Rattle.spec_value.specs.Datum.{Text as Characters, is_text};
-ghost use Rattle.spec_world.specs.Words.{after_first as after_first_of, expanded as expanded_of, expanded_front, spaced as spaced_of};
+ghost use Rattle.spec_world.specs.Words.{words as words_of, after_first as after_first_of, expanded_front, spaced as spaced_of};
 ghost use Rattle.spec_world.specs.Prepositions.{find_preposition as found};
 ghost use Rattle.spec_world.specs.CommandLines.{line_parts as line_parts_of, parts_at as parts_at_of, parts_of_words as parts_of_words_of};
 ghost use Rattle.player_commands.specs.CommandLinesMeant.{parts_of, with_front, is_sign};
+ghost use Rattle.player_commands.specs.OneWord.{parts_of_word};
 
 use crate::command_lines::behind::{first_part, spaces};
+use crate::command_lines::one_word::is_word;
 use crate::command_lines::words::words;
 use moo_value::text::{Text, back};
 use rules::verb_match::prepositions::find_preposition;
@@ -59,15 +61,70 @@ impl Front {
 }
 
 /// The parts of a line; none where it has no words. Spaces at its front are dropped, and `"`, `:` and `;` there stand for `say `, `emote ` and `eval `.
-#[tactic(auto, using(crate::proofs::Fronts::parts_are))]
-pub fn line_parts(alloc: Global, line: &str) -> Result<Option<Parts>, AllocError>
+#[tactic(auto, using(crate::proofs::OneWords::one_word))]
+pub fn line_parts(alloc: Global, line: &Text) -> Result<Option<Parts>, AllocError>
     requires { IsTrue (is_text line.now) }
     ensures { IfOk result (λ o. option_map parts_of o ≡ line_parts_of line.now) }
 {
-    let line = expanded(alloc, line)?;
+    if is_word(line.as_str().as_bytes()) {
+        let parts = word_parts(alloc, line.clone()?)?;
+        return Ok(Some(parts));
+    }
+    parts_of_line(alloc, line.as_str())
+}
+
+// The parts of a line that is a word.
+fn word_parts(alloc: Global, verb: Text) -> Result<Parts, AllocError>
+    ensures { IfOk result (λ p. parts_of p ≡ parts_of_word verb) }
+{
+    let empty = Text::from_str(alloc, "")?;
+    Ok(Parts {
+        verb,
+        args: Vec::new(alloc),
+        argstr: empty.clone()?,
+        preposition: None,
+        dobjstr: empty.clone()?,
+        prepstr: empty.clone()?,
+        iobjstr: empty,
+    })
+}
+
+// The parts of any line.
+#[inline(never)]
+#[tactic(auto, using(crate::proofs::Fronts::front_spelled, crate::proofs::Fronts::parts_are))]
+fn parts_of_line(alloc: Global, line: &str) -> Result<Option<Parts>, AllocError>
+    requires { IsTrue (is_text line.now) }
+    ensures { IfOk result (λ o. option_map parts_of o ≡ line_parts_of line.now) }
+{
+    let rest = back(line, spaces(line.as_bytes()));
+    let front = Front::of(rest.as_bytes());
+    match front {
+        Front::Plain => parts_spelled(alloc, rest),
+        Front::Say => parts_behind(alloc, "say ", back(rest, 1)),
+        Front::Emote => parts_behind(alloc, "emote ", back(rest, 1)),
+        Front::Eval => parts_behind(alloc, "eval ", back(rest, 1)),
+    }
+}
+
+// The parts of a line behind another one, whose sign they spell out together.
+#[tactic(auto, using(crate::proofs::Fronts::nothing_behind))]
+fn parts_behind(alloc: Global, first: &str, text: &str) -> Result<Option<Parts>, AllocError>
+    requires first { IsTrue (is_text first.now) }
+    requires text { IsTrue (is_text text.now) }
+    ensures { IfOk result (λ o. option_map parts_of o ≡ parts_of_words_of (first.now ++ text.now) (words_of (first.now ++ text.now))) }
+{
+    let line = Text::joined(alloc, first, text, "")?;
     line.know();
-    let words = words(alloc, line.as_str())?;
-    parts_of_words(alloc, line.as_str(), words)
+    parts_spelled(alloc, line.as_str())
+}
+
+// The parts of a line whose sign is spelled out.
+fn parts_spelled(alloc: Global, line: &str) -> Result<Option<Parts>, AllocError>
+    requires { IsTrue (is_text line.now) }
+    ensures { IfOk result (λ o. option_map parts_of o ≡ parts_of_words_of line.now (words_of line.now)) }
+{
+    let words = words(alloc, line)?;
+    parts_of_words(alloc, line, words)
 }
 
 // The parts of a line with these words.
@@ -93,46 +150,21 @@ fn after_first(alloc: Global, line: &str) -> Result<Text, AllocError>
     Text::from_str(alloc, back(line, first_part(line.as_bytes())))
 }
 
-// A line with the sign at its front spelled out.
-#[tactic(auto, using(crate::proofs::Fronts::front_spelled))]
-fn expanded(alloc: Global, line: &str) -> Result<Text, AllocError>
-    requires { IsTrue (is_text line.now) }
-    ensures { IfOk result (λ t. t ≡ expanded_of line.now) }
-{
-    let line = back(line, spaces(line.as_bytes()));
-    let front = Front::of(line.as_bytes());
-    match front {
-        Front::Say => behind(alloc, "say ", back(line, 1)),
-        Front::Emote => behind(alloc, "emote ", back(line, 1)),
-        Front::Eval => behind(alloc, "eval ", back(line, 1)),
-        Front::Plain => Text::from_str(alloc, line),
-    }
-}
-
-// A text behind another one.
-#[tactic(auto, using(crate::proofs::Fronts::nothing_behind))]
-fn behind(alloc: Global, first: &str, text: &str) -> Result<Text, AllocError>
-    requires first { IsTrue (is_text first.now) }
-    requires text { IsTrue (is_text text.now) }
-    ensures { IfOk result (λ t. t ≡ first.now ++ text.now) }
-{
-    Text::joined(alloc, first, text, "")
-}
-
 // The parts of words.
 fn parts_at(alloc: Global, verb: Text, args: Vec<Text>, argstr: Text) -> Result<Parts, AllocError>
     ensures { IfOk result (λ p. parts_of p ≡ parts_at_of verb args.items argstr (found args.items)) }
 {
     let Some(found) = find_preposition(&args) else {
         let dobjstr = spaced(alloc, &args)?;
+        let empty = Text::from_str(alloc, "")?;
         return Ok(Parts {
             verb,
             args,
             argstr,
             preposition: None,
             dobjstr,
-            prepstr: Text::from_str(alloc, "")?,
-            iobjstr: Text::from_str(alloc, "")?,
+            prepstr: empty.clone()?,
+            iobjstr: empty,
         });
     };
     let dobjstr = spaced(alloc, first_words(&args, found.start))?;

@@ -17,6 +17,7 @@ use crate::command_parser::request::Request;
 use crate::command_parser::sought::verb_meant;
 use crate::object_match::naming::name_object;
 use crate::object_match::place::location;
+use moo_value::text::Text;
 use rules::inherit::verb::find_verb;
 use rules::permissions::may::is_programmer;
 use std::alloc::{AllocError, Global};
@@ -27,7 +28,7 @@ pub fn parse<V: View>(
     alloc: Global,
     view: &mut V,
     player: i32,
-    line: &str,
+    line: &Text,
 ) -> Result<Command, AllocError>
     requires home { V.holds view.old (V.home view.old) }
     requires well_formed { AreAgreeing V.holds V.now view.old }
@@ -116,6 +117,7 @@ fn command<V: View>(view: &mut V, player: i32, said: Said) -> Result<Command, Al
 }
 
 // A call of the room's `huh`, if it has one.
+#[inline(never)]
 fn huh<V: View>(view: &mut V, player: i32, said: Said) -> Result<Command, AllocError>
     requires home { V.holds view.old (V.home view.old) }
     requires well_formed { AreAgreeing V.holds V.now view.old }

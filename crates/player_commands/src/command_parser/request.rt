@@ -18,6 +18,7 @@ pub enum Request {
 impl Request {
     /// What the words behind `.program` ask for. A verb's name may have colons, and an object's text has none.
     #[tactic(auto, using(crate::proofs::Requests::other_count, crate::proofs::Requests::just_one))]
+    #[inline(never)]
     pub fn of(alloc: Global, args: &[Text]) -> Result<Request, AllocError>
         ensures { IfOk result (λ r. request_of r ≡ request_in args.now) }
     {

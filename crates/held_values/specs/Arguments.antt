@@ -1,14 +1,7 @@
 -- Arguments of built-in functions that wait.
 use Rattle.std.specs.Prelude.{Bool, true, false, ◌&&◌, List, [], ◌∷◌}
-use Rattle.spec_value.specs.Datum.{Datum, object, text}
-
-abbrev pub is_object : Datum → Bool
-is_object (object o) = true
-is_object v = false
-
-abbrev pub is_text : Datum → Bool
-is_text (text t) = true
-is_text v = false
+use Rattle.spec_value.specs.Datum.{Datum}
+use Rattle.held_values.specs.Told.{is_object, is_text}
 
 abbrev pub is_end : List Datum → Bool
 is_end [] = true

@@ -3,6 +3,7 @@ ghost use Rattle.std.specs.Prelude.{◌≡◌, pos, IsTrue};
 ghost use Rattle.spec_value.specs.Datum.{integer};
 ghost use Rattle.spec_program.specs.Place.{any_list};
 ghost use Rattle.spec_world.specs.WellFormed as spec;
+ghost use Rattle.held_values.specs.Told.{is_object as is_object_of, is_text as is_text_of};
 ghost use Rattle.held_values.specs.Wanted.{has_items as has_items_of, is_counted as is_counted_of};
 
 use moo_value::value::{Shown, Value};
@@ -13,6 +14,26 @@ pub fn is_list(value: &Value) -> bool
 {
     match value.shown() {
         Shown::List(_) => true,
+        _ => false,
+    }
+}
+
+/// Whether a value is an object.
+pub fn is_object(value: &Value) -> bool
+    ensures { result ≡ is_object_of value.now }
+{
+    match value.shown() {
+        Shown::Object(_) => true,
+        _ => false,
+    }
+}
+
+/// Whether a value is a text.
+pub fn is_text(value: &Value) -> bool
+    ensures { result ≡ is_text_of value.now }
+{
+    match value.shown() {
+        Shown::Text(_) => true,
         _ => false,
     }
 }

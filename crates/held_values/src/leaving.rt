@@ -3,9 +3,10 @@ ghost use Rattle.std.specs.Prelude.{◌≡◌, ◌⊎◌, ◌∷◌, [], ℕ, Is
 ghost use Rattle.spec_value.specs.Datum.{integer, list, of_list, item, no_data};
 ghost use Rattle.spec_program.specs.Place.{why_left};
 ghost use Rattle.spec_world.specs.WellFormed as spec;
-ghost use Rattle.held_values.specs.Told.{is_object, is_text, is_trace};
+ghost use Rattle.held_values.specs.Told.{is_trace};
 
 use crate::count::as_count;
+use crate::kinds::{is_object, is_text};
 use moo_value::value::{Shown, Value};
 
 /// Whether values are how a body was left, with so many loops around.
@@ -83,24 +84,6 @@ fn leaves_loops(around: usize, way: i32, count: &Value) -> bool
     match as_count(count) {
         Some(loops) => loops < around,
         None => false,
-    }
-}
-
-fn is_text(value: &Value) -> bool
-    ensures { result ≡ is_text value.now }
-{
-    match value.shown() {
-        Shown::Text(_) => true,
-        _ => false,
-    }
-}
-
-fn is_object(value: &Value) -> bool
-    ensures { result ≡ is_object value.now }
-{
-    match value.shown() {
-        Shown::Object(_) => true,
-        _ => false,
     }
 }
 

@@ -3,10 +3,11 @@ ghost use Rattle.std.specs.Prelude.{◌≡◌};
 ghost use Rattle.spec_world.specs.World.{move_native, create_native, recycle_native, eval_native};
 ghost use Rattle.spec_world.specs.WellFormed.{native_fits as fits};
 ghost use Rattle.moo_task.specs.Frames.{native_of};
-ghost use Rattle.held_values.specs.Arguments.{is_object as is_object_of, is_text as is_text_of, one_object, two_objects, three_objects, one_text};
+ghost use Rattle.held_values.specs.Arguments.{one_object, two_objects, three_objects, one_text};
 
+use crate::kinds::{is_object, is_text};
 use moo_task::native::{Native, NativeName};
-use moo_value::value::{Shown, Value};
+use moo_value::value::Value;
 
 /// Whether a built-in function that waits is at one of its stages, with arguments of that stage.
 pub fn native_fits(native: &Native) -> bool
@@ -89,23 +90,5 @@ fn is_one_text(values: &[Value]) -> bool
     match values.split_first() {
         Some((first, rest)) => is_text(first) && rest.is_empty(),
         None => false,
-    }
-}
-
-fn is_object(value: &Value) -> bool
-    ensures { result ≡ is_object_of value.now }
-{
-    match value.shown() {
-        Shown::Object(_) => true,
-        _ => false,
-    }
-}
-
-fn is_text(value: &Value) -> bool
-    ensures { result ≡ is_text_of value.now }
-{
-    match value.shown() {
-        Shown::Text(_) => true,
-        _ => false,
     }
 }

@@ -1,4 +1,4 @@
-use Rattle.std.proofs.Common.{◌≡◌, [], ◌∷◌, Some, ap, ◌∙◌, codes}
+use Rattle.std.proofs.Common.{[], ◌∷◌, Some, ap, ◌∙◌, codes}
 use Rattle.std.proofs.lemmas.Result.{err_from_is_err_and}
 use Rattle.spec_world.specs.World.{World}
 use Rattle.checkpoint_lines.proofs.Giving.{gives_passed}

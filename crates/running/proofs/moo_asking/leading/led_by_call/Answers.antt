@@ -1,4 +1,4 @@
-use Rattle.std.proofs.Common.{◌≡◌, ◌∙◌, ap, refl, subst, suc}
+use Rattle.std.proofs.Common.{◌∙◌, ap, refl, subst, suc}
 use Rattle.moo_task.specs.Outcomes.{around}
 use Rattle.moo_task.specs.declared.outcome.Outcome.TheVariants.{On}
 use Rattle.running.specs.Called.{shown_called, HasList}

@@ -1,4 +1,4 @@
-use Rattle.std.proofs.Common.{◌≡◌, ◌<◌, ◌∙◌, ap, refl, sym, subst}
+use Rattle.std.proofs.Common.{◌<◌, ◌∙◌, ap, refl, sym, subst}
 use Rattle.spec_world.specs.World.{World}
 use Rattle.spec_moo.specs.Pending.{out_of_ticks}
 use Rattle.spec_moo.specs.Segment.{stopped}
@@ -8,7 +8,7 @@ use Rattle.moo_code.specs.Runs.{ran, IsOver}
 use Rattle.moo_task.specs.Outcomes.{ticks_of, running_kept}
 use Rattle.moo_task.specs.declared.outcome.Outcome.{Outcome}
 use Rattle.running.specs.Scenes.{scene_at, led_at}
-use Rattle.running.specs.Stopping.{bound_of, begun_at, stopped_at}
+use Rattle.running.specs.Stopping.{bound_of, begun_at}
 use Rattle.running.proofs.Running.{comes_on, comes_first, comes_onward, over_onward, falls_onward, falls_on, over_on, operands_there, over_first, stops, step_to}
 use Rattle.running.proofs.moo_run.run.run.Goals as goal
 

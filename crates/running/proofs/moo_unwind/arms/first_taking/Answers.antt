@@ -1,4 +1,4 @@
-use Rattle.std.proofs.Common.{◌≡◌, ◌∙◌, ◌<◌, ap, sym, arith, drop, length}
+use Rattle.std.proofs.Common.{◌∙◌, ◌<◌, ap, sym, arith, drop, length}
 use Rattle.moo_task.proofs.Next.{next_place}
 use Rattle.running.specs.Taking.{first_taking}
 use Rattle.running.proofs.Passing.{step_past, none_left}

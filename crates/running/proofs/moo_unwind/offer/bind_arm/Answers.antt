@@ -1,4 +1,4 @@
-use Rattle.std.proofs.Common.{◌≡◌, ◌+◌, length, reverse, take}
+use Rattle.std.proofs.Common.{◌+◌, length, reverse, take}
 use Rattle.moo_code.specs.Machine.{lowest}
 use Rattle.moo_task.specs.Meant.{failure_meant}
 use Rattle.running.proofs.Offering.{arm_binds, taking_within}

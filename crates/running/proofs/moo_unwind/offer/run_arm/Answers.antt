@@ -1,4 +1,3 @@
-use Rattle.std.proofs.Common.{◌≡◌}
 use Rattle.moo_task.specs.Meant.{failure_meant}
 use Rattle.running.proofs.Offering.{arm_takes}
 use Rattle.running.proofs.moo_unwind.offer.run_arm.Goals as goal

@@ -1,4 +1,4 @@
-use Rattle.std.proofs.Common.{◌≡◌, ◌∙◌, ◌∷◌, ap, sym, map}
+use Rattle.std.proofs.Common.{◌∙◌, ◌∷◌, ap, sym, map}
 use Rattle.moo_code.specs.Instruction.{with_handlers}
 use Rattle.moo_code.specs.Names.{names_of}
 use Rattle.moo_program.specs.Meaning.{arm_meant, arm_place}

@@ -1,4 +1,4 @@
-use Rattle.std.proofs.Common.{◌∙◌, ◌∷◌, ap, sym}
+use Rattle.std.proofs.Common.{◌∙◌, ap, sym}
 use Rattle.moo_task.specs.Meant.{failure_meant}
 use Rattle.running.specs.Offers.{goes_on}
 use Rattle.running.proofs.Offering.{part_takes, part_refuses, part_returned, part_broken, part_continued}

@@ -5,7 +5,7 @@ use Rattle.moo_program.specs.Meaning.{handler_meant}
 use Rattle.moo_task.specs.Meant.{leaving_meant}
 use Rattle.moo_task.proofs.Next.{next_place}
 use Rattle.running.specs.Offers.{offered, offer_shown, UnlessPassed}
-use Rattle.running.proofs.Around.{handler_there, later, next_offer}
+use Rattle.running.proofs.Around.{later, next_offer}
 use Rattle.running.proofs.moo_unwind.unwind.leave.Goals as goal
 
 pub returns-in-Taken-clause-shown : goal.returns-in-Taken-clause-shown

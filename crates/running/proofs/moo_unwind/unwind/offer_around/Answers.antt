@@ -1,5 +1,4 @@
 use Rattle.std.proofs.Common.{◌≡◌, ◌∙◌, ◌∷◌, ap, sym, cond, arith, true, false}
-use Rattle.moo_code.specs.Machine.{covers}
 use Rattle.moo_code.specs.Names.{names_of}
 use Rattle.moo_program.specs.Meaning.{handler_meant}
 use Rattle.moo_task.specs.Meant.{leaving_meant}

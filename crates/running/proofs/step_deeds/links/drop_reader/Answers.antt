@@ -1,4 +1,4 @@
-use Rattle.std.proofs.Common.{◌≡◌, Some, None, rules, w32, to_z, of_z}
+use Rattle.std.proofs.Common.{◌≡◌, None, rules, w32, to_z, of_z}
 use Rattle.std.proofs.lemmas.Int.{to_z-of_z}
 use Rattle.running.proofs.Closing.{none_dropped, one_dropped}
 use Rattle.running.proofs.step_deeds.links.drop_reader.Goals as goal

@@ -1,4 +1,4 @@
-use Rattle.std.proofs.Common.{◌≡◌, ◌∙◌, ap, w32}
+use Rattle.std.proofs.Common.{◌∙◌, ap, w32}
 use Rattle.std.proofs.lemmas.Int.{to_z-of_z}
 use Rattle.spec_moo.specs.Scene as scene
 use Rattle.running.proofs.Queueing.{put_into_queue}

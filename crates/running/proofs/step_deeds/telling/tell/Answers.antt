@@ -1,4 +1,4 @@
-use Rattle.std.proofs.Common.{◌≡◌, Some, None, rules, w32, to_z, of_z}
+use Rattle.std.proofs.Common.{◌≡◌, None, rules, w32, to_z, of_z}
 use Rattle.std.proofs.lemmas.Int.{to_z-of_z}
 use Rattle.running.proofs.ToldLines.{told_nobody, told_somebody}
 use Rattle.running.proofs.step_deeds.telling.tell.Goals as goal

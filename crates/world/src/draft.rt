@@ -147,6 +147,7 @@ impl Draft {
     }
 
     /// The same records, with one more owner.
+    #[inline(always)]
     pub fn share(&self) -> Result<Draft, AllocError>
         ensures { IfOk result (λ d. d ≡ self.now) }
     {
@@ -232,6 +233,7 @@ impl Draft {
         Some(self.object(number)?.defines())
     }
 
+    #[inline(always)]
     fn slot(&self, number: i32, name: &Text) -> Option<Option<&Slot>>
         ensures { option_map (λ s. option_map (λ x. x.now) s) result ≡ slot_on self.now number name.now }
     {

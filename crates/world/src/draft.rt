@@ -147,7 +147,6 @@ impl Draft {
     }
 
     /// The same records, with one more owner.
-    #[inline(always)]
     pub fn share(&self) -> Result<Draft, AllocError>
         ensures { IfOk result (λ d. d ≡ self.now) }
     {

@@ -72,6 +72,7 @@ pub fn read_defines<V: View>(view: &mut V, object: i32) -> Result<Option<Names>,
 
 /// A property's slot on an object, or None where there is none. Case is ignored.
 #[tactic(auto, using(crate::proofs::SlotsTold::slot_told, crate::proofs::SlotsTold::no_object_told))]
+#[inline(always)]
 pub fn read_slot<V: View>(
     view: &mut V,
     object: i32,
@@ -280,6 +281,7 @@ pub fn raise_next<V: View>(view: &mut V, next: u64) -> Result<(), AllocError>
     view.put(Change::Next(next))
 }
 
+#[inline(always)]
 fn new_value_of(object: i32, name: &Text, value: Value) -> Result<Change, AllocError>
     ensures { IfOk result (λ c. change_of c ≡ new_value object name.now value) }
 {

@@ -64,6 +64,7 @@ impl Reads {
     }
 
     /// One more read.
+    #[inline(always)]
     pub fn push(&mut self, question: Question, answer: Answer) -> Result<(), AllocError>
         ensures ok { OnOk result (self.new ≡ self.old ++ record { question = question_of question; answer = answer_of answer } ∷ []) }
         ensures err { OnErr result (self.new ≡ self.old) }

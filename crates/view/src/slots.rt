@@ -199,6 +199,7 @@ fn is_folded(text: &[u8], folded: &[u8]) -> bool
 }
 
 // The slot at an index has another value.
+#[inline(always)]
 fn fill(entries: &mut Vec<(Text, Slot)>, index: usize, value: Value)
     requires { index < vec_len entries.old }
     ensures { (e : Characters × SlotOf) × (e ≡ slice_index_or entries.old.items index e)

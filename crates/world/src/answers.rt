@@ -8,6 +8,7 @@ use view::question::Answer;
 use view::slot::Slot;
 
 /// The same answer once more. What an answer shares with others has one more owner.
+#[inline(always)]
 pub(crate) fn copied(alloc: Global, answer: &Answer) -> Result<Answer, AllocError>
     ensures { IfOk result (λ a. answer_of a ≡ answer_of answer.now) }
 {

@@ -129,6 +129,7 @@ impl Asked {
     }
 
     /// One more read, of a question of this mark.
+    #[inline(always)]
     pub(crate) fn push(
         &mut self,
         mark: u64,
@@ -171,6 +172,7 @@ impl Asked {
 }
 
 // The answer of the read of an index, if it is the one of a question.
+#[inline(always)]
 fn answer_at<'r>(reads: &'r [Read], index: usize, question: &Question) -> Option<&'r Answer>
     ensures { IfSome result (λ a. Contains (map read_of reads.now) record { question = question_of question.now; answer = answer_of a.now }) }
 {

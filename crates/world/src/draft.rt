@@ -232,6 +232,7 @@ impl Draft {
         Some(self.object(number)?.defines())
     }
 
+    #[inline(always)]
     fn slot(&self, number: i32, name: &Text) -> Option<Option<&Slot>>
         ensures { option_map (λ s. option_map (λ x. x.now) s) result ≡ slot_on self.now number name.now }
     {

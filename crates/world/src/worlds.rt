@@ -132,6 +132,7 @@ impl World {
     }
 
     /// The world as it is, to be kept. Nothing is copied.
+    #[inline(always)]
     pub fn snapshot(&self) -> Result<Snapshot, AllocError>
         ensures { IfOk result (λ s. s ≡ self.now.plain) }
     {
@@ -199,6 +200,7 @@ impl World {
     }
 
     /// The records of the world, with one more owner.
+    #[inline(always)]
     pub(crate) fn share(&self) -> Result<Draft, AllocError>
         ensures { IfOk result (λ d. d ≡ self.now.plain) }
     {
@@ -229,6 +231,7 @@ impl Snapshot {
     }
 
     /// The records of the snapshot, with one more owner.
+    #[inline(always)]
     pub fn share(&self) -> Result<Draft, AllocError>
         ensures { IfOk result (λ d. d ≡ self.now) }
     {

@@ -23,6 +23,7 @@ impl BlockBuilder {
     }
 
     /// A block of these places, above so many levels.
+    #[inline(always)]
     fn block<R: Drop>(&mut self, below: u32, places: Vec<Place<R>>) -> Result<Place<R>, AllocError>
         requires levels { below < 12 }
         requires places { IsRow below places.items }

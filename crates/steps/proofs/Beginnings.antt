@@ -11,7 +11,7 @@ use Rattle.spec_moo.specs.Steps.Running.{begun}
 use Rattle.spec_moo.specs.Worlds as worlds
 use Rattle.spec_ready.proofs.GoingOn.{beginnings_stand}
 use Rattle.moo_code.specs.Machine.{Kept, Outer}
-use Rattle.moo_code.specs.Stands.{AllWait, Verb, Stands, first_size}
+use Rattle.moo_code.specs.Stands.{AllWait, Stands, first_size}
 use Rattle.moo_code.proofs.Runs.{verbs_begin}
 use Rattle.moo_task.specs.Frames as frames
 use Rattle.moo_task.specs.Outcomes.{running_kept}

@@ -1,15 +1,13 @@
 -- What the end of a task does, by how it stopped.
-use Rattle.std.proofs.Common.{◌≡◌, ◌∙◌, ap, sym, refl, subst, ℕ, ℤ, List, [], ◌∷◌, ◌++◌, Option, Some, None}
+use Rattle.std.proofs.Common.{◌≡◌, ◌∙◌, ap, sym, refl, subst, ℕ, ℤ, List, [], ◌∷◌, Option, Some, None}
 use Rattle.std.proofs.lemmas.List.{append-nil}
-use Rattle.spec_value.specs.Datum.{Datum, Text}
-use Rattle.spec_world.specs.World.{World, Entry, Task, Waiting, forked, timed, idle, reading_on}
+use Rattle.spec_value.specs.Datum.{Text}
+use Rattle.spec_world.specs.World.{World, Entry, Task, Waiting}
 use Rattle.spec_world.specs.Links.{connection_of}
 use Rattle.spec_moo.specs.Scene.{Scene, enqueued}
-use Rattle.spec_moo.specs.Pending as pending
 use Rattle.spec_moo.specs.Pending.{Stop, done, raised, out_of_ticks, waiting, killed}
 use Rattle.spec_moo.specs.Telling.{stop_lines}
 use Rattle.spec_moo.specs.Steps.Running.{told, told_on, after_stop, stopped_as, waiting_result, waiting_task, put_by}
-use Rattle.spec_world.specs.Outcome.{Result, value_of}
 use Rattle.std.specs.declared.vec.Vec.{Vec}
 use Rattle.std.specs.declared.alloc.Global.{Global}
 use Rattle.spec_world.specs.WellFormed.{FramesStand}

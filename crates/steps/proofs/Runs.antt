@@ -1,14 +1,13 @@
 -- What the run of a task came to.
 use Rattle.std.proofs.Common.{◌≡◌, ◌∙◌, ap, sym, refl, subst, ℕ, ◌-◌, ℤ, List, ◌∷◌}
 use Rattle.spec_value.specs.Datum.{Datum}
-use Rattle.spec_world.specs.World.{World, Entry}
+use Rattle.spec_world.specs.World.{World}
 use Rattle.spec_world.specs.WellFormed.{FramesStand}
 use Rattle.spec_moo.specs.Scene.{Scene}
 use Rattle.spec_moo.specs.Pending as pending
 use Rattle.spec_moo.specs.Pending.{done, raised, out_of_ticks, waiting, killed}
 use Rattle.spec_moo.specs.Segment.{Ended, segment}
-use Rattle.spec_moo.specs.Steps.Running as running
-use Rattle.spec_moo.specs.Steps.Running.{run, after_stop, stopped_as}
+use Rattle.spec_moo.specs.Steps.Running.{run, after_stop}
 use Rattle.spec_moo.specs.Worlds as worlds
 use Rattle.spec_moo.specs.Worlds.{StopKeeps}
 use Rattle.spec_moo.proofs.SegmentWorlds.{segments_keep}

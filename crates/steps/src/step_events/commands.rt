@@ -56,9 +56,8 @@ pub fn player_line<V: View, N: Natives>(
         StepsTo (player_line_of (scene_of deeds before foreground_ticks) connection link.now.person text.now) after o)) }
 {
     text.know();
-    let command = parse(alloc, view, link.person, text.as_str())?;
-    let outcome = run_command(alloc, view, natives, deeds, connection, link, command)?;
-    Ok(outcome)
+    let command = parse(alloc, view, link.person, text)?;
+    run_command(alloc, view, natives, deeds, connection, link, command)
 }
 
 // What a command does.
@@ -79,26 +78,27 @@ fn run_command<V: View, N: Natives>(
         StepsTo (command_run (scene_of deeds before foreground_ticks) connection link.now.person (command_of command)) after o)) }
 {
     match command {
-        Command::Empty => {
-            let outcome = nothing(alloc, &deeds)?;
-            Ok(outcome)
-        }
-        Command::Program(asked) => {
-            let outcome = request(alloc, view, deeds, connection, link, asked)?;
-            Ok(outcome)
-        }
-        Command::Verb(said, meant) => {
-            let outcome = run_verb(alloc, view, natives, deeds, link.person, said, meant)?;
-            Ok(outcome)
-        }
-        Command::Huh(said, found) => {
-            let outcome = run_huh(alloc, view, natives, deeds, link.person, said, &found)?;
-            Ok(outcome)
-        }
-        Command::Unknown => {
-            let outcome = says(alloc, deeds, connection, "I couldn't understand that.")?;
-            Ok(outcome)
-        }
+        Command::Empty => nothing(alloc, &deeds),
+        Command::Program(asked) => request(alloc, view, deeds, connection, link, asked),
+        Command::Verb(said, meant) => run_verb(
+            alloc,
+            view,
+            natives,
+            deeds,
+            link.person,
+            said,
+            meant,
+        ),
+        Command::Huh(said, found) => run_huh(
+            alloc,
+            view,
+            natives,
+            deeds,
+            link.person,
+            said,
+            &found,
+        ),
+        Command::Unknown => says(alloc, deeds, connection, "I couldn't understand that."),
     }
 }
 
@@ -123,11 +123,11 @@ fn run_verb<V: View, N: Natives>(
     let call = command_call(player, this, word, &verb);
     let program = program_of(&verb)?;
     let task = command_task(alloc, player, call, said, program)?;
-    let outcome = play_task(alloc, view, natives, deeds, task)?;
-    Ok(outcome)
+    play_task(alloc, view, natives, deeds, task)
 }
 
 // The room's `huh` runs.
+#[inline(never)]
 fn run_huh<V: View, N: Natives>(
     alloc: Global,
     view: &mut V,
@@ -148,8 +148,7 @@ fn run_huh<V: View, N: Natives>(
     let call = command_call(player, room, word, found);
     let program = program_of(found)?;
     let task = command_task(alloc, player, call, said, program)?;
-    let outcome = play_task(alloc, view, natives, deeds, task)?;
-    Ok(outcome)
+    play_task(alloc, view, natives, deeds, task)
 }
 
 // Who runs a verb that a command names.

@@ -36,6 +36,7 @@ use view::link::Link;
 use view::readers::{read_link, write_link};
 
 /// A connection opens. Nothing happens where its number is that of an open one.
+#[inline(never)]
 pub fn open<V: View, N: Natives>(
     alloc: Global,
     view: &mut V,
@@ -85,6 +86,7 @@ fn open_new<V: View, N: Natives>(
 }
 
 /// A connection ends. Nothing happens where it is not open.
+#[inline(never)]
 pub fn close<V: View, N: Natives>(
     alloc: Global,
     view: &mut V,

@@ -51,10 +51,7 @@ pub fn line<V: View, N: Natives>(
 {
     let link = read_link(view, connection)?;
     match link {
-        Some(link) => {
-            let outcome = take_line(alloc, view, natives, deeds, connection, &link, text)?;
-            Ok(outcome)
-        }
+        Some(link) => take_line(alloc, view, natives, deeds, connection, &link, text),
         None => Ok(idle(alloc, Ending::Nothing)),
     }
 }
@@ -78,14 +75,8 @@ fn take_line<V: View, N: Natives>(
         StepsTo (line_taken (scene_of deeds before foreground_ticks) connection link.now text.now link.now.programming) after o)) }
 {
     match &link.programming {
-        Some(programming) => {
-            let outcome = collect(alloc, view, deeds, connection, link, programming, text)?;
-            Ok(outcome)
-        }
-        None => {
-            let outcome = read_line(alloc, view, natives, deeds, connection, link, text)?;
-            Ok(outcome)
-        }
+        Some(programming) => collect(alloc, view, deeds, connection, link, programming, text),
+        None => read_line(alloc, view, natives, deeds, connection, link, text),
     }
 }
 
@@ -111,13 +102,9 @@ fn read_line<V: View, N: Natives>(
     match reader {
         Some(id) => {
             let value = Value::text(text.clone()?);
-            let outcome = read_by(alloc, view, natives, deeds, id, value)?;
-            Ok(outcome)
+            read_by(alloc, view, natives, deeds, id, value)
         }
-        None => {
-            let outcome = line_for(alloc, view, natives, deeds, connection, link, text)?;
-            Ok(outcome)
-        }
+        None => line_for(alloc, view, natives, deeds, connection, link, text),
     }
 }
 
@@ -143,14 +130,13 @@ fn line_for<V: View, N: Natives>(
     if nobodys {
         let argstr = text.clone()?;
         let arguments = words_value(alloc, text)?;
-        let outcome = login(alloc, view, natives, deeds, connection, argstr, arguments)?;
-        return Ok(outcome);
+        return login(alloc, view, natives, deeds, connection, argstr, arguments);
     }
-    let outcome = player_line(alloc, view, natives, deeds, connection, link, text)?;
-    Ok(outcome)
+    player_line(alloc, view, natives, deeds, connection, link, text)
 }
 
 // The words of a line, as a list.
+#[inline(never)]
 fn words_value(alloc: Global, text: &Text) -> Result<Value, AllocError>
     ensures { IfOk result (λ v. v ≡ list (words_value_of text.now)) }
 {
@@ -164,7 +150,7 @@ fn words_typed(alloc: Global, text: &Text) -> Result<Vec<Text>, AllocError>
     ensures { IfOk result (λ v. v.items ≡ words (expanded text.now)) }
 {
     text.know();
-    let parts = line_parts(alloc, text.as_str())?;
+    let parts = line_parts(alloc, text)?;
     match parts {
         Some(parts) => {
             let words = words_of(parts)?;

@@ -25,6 +25,7 @@ use task_step::outcome::Outcome;
 use view::law::View;
 
 /// A login: `#0:do_login_command` is called for the connection.
+#[inline(never)]
 pub fn login<V: View, N: Natives>(
     alloc: Global,
     view: &mut V,

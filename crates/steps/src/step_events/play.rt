@@ -64,23 +64,17 @@ fn perform<V: View, N: Natives>(
     match event {
         Event::Open(connection) => {
             let number = number_of(*connection);
-            let outcome = open(alloc, view, natives, deeds, number)?;
-            Ok(outcome)
+            open(alloc, view, natives, deeds, number)
         }
         Event::Close(connection) => {
             let number = number_of(*connection);
-            let outcome = close(alloc, view, natives, deeds, number)?;
-            Ok(outcome)
+            close(alloc, view, natives, deeds, number)
         }
         Event::Line(connection, text) => {
             let number = number_of(*connection);
-            let outcome = line(alloc, view, natives, deeds, number, text)?;
-            Ok(outcome)
+            line(alloc, view, natives, deeds, number, text)
         }
-        Event::Ready(id) => {
-            let outcome = ready(alloc, view, natives, deeds, *id)?;
-            Ok(outcome)
-        }
+        Event::Ready(id) => ready(alloc, view, natives, deeds, *id),
     }
 }
 

@@ -25,6 +25,7 @@ use view::law::View;
 use view::readers::{read_task, write_task};
 
 /// A task that is due goes on. Nothing happens where it is not there, or not due.
+#[inline(never)]
 pub fn ready<V: View, N: Natives>(
     alloc: Global,
     view: &mut V,
@@ -74,6 +75,7 @@ fn ready_run<V: View, N: Natives>(
 }
 
 /// The task that reads on a connection has a line's value.
+#[inline(never)]
 pub fn read_by<V: View, N: Natives>(
     alloc: Global,
     view: &mut V,

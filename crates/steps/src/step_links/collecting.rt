@@ -25,6 +25,7 @@ use view::lists::Lines;
 use view::readers::write_link;
 
 /// A line for a verb's code, or the one that ends it.
+#[inline(never)]
 pub fn collect<V: View>(
     alloc: Global,
     view: &mut V,

@@ -27,6 +27,7 @@ use view::lists::Lines;
 use view::readers::write_link;
 
 /// A player's `.program` line.
+#[inline(never)]
 pub fn request<V: View>(
     alloc: Global,
     view: &mut V,

@@ -82,6 +82,7 @@ fn ended<V: View>(
 }
 
 // An error came out of a task.
+#[inline(never)]
 fn failed<V: View>(
     alloc: Global,
     view: &mut V,
@@ -106,6 +107,7 @@ fn failed<V: View>(
 }
 
 // A task had no tick left.
+#[inline(never)]
 fn ran_out<V: View>(
     alloc: Global,
     view: &mut V,
@@ -124,6 +126,7 @@ fn ran_out<V: View>(
 }
 
 // A task waits.
+#[inline(never)]
 fn waits<V: View>(
     alloc: Global,
     view: &mut V,

@@ -30,8 +30,7 @@ pub fn ran_outcome(alloc: Global, ran: Ran) -> Result<Outcome, AllocError>
         ticks_left: _,
         ticks_used,
     } = ran;
-    let outcome = outcome(alloc, &deeds, ending, ticks_used)?;
-    Ok(outcome)
+    outcome(alloc, &deeds, ending, ticks_used)
 }
 
 /// Runs a task, which is all that a step then does.
@@ -50,6 +49,5 @@ pub fn play_task<V: View, N: Natives>(
         (λ before after. StepsTo (came_to (run_of (scene_of deeds before (ticks_of task)) p)) after o)) }
 {
     let ran = run_task(alloc, view, natives, deeds, task)?;
-    let outcome = ran_outcome(alloc, ran)?;
-    Ok(outcome)
+    ran_outcome(alloc, ran)
 }

@@ -42,6 +42,7 @@ pub fn opening(alloc: Global, step: &Step) -> Deeds
 }
 
 /// Nothing runs.
+#[inline(never)]
 pub fn nothing(alloc: Global, deeds: &Deeds) -> Result<Outcome, AllocError>
     ensures { IfOk result (λ o. (w : World) (t : ℕ) → nothing_runs (scene_of deeds.now w t) ≡ (w, o)) }
 {
@@ -50,6 +51,7 @@ pub fn nothing(alloc: Global, deeds: &Deeds) -> Result<Outcome, AllocError>
 }
 
 /// A link is told a line, and nothing runs.
+#[inline(never)]
 pub fn says(alloc: Global, deeds: Deeds, connection: i32, line: &str) -> Result<Outcome, AllocError>
     requires { IsTrue (is_text line.now) }
     ensures { IfOk result (λ o. (w : World) (t : ℕ) → says_to (scene_of deeds w t) connection line.now ≡ (w, o)) }

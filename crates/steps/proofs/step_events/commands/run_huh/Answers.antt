@@ -10,6 +10,7 @@ use Rattle.spec_moo.specs.Steps.Events.{command_run, command_call, command_start
 use Rattle.player_commands.specs.CommandLinesMeant.{parts_of}
 use Rattle.player_commands.specs.Meanings.{named_of}
 use Rattle.moo_task.specs.Deeds.{scene_of}
+use Rattle.rules.proofs.Tellings.{if_ok_as}
 use Rattle.steps.proofs.StepsPlaying.{plays_then, ready_told}
 use Rattle.steps.proofs.step_events.commands.run_huh.Goals as goal
 
@@ -29,15 +30,17 @@ play_task-requires-clause-runs g c =
     )
 
 pub returns-clause-played : goal.returns-clause-played
-returns-clause-played g c n =
+returns-clause-played g c =
     let view = g.V.View in
     let p = parts_of c.args.said.parts in
     let f = c.args.found.now in
     let player = to_z-of_z w32 c.args.player c.ranges.player in
     let call : c.command_call-call.result ≡ command_call c.args.player c.in_ok-room.room (codes "huh") f = search rules in
     let task = λ (room : ℤ). begun c.args.player (command_call c.args.player room (codes "huh") f) p.verb (command_start p (named_of c.args.said)) (of_list (as_texts p.args)) (f.verb).program in
-    let rest = rw c.in_ok-task.ensures.ticks at (c.in_ok-outcome.ensures.played (task c.in_ok-room.room) (rw (player, call, c.in_ok-program.ensures) at c.in_ok-task.ensures.runs)) in
-    plays_then view.holds view.now c.args.view.now c.location.new.view c.play_task.new.view (λ w. location_of (object_at w c.args.player) ≡ c.in_ok-room.room)
+    if_ok_as _ _
+    (λ o played n. plays_then view.holds view.now c.args.view.now c.location.new.view c.play_task.new.view (λ w. location_of (object_at w c.args.player) ≡ c.in_ok-room.room)
     (λ w. command_run (scene_of c.args.deeds w foreground_ticks) n c.args.player (calls_huh p (named_of c.args.said) f))
-    (λ w. came_to (run (scene_of c.args.deeds w foreground_ticks) (task c.in_ok-room.room))) c.in_ok-outcome.outcome (rw player at c.in_ok-room.ensures.left) rest
-    (λ w is. ap (λ (room : ℤ). came_to (run (scene_of c.args.deeds w foreground_ticks) (task room))) is)
+    (λ w. came_to (run (scene_of c.args.deeds w foreground_ticks) (task c.in_ok-room.room))) o (rw player at c.in_ok-room.ensures.left)
+    (rw c.in_ok-task.ensures.ticks at (played (task c.in_ok-room.room) (rw (player, call, c.in_ok-program.ensures) at c.in_ok-task.ensures.runs)))
+    (λ w is. ap (λ (room : ℤ). came_to (run (scene_of c.args.deeds w foreground_ticks) (task room))) is))
+    c.play_task.result c.play_task.ensures.played

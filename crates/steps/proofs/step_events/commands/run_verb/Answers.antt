@@ -6,6 +6,7 @@ use Rattle.spec_moo.specs.Steps.Running.{begun}
 use Rattle.spec_moo.specs.Steps.Events.{command_call, command_start}
 use Rattle.player_commands.specs.CommandLinesMeant.{parts_of}
 use Rattle.player_commands.specs.Meanings.{named_of}
+use Rattle.rules.proofs.Tellings.{if_ok_as}
 use Rattle.steps.proofs.step_events.commands.run_verb.Goals as goal
 
 pub play_task-requires-clause-runs : goal.play_task-requires-clause-runs
@@ -19,10 +20,12 @@ play_task-requires-clause-runs g c =
     )
 
 pub returns-clause-played : goal.returns-clause-played
-returns-clause-played g c n =
+returns-clause-played g c =
     let p = parts_of c.args.said.parts in
     let m = c.args.meant in
     let player = to_z-of_z w32 c.args.player c.ranges.player in
     let call : c.command_call-call.result ≡ command_call c.args.player m.this p.verb m.verb = search rules in
     let q = begun c.args.player (command_call c.args.player m.this p.verb m.verb) p.verb (command_start p (named_of c.args.said)) (of_list (as_texts p.args)) (m.verb).verb.program in
-    rw c.in_ok-task.ensures.ticks at (c.in_ok-outcome.ensures.played q (rw (player, call, c.in_ok-program.ensures) at c.in_ok-task.ensures.runs))
+    if_ok_as _ _
+    (λ o played n. rw c.in_ok-task.ensures.ticks at (played q (rw (player, call, c.in_ok-program.ensures) at c.in_ok-task.ensures.runs)))
+    c.play_task.result c.play_task.ensures.played

@@ -7,6 +7,7 @@ use Rattle.spec_moo.specs.Steps.Events.{line_on, line_taken, foreground_ticks}
 use Rattle.moo_task.specs.Deeds.{scene_of}
 use Rattle.view.specs.Law.{Goes}
 use Rattle.steps.specs.StepsPerformed.{StepsTo}
+use Rattle.rules.proofs.Tellings.{if_ok_as}
 use Rattle.steps.proofs.StepsPlaying.{plays_told, plays_then, ready_told, told_still}
 use Rattle.steps.proofs.step_events.lines.line.Goals as goal
 
@@ -20,22 +21,20 @@ take_line-requires-clause-link g c =
     rw (to_z-of_z w32 c.args.connection c.ranges.connection) (told_still g.V.View.holds g.V.View.now c.args.view.now c.read_link.new.view (λ w. at w.links c.args.connection ≡ Some c.in-Some.link)
     (rw (to_z-of_z w32 c.args.connection c.ranges.connection, c.in-Some.is) at c.in_ok-link.ensures.left))
 
-pub returns-in_ok-outcome-in-Some-clause-played : goal.returns-in_ok-outcome-in-Some-clause-played
-returns-in_ok-outcome-in-Some-clause-played g c s opening =
+pub returns-in-Some-clause-played : goal.returns-in-Some-clause-played
+returns-in-Some-clause-played g c =
     let connection = to_z-of_z w32 c.args.connection c.ranges.connection in
     let k = c.in-Some.link in
-    let taken : Goes g.V.View.holds g.V.View.now c.read_link.new.view c.take_line.new.view
-    (λ before after. StepsTo (line_taken (scene_of c.args.deeds before foreground_ticks) c.args.connection k c.args.text.now k.programming) after c.in_ok-outcome-in-Some.outcome) =
-    subst
-    (λ (n : ℤ). Goes g.V.View.holds g.V.View.now c.read_link.new.view c.take_line.new.view
-    (λ before after. StepsTo (line_taken (scene_of c.args.deeds before foreground_ticks) n k c.args.text.now k.programming) after c.in_ok-outcome-in-Some.outcome))
-    connection c.in_ok-outcome-in-Some.ensures.played in
-    plays_then g.V.View.holds g.V.View.now c.args.view.now c.read_link.new.view c.take_line.new.view (λ w. at w.links c.args.connection ≡ Some c.in-Some.link)
+    let taken = λ (n : ℤ) (o : Outcome). Goes g.V.View.holds g.V.View.now c.read_link.new.view c.take_line.new.view
+    (λ before after. StepsTo (line_taken (scene_of c.args.deeds before foreground_ticks) n k c.args.text.now k.programming) after o) in
+    if_ok_as (taken _) _
+    (λ o played s opening. plays_then g.V.View.holds g.V.View.now c.args.view.now c.read_link.new.view c.take_line.new.view (λ w. at w.links c.args.connection ≡ Some k)
     (λ w. line_on s w c.args.connection c.args.text.now (at w.links c.args.connection))
-    (λ w. line_taken (scene_of c.args.deeds w foreground_ticks) c.args.connection c.in-Some.link c.args.text.now c.in-Some.link.programming) c.in_ok-outcome-in-Some.outcome
-    (rw (connection, c.in-Some.is) at c.in_ok-link.ensures.left) taken
+    (λ w. line_taken (scene_of c.args.deeds w foreground_ticks) c.args.connection k c.args.text.now k.programming) o
+    (rw (connection, c.in-Some.is) at c.in_ok-link.ensures.left) (subst (λ (n : ℤ). taken n o) connection played)
     (λ w is. ap (line_on s w c.args.connection c.args.text.now) is
-    ∙ ap (λ (u : Scene). line_taken u c.args.connection c.in-Some.link c.args.text.now c.in-Some.link.programming) (opening w foreground_ticks))
+    ∙ ap (λ (u : Scene). line_taken u c.args.connection k c.args.text.now k.programming) (opening w foreground_ticks)))
+    c.take_line.result c.take_line.ensures.played
 
 pub returns-in-None-clause-played : goal.returns-in-None-clause-played
 returns-in-None-clause-played g c s opening =

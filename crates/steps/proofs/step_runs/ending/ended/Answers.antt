@@ -1,4 +1,4 @@
-use Rattle.std.proofs.Common.{ap, sym, refl, ◌∙◌, subst, w32}
+use Rattle.std.proofs.Common.{sym, refl, subst, w32}
 use Rattle.std.proofs.lemmas.Int.{to_z-of_z}
 use Rattle.moo_task.specs.Outcomes.{end_of}
 use Rattle.moo_task.specs.declared.outcome.End.{End}

@@ -1,4 +1,4 @@
-use Rattle.std.proofs.Common.{◌≡◌, ◌∙◌, sym, None, Some, rules, w32, to_z, of_z}
+use Rattle.std.proofs.Common.{◌≡◌, sym, None, rules, w32, to_z, of_z}
 use Rattle.std.proofs.lemmas.Int.{to_z-of_z}
 use Rattle.moo_task.specs.Effects.{waiting_of}
 use Rattle.steps.proofs.Endings.{not_put, put_there}

@@ -1,4 +1,4 @@
-use Rattle.std.proofs.Common.{◌≡◌, ◌∙◌, ℤ, ap, refl, w32, to_z, of_z}
+use Rattle.std.proofs.Common.{◌∙◌, ℤ, ap, refl, w32, to_z, of_z}
 use Rattle.std.proofs.lemmas.Int.{to_z-of_z}
 use Rattle.spec_world.specs.World.{Call, Start}
 use Rattle.moo_task.specs.Frames.{begun}

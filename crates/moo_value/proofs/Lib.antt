@@ -3,6 +3,7 @@ pub mod Characters
 pub mod EscapedTexts
 pub mod Folding
 pub mod Listing
+pub mod Taken
 pub mod Names
 pub mod Numbers
 pub mod Reading

@@ -68,6 +68,16 @@ pub fn push_all(items: &mut Vec<Value>, more: &[Value]) -> Result<(), AllocError
     Ok(())
 }
 
+// Items, taken from where they are shared if nobody else shares them, else copies of them.
+pub(crate) fn taken(alloc: Global, items: Arc<Vec<Value>>) -> Result<Vec<Value>, AllocError>
+    ensures { IfOk result (λ v. v.items ≡ (arc_value items).items) }
+{
+    match Arc::try_unwrap(items) {
+        Ok(items) => Ok(items),
+        Err(items) => copied(alloc, items.as_slice()),
+    }
+}
+
 // Where there are other owners, gives this one a copy of its own with room for more, so that what is put in next copies nothing again.
 fn unshare(items: &mut Arc<Vec<Value>>, more: usize) -> Result<(), AllocError>
     ensures { (arc_value items.new).items ≡ (arc_value items.old).items }

@@ -5,7 +5,7 @@ ghost use Rattle.spec_value.specs.Datum.{Datum, integer, object, text as text_of
 use crate::error::MooError;
 use crate::items;
 use crate::text::Text;
-use std::alloc::AllocError;
+use std::alloc::{AllocError, Global};
 use std::marker::Model;
 use std::sync::Arc;
 
@@ -271,6 +271,33 @@ impl Value {
         items::replace_part(items, start, end, between)?;
         *weight = others.saturating_add(added);
         Ok(())
+    }
+}
+
+impl Value {
+    ghost use Rattle.std.specs.Prelude.{List, ℕ, None, IfSome};
+    ghost use Rattle.spec_value.specs.Datum.{Data, to_list};
+
+    /// The text, where the value is one. It is lent: who keeps it counts one owner more and copies no character.
+    pub fn as_text(&self) -> Option<&Text>
+        ensures some { IfSome result (λ t. self.now ≡ text_of t.now) }
+        ensures none { result ≡ None → (t : List ℕ) → self.now ≡ text_of t → ⊥ }
+    {
+        match &self.node {
+            Node::Text(text) => Some(text),
+            _ => None,
+        }
+    }
+
+    /// The items of a list, taken out of it where no other owner shares them, else copies; of another value there are none.
+    pub fn into_items(self, alloc: Global) -> Result<Vec<Value>, AllocError>
+        ensures { IfOk result (λ items. (args : Data) → self ≡ list args → items.items ≡ to_list args) }
+    {
+        let Value { node } = self;
+        match node {
+            Node::List(items, _) => items::taken(alloc, items),
+            _ => Ok(Vec::new(alloc)),
+        }
     }
 }
 

@@ -18,11 +18,11 @@ use Rattle.speculate.specs.Right.{Guessed, IsRight, after_guess}
 use Rattle.speculate.specs.BoardState.{BoardState, FitsStep, runs, IsHonest, IsSeen, opened_on, with_held, world_after}
 use Rattle.speculate.specs.Verbs.{SameVerbs, KnowsVerbs}
 use Rattle.speculate.specs.Progress.{Committed, Commits, with_commit, IsSince, Advances, ready, rest, IsUndone, StaysPut, AdvancesInPart, AllHeld}
-use Rattle.speculate.proofs.Places.{fits_at, fits_set, fits_any, fits_empty, fits_length, ready_more, ready_all, held_at, set_back, set_get}
+use Rattle.speculate.proofs.Places.{fits_at, fits_set, fits_any, fits_empty, fits_length, ready_more, ready_all, held_at}
 use Rattle.speculate.proofs.Plays.{play_more, play_none, range_at}
 use Rattle.view.proofs.SoundKeeps.{sound_step}
 
-kept_plays : (w : World) (s : Step) (g : Guessed) (w' : Counted) (n : ℕ) (o : Outcome) → IsSound w → g.step ≡ s → IsRight g → Agrees w g.reads
+pub kept_plays : (w : World) (s : Step) (g : Guessed) (w' : Counted) (n : ℕ) (o : Outcome) → IsSound w → g.step ≡ s → IsRight g → Agrees w g.reads
     → w' ≡ record { plain = after_guess g w; opened = n } → o ≡ g.outcome → play1 w s ≡ (w'.plain, o)
 kept_plays w s g w' n o sound same right agrees a b =
     let P : Step → Type 0 = λ z. play1 w z ≡ (after_guess g w, g.outcome) in
@@ -42,7 +42,7 @@ committed_plays w s (Holds g seen) w' o m sound fits c =
     elim c [ inl a ↦ kept_plays w.plain s g w' w.opened o sound fits.0 fits.1 a.0 a.1 a.2 | inr b ↦ b.1.0 ]
 
 -- one more mark
-runs_more : (ms : List Mark) (m : Mark) → runs (ms ++ m ∷ []) ≡ runs ms + runs (m ∷ [])
+pub runs_more : (ms : List Mark) (m : Mark) → runs (ms ++ m ∷ []) ≡ runs ms + runs (m ∷ [])
 runs_more [] m = omega arith
 runs_more (Kept ∷ ms) m = runs_more ms m
 runs_more (Rerun ∷ ms) m = omega (arith, runs_more ms m)
@@ -275,18 +275,3 @@ knows_verbs b at h honest is = go h (held_at (IsSeen b.base.plain b.steps) b.hel
     go Loss seen = tt
     go (Holds g None) seen = λ within. absurd within
     go (Holds g (Some k)) seen = λ within. let P : World → Type 0 = λ x. SameVerbs x b.world.plain in subst P (sym seen) (honest.steady k within.0 within.1)
-
--- ---- a guess that was found on the world as it is
-
--- it is committed where the next position holds nothing, as though it had been there
-pub found_keeps : (b : BoardState) (at : ℕ) (s : Step) (g : Guessed) (w : Counted) (os : List Outcome) (ms : List Mark)
-    → IsHonest b → at ≡ length b.outcomes → slice_get b.steps at ≡ Some s → slice_get b.held at ≡ Some Empty → g.step ≡ s → IsRight g → Agrees b.world.plain g.reads
-    → w ≡ record { plain = after_guess g b.world.plain; opened = b.world.opened } → os ≡ b.outcomes ++ g.outcome ∷ [] → ms ≡ b.marks ++ Kept ∷ []
-    → IsHonest record { base = b.base; steps = b.steps; world = w; outcomes = os; marks = ms; held = b.held; undone = b.undone; since = at + 1 }
-found_keeps b at s g w os ms honest here s_at free same right agrees w_is os_is ms_is =
-    let h : BoardState = with_held b at (Holds g None) in
-    let held : IsHonest h = holding_keeps b at s (Holds g None) honest s_at (same, right) tt in
-    let c = commit_at h at s (Holds g None) w g.outcome Kept os ms (slice_set h.held at Empty) b.undone here s_at (set_get b.held at (Holds g None) Empty free)
-    (inl (agrees, w_is, refl, refl)) os_is ms_is refl refl (at + 1) (inr (omega (arith, here))) in
-    let P : List Held → Type 0 = λ x. IsHonest record { base = b.base; steps = b.steps; world = w; outcomes = os; marks = ms; held = x; undone = b.undone; since = at + 1 } in
-    subst P (set_back b.held at Empty (Holds g None) free) (commits_keeps h _ held c)

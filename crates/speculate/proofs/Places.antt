@@ -106,11 +106,6 @@ set_back (y ∷ hs) zero h e is =
     let f : h ≡ y = cc in rw f refl
 set_back (y ∷ hs) (suc k) h e is = ap (λ (t : List Held). y ∷ t) (set_back hs k h e is)
 
-pub set_get : (hs : List Held) (k : ℕ) (h e : Held) → slice_get hs k ≡ Some e → slice_get (slice_set hs k h) k ≡ Some h
-set_get [] k h e is = cc
-set_get (y ∷ hs) zero h e is = refl
-set_get (y ∷ hs) (suc k) h e is = set_get hs k h e is
-
 pub length_set : (hs : List Held) (k : ℕ) (h : Held) → length (slice_set hs k h) ≡ length hs
 length_set [] k h = refl
 length_set (y ∷ hs) zero h = refl

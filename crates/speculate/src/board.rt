@@ -340,49 +340,6 @@ impl Board {
         rerun <= kept.saturating_mul(3)
     }
 
-    // Commits the next position, which holds nothing, by a guess for it that was found on the world as it is. Any other is let go.
-    fn commit_found(&mut self, position: usize, guess: Guess) -> bool
-        requires { guess.before ≡ self.old.world.plain }
-        ensures { (self.new.base ≡ self.old.base) × (self.new.steps ≡ self.old.steps) }
-    {
-        let at = self.count();
-        if position != at || !self.is_free(at) {
-            return false;
-        }
-        if !self.is_for(at, &guess) {
-            return false;
-        }
-        if self.outcomes.reserve(1).is_err() || self.marks.reserve(1).is_err() {
-            return false;
-        }
-        guess.know();
-        match guess.take_over(&mut self.world) {
-            Some(outcome) => {
-                self.outcomes.push_reserved(outcome);
-                self.marks.push_reserved(Mark::Kept);
-                self.since = at + 1;
-                true
-            }
-            None => false,
-        }
-    }
-
-    /// Commits the next position by a guess that was found on the world as it is: the world then is what it became there. Where that cannot be, the
-    /// position is lost.
-    pub(crate) fn hand_in_found(&mut self, alloc: Global, position: usize, guess: Option<Guess>)
-        requires { IfSome guess (λ g. g.before ≡ self.old.world.plain) }
-        ensures { (self.new.base ≡ self.old.base) × (self.new.steps ≡ self.old.steps) }
-    {
-        let is_done = match guess {
-            Some(guess) => self.commit_found(position, guess),
-            None => false,
-        };
-        if !is_done {
-            self.fill(position);
-            let _ = self.advance(alloc);
-        }
-    }
-
     /// Loses each position that is not committed yet and holds nothing.
     pub(crate) fn lose_rest(&mut self)
         ensures same { SameRun self.old self.new }

@@ -1,7 +1,7 @@
 //! Guesses.
 ghost use Rattle.std.specs.Prelude.{◌≡◌, ◌↔◌, map, IsTrue, IfOk, IfErr, MatchOption};
 ghost use Rattle.spec_world.specs.World.{World as Plain};
-ghost use Rattle.spec_world.specs.Questions.{Agrees};
+ghost use Rattle.spec_world.specs.Questions.{Agrees, apply_all};
 ghost use Rattle.view.specs.Sound.{IsSound};
 ghost use Rattle.view.specs.Meanings.{change_of};
 ghost use Rattle.speculate.specs.Right.{IsRight, after_guess};
@@ -137,13 +137,21 @@ impl Guess {
         } = self;
         match after {
             Some(draft) => world.replace(draft),
-            None => {
-                let prepared = world.prepare(&changes).ok()?;
-                world.commit(prepared);
-            }
+            None => commit_changes(world, &changes)?,
         }
         Some(outcome)
     }
+}
+
+// The world has these changes. After want of memory nothing has changed.
+#[inline(never)]
+fn commit_changes(world: &mut World, changes: &Changes) -> Option<()>
+    requires { IsSound (apply_all changes.now world.old.plain) }
+    ensures { MatchOption result (world.new ≡ world.old) (λ _. world.new ≡ record { plain = apply_all changes.now world.old.plain; opened = world.old.opened }) }
+{
+    let prepared = world.prepare(changes).ok()?;
+    world.commit(prepared);
+    Some(())
 }
 
 // Whether no change is to verbs.

@@ -1,46 +1,126 @@
-//! A list on the caller's thread alone, without a lock and without threads.
-ghost use Rattle.std.specs.Prelude.{◌≡◌, ◌≤◌, ◌<◌, ◌+◌, length, take, IfOk, IfErr};
-ghost use Rattle.spec_world.specs.Step.{AllInRange};
-ghost use Rattle.spec_moo.specs.Steps.{play};
+//! A list on the caller's thread alone, without a board, without a lock and without threads.
+ghost use Rattle.std.specs.Prelude.{◌≡◌, ◌≤◌, ◌+◌, [], ◌∷◌, length, take, vec_len, vec_capacity, IsTrue, IfOk, IfErr, OnErr, MatchOption};
+ghost use Rattle.spec_world.specs.Step.{AllInRange, in_range};
+ghost use Rattle.spec_moo.specs.Steps.{play1, play};
 ghost use Rattle.speculate.specs.BoardState.{runs};
 
-use crate::board::Board;
-use crate::finish::conclude;
-use crate::gate::{Gate, guess_at};
+use crate::gate::Gate;
+use crate::held::Mark;
 use crate::report::Report;
-use std::alloc::Global;
-use task_step::partial::{Partial, Refusal};
+use std::alloc::{AllocError, Global};
+use task_run::list::play_step;
+use task_step::outcome::Outcome;
+use task_step::partial::{Partial, Refusal, refused};
 use task_step::step::Step;
+use world::worlds::World;
 
-/// Plays a board to its end, each step guessed on the world that those before it left.
+/// Plays the steps one after another, each guessed on the world that those before it left. After want of memory, the first part was run.
 pub(crate) fn play_here<G: Gate>(
     alloc: Global,
     gate: &G,
-    mut board: Board,
+    mut world: World,
     steps: &[Step],
 ) -> Result<Report, Partial>
     requires { AllInRange steps.now }
-    ensures ok { IfOk result (λ r. play board.base.plain board.steps ≡ (r.world.plain, r.outcomes.items)) }
-    ensures count { IfOk result (λ r. (length r.outcomes.items ≡ length board.steps) × (length r.marks.items ≡ length board.steps)) }
-    ensures part { IfErr result (λ p. play board.base.plain (take p.count board.steps) ≡ (p.world.plain, p.outcomes.items)) }
-    ensures err { IfErr result (λ p. (p.count ≡ length p.outcomes.items) × (p.count ≤ length board.steps) × (p.refusal ≡ Refusal.Memory)) }
-    ensures views { IfOk result (λ r. board.base.opened + runs r.marks.items ≤ r.world.opened) }
+    ensures ok { IfOk result (λ r. play world.plain steps.now ≡ (r.world.plain, r.outcomes.items)) }
+    ensures count { IfOk result (λ r. (length r.outcomes.items ≡ length steps.now) × (length r.marks.items ≡ length steps.now)) }
+    ensures part { IfErr result (λ p. play world.plain (take p.count steps.now) ≡ (p.world.plain, p.outcomes.items)) }
+    ensures err { IfErr result (λ p. (p.count ≡ length p.outcomes.items) × (p.count ≤ length steps.now) × (p.refusal ≡ Refusal.Memory)) }
+    ensures views { IfOk result (λ r. world.opened + runs r.marks.items ≤ r.world.opened) }
 {
-    'step: for at in 0..steps.len() {
-        step_here(alloc, gate, &mut board, steps, at);
+    let (mut outcomes, mut marks) = match places(alloc, steps.len()) {
+        Ok(places) => places,
+        Err(_) => return Err(refused(alloc, Refusal::Memory, world)),
+    };
+    for (at, step) in steps.iter().enumerate() {
+        match step_here(alloc, gate, &mut world, step, at) {
+            Ok((outcome, mark)) => {
+                outcomes.push_reserved(outcome);
+                marks.push_reserved(mark);
+            }
+            Err(_) => {
+                let count = outcomes.len();
+                return Err(Partial {
+                    refusal: Refusal::Memory,
+                    world,
+                    outcomes,
+                    count,
+                });
+            }
+        }
     }
-    conclude(alloc, board)
+    Ok(Report {
+        world,
+        outcomes,
+        marks,
+    })
 }
 
-// One position, guessed on the world as it is.
-fn step_here<G: Gate>(alloc: Global, gate: &G, board: &mut Board, steps: &[Step], at: usize)
-    requires range { AllInRange steps.now }
-    requires at { at < length steps.now }
-    ensures { (board.new.base ≡ board.old.base) × (board.new.steps ≡ board.old.steps) }
+// Room for the outcomes and the marks.
+fn places(alloc: Global, count: usize) -> Result<(Vec<Outcome>, Vec<Mark>), AllocError>
+    ensures empty { IfOk result (λ r. (r.0.items ≡ []) × (r.1.items ≡ [])) }
+    ensures none { IfOk result (λ r. (vec_len r.0 ≡ 0) × (vec_len r.1 ≡ 0)) }
+    ensures room { IfOk result (λ r. (count ≤ vec_capacity r.0) × (count ≤ vec_capacity r.1)) }
 {
-    let guess = match board.snapshot() {
-        Ok(snapshot) => guess_at(alloc, gate, &snapshot, steps, at),
-        Err(_) => None,
+    let outcomes = Vec::with_capacity(alloc, count)?;
+    let marks = Vec::with_capacity(alloc, count)?;
+    Ok((outcomes, marks))
+}
+
+// One step: its guess is kept, or it is run on the world. After an error the world is as it was.
+#[inline(always)]
+fn step_here<G: Gate>(
+    alloc: Global,
+    gate: &G,
+    world: &mut World,
+    step: &Step,
+    at: usize,
+) -> Result<(Outcome, Mark), AllocError>
+    requires { IsTrue (in_range step.now) }
+    ensures ok { IfOk result (λ r. play1 world.old.plain step.now ≡ (world.new.plain, r.0)) }
+    ensures err { OnErr result (world.new.plain ≡ world.old.plain) }
+    ensures views { IfOk result (λ r. world.new.opened ≡ world.old.opened + runs (r.1 ∷ [])) }
+{
+    match keep_here(alloc, gate, world, step, at) {
+        Some(outcome) => Ok((outcome, Mark::Kept)),
+        None => run_here(alloc, world, step),
+    }
+}
+
+// Where a guess comes for the step, the world becomes what it became there.
+#[inline(always)]
+fn keep_here<G: Gate>(
+    alloc: Global,
+    gate: &G,
+    world: &mut World,
+    step: &Step,
+    at: usize,
+) -> Option<Outcome>
+    requires { IsTrue (in_range step.now) }
+    ensures { MatchOption result (world.new ≡ world.old) (λ o. (play1 world.old.plain step.now ≡ (world.new.plain, o)) × (world.new.opened ≡ world.old.opened)) }
+{
+    world.know();
+    let Ok(snapshot) = world.snapshot() else {
+        return None;
     };
-    board.hand_in_found(alloc, at, guess);
+    let Ok(guess) = gate.guess(alloc, at, &snapshot, step) else {
+        return None;
+    };
+    if !guess.is_for(step) {
+        return None;
+    }
+    guess.know();
+    guess.take_over(world)
+}
+
+// The step is run on the world.
+#[inline(never)]
+fn run_here(alloc: Global, world: &mut World, step: &Step) -> Result<(Outcome, Mark), AllocError>
+    requires { IsTrue (in_range step.now) }
+    ensures ok { IfOk result (λ r. play1 world.old.plain step.now ≡ (world.new.plain, r.0)) }
+    ensures err { OnErr result (world.new.plain ≡ world.old.plain) }
+    ensures views { IfOk result (λ r. world.new.opened ≡ world.old.opened + runs (r.1 ∷ [])) }
+{
+    let outcome = play_step(alloc, world, step)?;
+    Ok((outcome, Mark::Lost))
 }

@@ -55,20 +55,20 @@ pub fn run_list<G: Gate, R: Threads + Wait + Sync>(
     if !may_play(world.next(), steps) {
         return Err(refused(alloc, Refusal::Numbers, world));
     }
+    if workers == 1 || steps.len() <= 1 {
+        return play_here(alloc, gate, world, steps);
+    }
     let Ok(list) = copied(alloc, steps) else {
         return Err(refused(alloc, Refusal::Memory, world));
+    };
+    let size = batch_size(steps.len(), workers);
+    let batches = batch_count(steps.len(), size);
+    let Ok((claims, seats)) = Claims::new(alloc, batches, workers.min(steps.len())) else {
+        return play_here(alloc, gate, world, steps);
     };
     let board = match Board::new(alloc, world, list) {
         Ok(board) => board,
         Err((refusal, world)) => return Err(refused(alloc, refusal, world)),
-    };
-    if workers == 1 || steps.len() <= 1 {
-        return play_here(alloc, gate, board, steps);
-    }
-    let size = batch_size(steps.len(), workers);
-    let batches = batch_count(steps.len(), size);
-    let Ok((claims, seats)) = Claims::new(alloc, batches, workers.min(steps.len())) else {
-        return play_here(alloc, gate, board, steps);
     };
     play_by_claims::<Brand, G, R>(rt, alloc, gate, board, &claims, seats, steps, size)
 }

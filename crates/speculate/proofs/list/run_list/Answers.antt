@@ -22,7 +22,7 @@ returns-in-Err-clause-part g c =
     let r = c.refused-in-Err in
     nothing_played c.args.world r.result.world c.args.steps.now r.result.count r.result.outcomes.items r.ensures.3 (r.ensures.1 ∙ c.in-Err.ensures.err) r.ensures.2
 
-pub new-requires-2 : goal.new-requires-2
-new-requires-2 g c =
+pub new-requires : goal.new-requires
+new-requires g c =
     let right : RunsOn c.args.world.plain c.args.steps.now × AllInRange c.args.steps.now = rw c.next.ensures at (c.if-not-may_play.ensures.0 refl) in
     omega (arith, runs_few c.args.world.plain c.args.steps.now right.0 right.1)

@@ -37,8 +37,12 @@ queued_line q = codes "+ " ++ (signed_decimal q.id ++ (codes " " ++ (due_text q.
 abbrev pub closed_line : ℤ → Text
 closed_line c = codes "! " ++ (signed_decimal c ++ 10 ∷ [])
 
+-- the line of a step that ended so, with the ticks that it used
+abbrev pub ended_line : ℕ → Result → ℕ → Text
+ended_line n r t = codes "step " ++ (decimal n ++ (codes " " ++ (result_text r ++ (codes " ticks " ++ (decimal t ++ 10 ∷ [])))))
+
 abbrev pub step_line : ℕ → Outcome → Text
-step_line n o = codes "step " ++ (decimal n ++ (codes " " ++ (result_text o.result ++ (codes " ticks " ++ (decimal o.ticks_used ++ 10 ∷ [])))))
+step_line n o = ended_line n o.result o.ticks_used
 
 -- the lines of a step with this number
 abbrev pub outcome_lines : ℕ → Outcome → Text

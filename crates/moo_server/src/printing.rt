@@ -2,9 +2,11 @@
 ghost use Rattle.std.specs.Prelude.{◌≡◌, ◌≤◌, ◌∷◌, ◌++◌, [], length, OnOk};
 ghost use Rattle.std.specs.List.{flat_map};
 ghost use Rattle.std.specs.Io.KnownBytes.{Appends};
+ghost use Rattle.spec_world.specs.Outcome.{value_of};
 ghost use Rattle.task_step.specs.OutcomeView.{result_of, lines_of, due_of, queued_of, closed_of};
-ghost use Rattle.moo_server.specs.Printed.{result_text, step_line, told_line, due_text, queued_line, closed_line, outcome_lines, printed};
+ghost use Rattle.moo_server.specs.Printed.{result_text, step_line, ended_line, told_line, due_text, queued_line, closed_line, outcome_lines, printed};
 
+use moo_value::value::Value;
 use moo_value::write::Literal;
 use std::io;
 use std::io::Write;
@@ -37,9 +39,27 @@ pub fn print_outcome<W: Write>(out: &mut W, number: u32, outcome: &Outcome) -> i
 fn print_result<W: Write>(out: &mut W, number: u32, outcome: &Outcome) -> io::Result<()>
     ensures { OnOk result (Appends (W.contents out.old) (W.contents out.new) (step_line number outcome.now)) }
 {
+    match &outcome.result {
+        Ending::Value(value) => print_value(out, number, value, outcome.ticks),
+        ending => print_other(out, number, ending, outcome.ticks),
+    }
+}
+
+// The line of a step whose task gave a value.
+fn print_value<W: Write>(out: &mut W, number: u32, value: &Value, ticks: u32) -> io::Result<()>
+    ensures { OnOk result (Appends (W.contents out.old) (W.contents out.new) (ended_line number (value_of value.now) ticks)) }
+{
+    let literal = Literal(value);
+    writeln!(out, "step {number} value {literal} ticks {ticks}")
+}
+
+// The line of a step, however it ended.
+#[inline(never)]
+fn print_other<W: Write>(out: &mut W, number: u32, ending: &Ending, ticks: u32) -> io::Result<()>
+    ensures { OnOk result (Appends (W.contents out.old) (W.contents out.new) (ended_line number (result_of ending.now) ticks)) }
+{
     write!(out, "step {number} ")?;
-    print_ending(out, &outcome.result)?;
-    let ticks = outcome.ticks;
+    print_ending(out, ending)?;
     writeln!(out, " ticks {ticks}")
 }
 

@@ -1,4 +1,4 @@
-use Rattle.std.proofs.Common.{◌≡◌, ◌-◌, ◌≤◌, length, drop, arith, length-take}
+use Rattle.std.proofs.Common.{◌-◌, ◌≤◌, drop, arith, length-take}
 use Rattle.moo_server.proofs.Plays.{none_played, part_runs_on, part_played, only_memory, ended_in_part}
 use Rattle.moo_server.proofs.parts.play_steps.Goals as goal
 

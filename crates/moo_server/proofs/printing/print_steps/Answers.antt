@@ -1,7 +1,5 @@
-use Rattle.std.proofs.Common.{◌≡◌, ◌∙◌, length, take, ap, sym, subst, arith}
-use Rattle.std.specs.Io.KnownBytes.{Appends}
+use Rattle.std.proofs.Common.{◌≡◌, ◌∙◌, length, take, ap, arith}
 use Rattle.spec_world.specs.Step.{Step}
-use Rattle.spec_world.specs.Outcome.{Outcome}
 use Rattle.moo_server.specs.Printed.{outcome_lines, printed}
 use Rattle.moo_server.proofs.Writing.{kept_on, one_step_more, whole_printed, written_as, on_any}
 use Rattle.moo_server.proofs.printing.print_steps.Goals as goal

@@ -1,7 +1,7 @@
 //! What a draft gets from the lines that stand before the tasks: the front, the links and the objects.
 #![tactic(auto)]
 
-ghost use Rattle.std.specs.Prelude.{◌≡◌, ◌≤◌, true, List, [], ◌∷◌, ◌++◌, length, Some, OnOk, IsTrue, codes};
+ghost use Rattle.std.specs.Prelude.{◌≡◌, ◌↔◌, ◌≤◌, List, [], ◌∷◌, ◌++◌, length, Some, OnOk, IsTrue, codes};
 ghost use Rattle.std.specs.List.{list_all};
 ghost use Rattle.spec_value.specs.Datum as datum;
 ghost use Rattle.spec_world.specs.World.{World};
@@ -67,7 +67,7 @@ fn read_header(lines: &mut Lines<'_>) -> Result<(), DecodeError>
 
 // Whether the first line says what the text is, and the number of its format.
 fn is_header(line: &[u8]) -> bool
-    ensures { line.now ≡ codes "MOO-CHECKPOINT 1" → result ≡ true }
+    ensures { IsTrue result ↔ line.now ≡ codes "MOO-CHECKPOINT 1" }
 {
     match line {
         b"MOO-CHECKPOINT 1" => true,

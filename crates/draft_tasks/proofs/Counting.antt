@@ -1,5 +1,5 @@
 -- Tasks one by one.
-use Rattle.std.proofs.Common.{◌≡◌, ◌≤◌, ◌+◌, ℤ, List, [], ◌∷◌, ◌++◌, length, arith, append_assoc, length-append}
+use Rattle.std.proofs.Common.{◌≡◌, ◌≤◌, ℤ, List, [], ◌∷◌, ◌++◌, length, arith, append_assoc, length-append}
 use Rattle.spec_value.specs.Datum.{Text}
 use Rattle.spec_world.specs.World.{Task}
 use Rattle.spec_world.specs.Checkpoint.{task_lines, each_task}

@@ -1,5 +1,5 @@
 -- The lines of an object, part by part, and what is known of the parts of an object that is read.
-use Rattle.std.proofs.Common.{◌≡◌, ◌≤◌, ◌+◌, ℤ, ◌&&◌, List, [], ◌∷◌, ◌++◌, length, Some, IsTrue, ap, ◌∙◌, codes, arith, append_assoc, length-append}
+use Rattle.std.proofs.Common.{◌≡◌, ◌≤◌, ℤ, ◌&&◌, List, [], ◌∷◌, ◌++◌, length, Some, IsTrue, ap, ◌∙◌, codes, arith, append_assoc, length-append}
 use Rattle.std.specs.List.{list_all}
 use Rattle.std.specs.Fmt.{signed_decimal}
 use Rattle.spec_value.specs.Datum.{Text, is_text, in_number_range}

@@ -27,7 +27,9 @@ is_preposition_read (preposition_set n) = nat_le n 14
 abbrev pub is_verb_read : Verb → Bool
 is_verb_read v = verb_holds v && is_preposition_read v.preposition
 
+-- its values nest no deeper than literals that are read, and its verbs want sets of prepositions that there are
+abbrev pub is_object_in_reach : Object → Bool
+is_object_in_reach x = list_all (λ s. is_content_read (s.1).content) x.slots && list_all (λ v. is_preposition_read v.preposition) x.verbs
+
 abbrev pub is_object_read : ℤ × Object → Bool
-is_object_read e =
-    numbered_object_holds e
-    && (list_all (λ s. is_content_read (s.1).content) (e.1).slots && list_all (λ v. is_preposition_read v.preposition) (e.1).verbs)
+is_object_read e = numbered_object_holds e && is_object_in_reach e.1

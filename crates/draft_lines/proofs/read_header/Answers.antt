@@ -22,5 +22,5 @@ pub returns-else-is_header : goal.returns-else-is_header
 returns-else-is_header c = record {
   reads = λ rest l.
       let line = c.in_ok-line.ensures.reads (codes "MOO-CHECKPOINT 1") rest refl l in
-      absurd (cc (c.is_header.ensures line.0.0, c.if-is_header.false));
+      absurd (cc (c.is_header.ensures.1 line.0.0, c.if-is_header.false));
 }

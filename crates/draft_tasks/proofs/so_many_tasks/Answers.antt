@@ -1,4 +1,4 @@
-use Rattle.std.proofs.Common.{◌≡◌, ◌<◌, ℤ, suc, ◌+◌, Some, List, ◌++◌, length, take, drop, IsTrue, ap, subst, ◌∙◌, arith, is_some}
+use Rattle.std.proofs.Common.{◌≡◌, ◌<◌, ℤ, suc, ◌+◌, List, ◌++◌, length, take, drop, IsTrue, ap, subst, ◌∙◌, arith, is_some}
 use Rattle.std.proofs.lemmas.Result.{err_from_is_err_and}
 use Rattle.spec_value.specs.Datum.{in_number_range}
 use Rattle.spec_value.proofs.Entries.{first_holds, second_holds}

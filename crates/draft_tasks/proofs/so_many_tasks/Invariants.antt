@@ -1,4 +1,4 @@
-use Rattle.std.proofs.Common.{◌≡◌, ◌++◌, true, List, [], length, take, drop, IsTrue}
+use Rattle.std.proofs.Common.{◌≡◌, ◌++◌, List, [], length, take, drop, IsTrue}
 use Rattle.std.specs.List.{list_all}
 use Rattle.spec_value.specs.Datum.{Text}
 use Rattle.spec_world.specs.World.{World}

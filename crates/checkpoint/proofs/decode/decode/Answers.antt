@@ -1,7 +1,5 @@
-use Rattle.std.proofs.Common.{◌≡◌, ◌<◌, ◌^◌, Some, length, sym, subst, ap, ◌∙◌, arith}
+use Rattle.std.proofs.Common.{◌≡◌, ◌<◌, ◌^◌, length, arith}
 use Rattle.std.proofs.lemmas.Result.{err_from_is_err_and}
-use Rattle.spec_world.specs.Checkpoint.{world_lines}
-use Rattle.checkpoint_lines.specs.Rows.{Left}
 use Rattle.checkpoint_lines.proofs.Giving.{gives_passed}
 use Rattle.named_objects.proofs.Records.{some_is, none_is}
 use Rattle.world.specs.Counted.{Counted}

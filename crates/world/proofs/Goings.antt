@@ -30,6 +30,11 @@ told_now old new q is = subst (λ (t : Trace). IsTold old t q) (sym is) (record 
   );
 })
 
+-- what holds anyhow holds where there is a result
+pub on_ok : {A E P : Type 0} (result : Result A E) → P → OnOk result P
+on_ok (Ok a) h = h
+on_ok (Err e) h = tt
+
 -- what is known of the starts that are left once a question is asked
 pub goes_on : (old new : Trace) (q : Question) (a : Answer) → IsSound new.home → IsTold old new q → a ≡ ask (apply_all new.changes new.home) q
     → Tells IsStart world_now old new (λ w. ask w q ≡ a)

@@ -1,5 +1,6 @@
 //! What was read, each question once.
-ghost use Rattle.std.specs.Prelude.{◌≡◌, ◌++◌, ◌∷◌, [], map, Contains, IfSome, OnOk, OnErr};
+ghost use Rattle.std.specs.Prelude.{◌≡◌, ◌++◌, ◌∷◌, [], List, Some, map, option_map, Contains, IfSome, OnOk, OnErr};
+ghost use Rattle.spec_world.specs.Questions.{Read as Meant};
 ghost use Rattle.view.specs.Meanings.{question_of, answer_of};
 ghost use Rattle.view.specs.ReadMeaning.{read_of};
 
@@ -116,6 +117,15 @@ impl Asked {
             }
         }
         None
+    }
+
+    /// The answer of the last read.
+    #[inline(always)]
+    pub(crate) fn last(&self) -> Option<&Answer>
+        ensures { (rs : List Meant) → (r : Meant) → self.now ≡ rs ++ r ∷ [] → option_map (λ a. answer_of a.now) result ≡ Some r.answer }
+    {
+        let read = self.reads.as_slice().last()?;
+        Some(&read.answer)
     }
 
     // The index that a mark's place at a try names.

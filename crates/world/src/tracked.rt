@@ -1,8 +1,8 @@
 //! A view of a snapshot that keeps what was read.
-ghost use Rattle.std.specs.Prelude.{◌≡◌, ◌++◌, ◌∷◌, [], ℕ, false, None, Some, IfOk, OnOk, OnErr};
+ghost use Rattle.std.specs.Prelude.{◌≡◌, ◌++◌, ◌∷◌, [], ℕ, List, false, None, Some, IfOk, OnOk, OnErr};
 ghost use Rattle.std.specs.Option.{unwrap_or};
 ghost use Rattle.spec_world.specs.World.{World as Plain};
-ghost use Rattle.spec_world.specs.Questions.{ask, apply, apply_all, Agrees};
+ghost use Rattle.spec_world.specs.Questions.{ask, apply, apply_all, Agrees, Read};
 ghost use Rattle.view.specs.Meanings.{question_of, answer_of, change_of};
 ghost use Rattle.view.specs.Sound.{IsSound};
 ghost use Rattle.view.specs.Law.{Goes, Keeps};
@@ -95,17 +95,29 @@ impl<'s> Tracked<'s> {
         }
     }
 
-    // The snapshot's answer to a question of this mark is kept.
+    // The answer now to a question that was asked last.
+    #[inline(always)]
+    fn latest(&self, question: &Question) -> Result<Answer, AllocError>
+        requires { (rs : List Read) × (self.now.reads ≡ rs ++ record { question = question_of question.now; answer = ask self.now.home (question_of question.now) } ∷ []) }
+        ensures { IfOk result (λ a. answer_of a ≡ ask (apply_all self.now.changes self.now.home) (question_of question.now)) }
+    {
+        match self.reads.last() {
+            Some(home) => self.answer(question, home),
+            None => unreachable!(),
+        }
+    }
+
+    // A question of this mark is asked, and the snapshot's answer is kept.
+    #[inline(always)]
     #[tactic(auto, using(crate::proofs::History::agrees_more))]
-    fn keep(&mut self, mark: u64, question: &Question, home: Answer) -> Result<(), AllocError>
-        requires { answer_of home ≡ ask self.old.home (question_of question.now) }
+    fn keep(&mut self, mark: u64, question: &Question) -> Result<(), AllocError>
         ensures ok { OnOk result (self.new ≡ record (self.old) {
           reads = self.old.reads ++ record { question = question_of question.now; answer = ask self.old.home (question_of question.now) } ∷ [];
         }) }
         ensures known { IsSound self.new.home × Agrees self.new.home self.new.reads }
         ensures err { OnErr result (self.new ≡ self.old) }
     {
-        let _reads = &self.reads;
+        let home = self.snapshot.ask(question)?;
         let question = question.clone()?;
         self.reads.push(mark, question, home)?;
         Ok(())
@@ -117,12 +129,10 @@ impl<'s> Tracked<'s> {
         ensures told { OnOk result (IsTold self.old self.new (question_of question.now)) }
         ensures answer { IfOk result (λ a. answer_of a ≡ ask (apply_all self.new.changes self.new.home) (question_of question.now)) }
         ensures known { IsSound self.new.home × Agrees self.new.home self.new.reads }
-        ensures err { OnErr result (self.new ≡ self.old) }
+        ensures home { self.new.home ≡ self.old.home }
     {
-        let home = self.snapshot.ask(question)?;
-        let answer = self.answer(question, &home)?;
-        self.keep(mark, question, home)?;
-        Ok(answer)
+        self.keep(mark, question)?;
+        self.latest(question)
     }
 }
 

@@ -1,6 +1,6 @@
-use Rattle.std.proofs.Common.{◌≡◌, sym, ap, ◌∙◌, rules, w32, to_z, of_z}
+use Rattle.std.proofs.Common.{◌≡◌, sym, rules, w32, to_z, of_z}
 use Rattle.std.proofs.lemmas.Int.{to_z-of_z}
-use Rattle.spec_value.specs.Datum.{Text, text}
+use Rattle.spec_value.specs.Datum.{text}
 use Rattle.spec_world.specs.World.{object_at}
 use Rattle.spec_moo.specs.Properties.{write, write_object}
 use Rattle.view.specs.Law.{Goes}

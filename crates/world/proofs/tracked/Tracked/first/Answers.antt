@@ -1,5 +1,5 @@
-use Rattle.world.proofs.Goings.{told_now}
+use Rattle.world.proofs.Goings.{on_ok, told_now}
 use Rattle.world.proofs.tracked.Tracked.first.Goals as goal
 
 pub returns-clause-told : goal.returns-clause-told
-returns-clause-told c = told_now _ _ _ c.in_ok-keep.ensures.ok
+returns-clause-told c = on_ok c.latest.result (told_now _ _ _ c.in_ok-keep.ensures.ok)

@@ -129,10 +129,11 @@ def pipelined(link, answer, most):
 
 
 def many():
-    """Lines on 64 links on which nobody has logged in: each runs the verb that tells how to, and its answer is read while further lines are sent."""
+    """Lines on 64 links on which nobody has logged in: each runs the verb that tells how to, and its answer is read while further lines are sent. Where the
+    first link has all of its answers, the least that another one has is told as a share of them: 1 where all links are served alike."""
     links = [connect() for _ in range(64)]
     each, start = sized(4000, 4), time.perf_counter()
-    chooser, unsent, unread = selectors.DefaultSelector(), {}, {}
+    chooser, unsent, unread, share = selectors.DefaultSelector(), {}, {}, None
     for link in links:
         link.setblocking(False)
         chooser.register(link, selectors.EVENT_READ | selectors.EVENT_WRITE)
@@ -154,7 +155,9 @@ def many():
                 unread[link] -= len(piece)
                 if not unread[link]:
                     chooser.unregister(link)
+                    share = share if share is not None else 1 - max(unread.values()) / (each * len(GREETING))
     tell("lines on 64 links before a login", "steps/s", 64 * each / (time.perf_counter() - start))
+    tell("the same, the least served link's share of the first one's answers", "times", share)
     close(*links)
 
 

@@ -18,7 +18,7 @@ use crate::fault::{DecodeError, FaultKind};
 use crate::program::tree_of;
 use crate::row::Row;
 use line_fields::cut::cut_at;
-use line_fields::fields::split;
+use line_fields::fields::{split, split_first};
 use moo_tree::statement::Tree;
 use moo_value::text::Text;
 use std::alloc::Global;
@@ -89,7 +89,9 @@ impl<'a> Lines<'a> {
     ) -> Result<Row<'a>, DecodeError>
         ensures reads { (fs : List Field) (rest : List datum.Text) → IsTrue (is_word word.now) → IsTrue (are_fields fs) → length fs ≡ count → Left self.old (fields (word.now ∷ all_spelled fs) ∷ rest) → Reads result self.new rest (λ row. (row_fields row ≡ word.now ∷ all_spelled fs) × (length rest < 2 ^ 63)) }
     {
-        let row = self.next_row(alloc)?;
+        let line = self.next_line()?;
+        let fields = split_first(alloc, line, count)?;
+        let row = Row::new(self.count, fields)?;
         if row.has(word, count) {
             Ok(row)
         } else {

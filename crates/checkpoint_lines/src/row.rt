@@ -9,14 +9,15 @@ ghost use Rattle.spec_world.specs.World.{Object, Slot, Verb};
 ghost use Rattle.spec_world.specs.Checkpoint as written;
 ghost use Rattle.line_fields.specs.Bits.{flags_of, bits_of_slot, bits_of_verb};
 ghost use Rattle.line_fields.specs.Values.{is_readable, are_places};
-ghost use Rattle.checkpoint_lines.specs.Gives.{Gives};
+ghost use Rattle.checkpoint_lines.specs.Gives.{Gives, IsKnown};
 ghost use Rattle.checkpoint_lines.specs.Rows.{row_fields, field_at, is_filled};
 
 use crate::fault::{DecodeError, FaultKind};
 use line_fields::bits::{
     ObjectFlags, SlotBits, VerbBits, flag, object_flags, slot_bits, verb_bits,
 };
-use line_fields::held::{literal, objects_in, text_in, texts_in};
+use line_fields::fields::is_single;
+use line_fields::held::{literal, objects_in, text_literal, texts_in};
 use line_fields::number::{integer_between, natural, object, path};
 use moo_value::text::Text;
 use moo_value::value::Value;
@@ -25,7 +26,8 @@ use std::alloc::Global;
 // The greatest count of what follows.
 const GREATEST_COUNT: u64 = 9_223_372_036_854_775_807;
 
-/// A line in fields. The first has index 0; where no field is, it counts as one without a byte.
+/// A line in fields. The first has index 0; where no field is, it counts as one without a byte. The last may be several: then it is none
+/// of those that are read here, and the line's fault is Line.
 #[derive(Drop)]
 pub struct Row<'a> {
     line: usize,
@@ -48,11 +50,30 @@ impl<'a> Row<'a> {
         Ok(Row { line, fields })
     }
 
-    /// A fault of this line.
+    /// A fault of this line: Line where what stands as its last field is several.
     pub fn fault(&self, kind: FaultKind) -> DecodeError {
+        let kind = if self.is_cut() { kind } else { FaultKind::Line };
         DecodeError::Line {
             line: self.line,
             kind,
+        }
+    }
+
+    // Whether the last field is no more than one.
+    fn is_cut(&self) -> bool {
+        match self.fields.as_slice() {
+            [.., last] => is_single(last),
+            [] => true,
+        }
+    }
+
+    // What was found, or a fault of this line.
+    fn known<T>(&self, found: Option<T>, kind: FaultKind) -> Result<T, DecodeError>
+        ensures { IsKnown found result }
+    {
+        match found {
+            Some(found) => Ok(found),
+            None => Err(self.fault(kind)),
         }
     }
 
@@ -84,7 +105,7 @@ impl<'a> Row<'a> {
     pub fn number(&self, index: usize, least: u64, most: u64) -> Result<u64, DecodeError>
         ensures reads { (n : ℕ) → least ≤ n → n ≤ most → field_at (row_fields self.now) index ≡ decimal n → result ≡ Ok n }
     {
-        natural(self.field(index), least, most).ok_or(self.fault(FaultKind::Number))
+        self.known(natural(self.field(index), least, most), FaultKind::Number)
     }
 
     /// How many of something follow. Else fault Number.
@@ -98,42 +119,45 @@ impl<'a> Row<'a> {
     pub fn integer(&self, index: usize, least: i32, most: i32) -> Result<i32, DecodeError>
         ensures reads { (z : ℤ) → IsTrue (in_number_range z) → least ≤ℤ z → z ≤ℤ most → field_at (row_fields self.now) index ≡ signed_decimal z → result ≡ Ok z }
     {
-        integer_between(self.field(index), least, most).ok_or(self.fault(FaultKind::Number))
+        self.known(
+            integer_between(self.field(index), least, most),
+            FaultKind::Number,
+        )
     }
 
     /// An object, `#` before its number. Else fault Number.
     pub fn object(&self, index: usize) -> Result<i32, DecodeError>
         ensures reads { (z : ℤ) → IsTrue (in_number_range z) → field_at (row_fields self.now) index ≡ written.object_text z → result ≡ Ok z }
     {
-        object(self.field(index)).ok_or(self.fault(FaultKind::Number))
+        self.known(object(self.field(index)), FaultKind::Number)
     }
 
     /// A flag, 0 or 1. Else fault Number.
     pub fn flag(&self, index: usize) -> Result<bool, DecodeError>
         ensures reads { (b : Bool) → field_at (row_fields self.now) index ≡ written.flag b → result ≡ Ok b }
     {
-        flag(self.field(index)).ok_or(self.fault(FaultKind::Number))
+        self.known(flag(self.field(index)), FaultKind::Number)
     }
 
     /// The flags of an object. Else fault Number.
     pub fn object_flags(&self, index: usize) -> Result<ObjectFlags, DecodeError>
         ensures reads { (x : Object) → field_at (row_fields self.now) index ≡ written.flags_text x → result ≡ Ok (flags_of x) }
     {
-        object_flags(self.field(index)).ok_or(self.fault(FaultKind::Number))
+        self.known(object_flags(self.field(index)), FaultKind::Number)
     }
 
     /// The bits of a slot. Else fault Number.
     pub fn slot_bits(&self, index: usize) -> Result<SlotBits, DecodeError>
         ensures reads { (s : Slot) → field_at (row_fields self.now) index ≡ written.slot_bits s → result ≡ Ok (bits_of_slot s) }
     {
-        slot_bits(self.field(index)).ok_or(self.fault(FaultKind::Number))
+        self.known(slot_bits(self.field(index)), FaultKind::Number)
     }
 
     /// The bits of a verb. Else fault Number.
     pub fn verb_bits(&self, index: usize) -> Result<VerbBits, DecodeError>
         ensures reads { (v : Verb) → field_at (row_fields self.now) index ≡ written.verb_bits v → result ≡ Ok (bits_of_verb v) }
     {
-        verb_bits(self.field(index)).ok_or(self.fault(FaultKind::Number))
+        self.known(verb_bits(self.field(index)), FaultKind::Number)
     }
 
     /// The path to a call, the outermost part first: its part numbers with dots between them, or 0 for none. Else fault Number.
@@ -141,7 +165,7 @@ impl<'a> Row<'a> {
         ensures reads { (ns : List ℕ) → IsTrue (are_places ns) → field_at (row_fields self.now) index ≡ written.path (map decimal ns) → Gives result (λ v. v.items ≡ ns) }
     {
         let found = path(alloc, self.field(index))?;
-        found.ok_or(self.fault(FaultKind::Number))
+        self.known(found, FaultKind::Number)
     }
 
     /// A value, by its literal. Else fault Value.
@@ -149,16 +173,15 @@ impl<'a> Row<'a> {
         ensures reads { (v : Datum) → IsTrue (is_readable v) → field_at (row_fields self.now) index ≡ text_of.literal v → Gives result (λ x. x ≡ v) }
     {
         let found = literal(alloc, self.field(index))?;
-        found.ok_or(self.fault(FaultKind::Value))
+        self.known(found, FaultKind::Value)
     }
 
     /// A text, by its literal. Else fault Value.
     pub fn text(&self, alloc: Global, index: usize) -> Result<Text, DecodeError>
         ensures reads { (t : datum.Text) → IsTrue (is_text t) → field_at (row_fields self.now) index ≡ text_of.literal (datum.text t) → Gives result (λ x. x ≡ t) }
     {
-        let value = self.value(alloc, index)?;
-        let found = text_in(alloc, &value)?;
-        found.ok_or(self.fault(FaultKind::Value))
+        let found = text_literal(alloc, self.field(index))?;
+        self.known(found, FaultKind::Value)
     }
 
     /// A list of objects, by its literal. Else fault Value.
@@ -167,7 +190,7 @@ impl<'a> Row<'a> {
     {
         let value = self.value(alloc, index)?;
         let found = objects_in(alloc, &value)?;
-        found.ok_or(self.fault(FaultKind::Value))
+        self.known(found, FaultKind::Value)
     }
 
     /// A list of texts, by its literal. Else fault Value.
@@ -176,7 +199,7 @@ impl<'a> Row<'a> {
     {
         let value = self.value(alloc, index)?;
         let found = texts_in(alloc, &value)?;
-        found.ok_or(self.fault(FaultKind::Value))
+        self.known(found, FaultKind::Value)
     }
 }
 

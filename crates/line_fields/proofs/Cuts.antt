@@ -1,5 +1,5 @@
 -- A line that is cut field by field.
-use Rattle.std.proofs.Common.{◌≡◌, List, [], ◌∷◌, ◌++◌, IsTrue, true, refl, ap, ◌∙◌, append_assoc}
+use Rattle.std.proofs.Common.{◌≡◌, ℕ, suc, arith, length, length-append, List, [], ◌∷◌, ◌++◌, IsTrue, true, refl, ap, ◌∙◌, append_assoc}
 use Rattle.spec_value.specs.Datum.{Text}
 use Rattle.spec_value.proofs.Entries.{first_holds, second_holds}
 use Rattle.spec_world.specs.Checkpoint.{fields}
@@ -18,6 +18,10 @@ CutSoFar line cut rest = (f : Field) (fs : List Field) → IsTrue (are_fields (f
 
 pub cut_begun : (line : Text) → CutSoFar line [] line
 cut_begun line f fs h e = record { first = f; others = fs; are = h; told = refl; left = e }
+
+spelled_length : (fs : List Field) → length (all_spelled fs) ≡ length fs
+spelled_length [] = refl
+spelled_length (f ∷ fs) = ap suc (spelled_length fs)
 
 module _ (f : Field) (fs : List Field) (rest : Text) (cut : List Text) where
   -- one more, where another one stands behind it
@@ -44,3 +48,15 @@ module _ (f : Field) (fs : List Field) (rest : Text) (cut : List Text) where
       step : (g : Field) (gs : List Field) → IsTrue (are_fields (g ∷ gs)) → cut ++ all_spelled (g ∷ gs) ≡ all_spelled (f ∷ fs) → rest ≡ fields (all_spelled (g ∷ gs)) → cut ++ rest ∷ [] ≡ all_spelled (f ∷ fs)
       step g [] are told left = ap (λ t. cut ++ t ∷ []) left ∙ told
       step g (k ∷ ks) are told left = absurd (between g (fields (all_spelled (k ∷ ks))) (first_holds (is_field g) (are_fields (k ∷ ks)) are) left)
+
+  -- the last one, where so many were cut off
+  pub cut_counted : (n : ℕ) → Behind f fs cut rest → length cut ≡ n → length fs ≡ n → cut ++ rest ∷ [] ≡ all_spelled (f ∷ fs)
+  cut_counted n b l m = step b.first b.others b.told b.left
+    where
+      step : (g : Field) (gs : List Field) → cut ++ all_spelled (g ∷ gs) ≡ all_spelled (f ∷ fs) → rest ≡ fields (all_spelled (g ∷ gs)) → cut ++ rest ∷ [] ≡ all_spelled (f ∷ fs)
+      step g [] told left = ap (λ t. cut ++ t ∷ []) left ∙ told
+      step g (k ∷ ks) told left =
+          let room : length (cut ++ all_spelled (g ∷ k ∷ ks)) ≡ length (all_spelled (f ∷ fs)) = ap length told in
+          let parts = length-append cut (all_spelled (g ∷ k ∷ ks)) in
+          let all = spelled_length (f ∷ fs) in
+          absurd (omega (arith, room, parts, all, l, m))

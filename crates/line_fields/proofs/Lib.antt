@@ -9,3 +9,4 @@ pub mod Seams
 pub mod Cuts
 pub mod Dots
 pub mod Readable
+pub mod Quotes

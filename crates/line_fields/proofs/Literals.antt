@@ -1,5 +1,5 @@
 -- A literal is a text of printed characters.
-use Rattle.std.proofs.Common.{ℕ, suc, ℤ, pos, negsuc, [], ◌∷◌, IsTrue, Bool, true, false, ◌==◌, ◌||◌, if◌then◌else◌, refl, arith}
+use Rattle.std.proofs.Common.{ℕ, ◌≤◌, suc, ℤ, pos, negsuc, [], ◌∷◌, IsTrue, Bool, true, false, ◌==◌, ◌||◌, if◌then◌else◌, refl, arith}
 use Rattle.std.proofs.lemmas.Bool.Decides.{nat_tests}
 use Rattle.std.specs.Fmt.{decimal, signed_decimal}
 use Rattle.spec_value.specs.Datum.{Text, is_text, is_character, ErrorCode, no_error, type_mismatch, zero_division, permission_denied, property_not_found, verb_not_found, variable_not_found, invalid_indirection, recursive_move, too_many_calls, range_error, wrong_argument_count, move_refused, invalid_argument, limit_exceeded, float_error, Datum, integer, object, text, error, list, Data, no_data, item, is_value, are_values}
@@ -8,6 +8,8 @@ use Rattle.spec_value.proofs.Entries.{first_holds, second_holds, both_hold}
 use Rattle.spec_program.specs.Names.{is_digit}
 use Rattle.spec_checkpoint.proofs.Numbers.{are_digits, decimal_digits}
 use Rattle.moo_value.proofs.Characters.{is_text-append}
+use Rattle.moo_value.specs.Depth.{depth}
+use Rattle.line_fields.specs.Values.{nests_no_deeper}
 
 digit_character : (c : ℕ) → IsTrue (is_digit c) → IsTrue (is_character c)
 digit_character c h = grind (arith, nat_tests)
@@ -64,3 +66,6 @@ mutual
   more_is_text : (xs : Data) → IsTrue (are_values xs) → IsTrue (is_text (more_text xs))
   more_is_text no_data h = refl
   more_is_text (item x xs) h = is_text-append (literal x) (more_text xs) (literal_text x (first_holds (is_value x) (are_values xs) h)) (more_is_text xs (second_holds (is_value x) (are_values xs) h))
+
+pub no_deeper : (v : Datum) → IsTrue (nests_no_deeper v) → depth v ≤ 100000
+no_deeper v h = grind (arith, nat_tests)

@@ -3,3 +3,4 @@ pub mod Bits
 pub mod Values
 pub mod Places
 pub mod Numbers
+pub mod Quoted

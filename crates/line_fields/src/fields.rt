@@ -75,6 +75,31 @@ pub fn split(alloc: Global, line: &[u8]) -> Result<Vec<&[u8]>, AllocError>
     Ok(fields)
 }
 
+/// The fields of a line that has so many behind the first. The last is all that stands behind the others, which may be several fields.
+pub fn split_first(alloc: Global, line: &[u8], count: usize) -> Result<Vec<&[u8]>, AllocError>
+    ensures reads { (f : Field) (fs : List Field) → IsTrue (are_fields (f ∷ fs)) → length fs ≡ count → line.now ≡ joined (all_spelled (f ∷ fs)) → IfOk result (λ v. map (λ b. b.now) v.items ≡ all_spelled (f ∷ fs)) }
+{
+    let mut fields = Vec::with_capacity(alloc, count.saturating_add(1))?;
+    let mut rest = line;
+    'fields: for _field in 0..count {
+        let Some((field, behind)) = first_field(rest) else {
+            fields.push(rest)?;
+            return Ok(fields);
+        };
+        fields.push(field)?;
+        rest = behind;
+    }
+    fields.push(rest)?;
+    Ok(fields)
+}
+
+/// Whether a text is no more than one field.
+pub fn is_single(text: &[u8]) -> bool
+    ensures reads { (f : Field) → IsTrue (is_field f) → text.now ≡ spelled f → IsTrue result }
+{
+    field_end(text).is_none()
+}
+
 // The first field, and what stands behind its space, if another one does.
 fn first_field(line: &[u8]) -> Option<(&[u8], &[u8])>
     ensures shorter { IfSome result (λ p. length p.1.now < length line.now) }

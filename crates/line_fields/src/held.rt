@@ -1,29 +1,47 @@
 //! Values as fields write them, and what is made of those of one kind.
 ghost use Rattle.std.specs.Prelude.{◌≡◌, ℤ, List, Some, IsTrue, IfOk, MatchOption};
 ghost use Rattle.spec_value.specs.Datum as datum;
-ghost use Rattle.spec_value.specs.Datum.{Datum};
+ghost use Rattle.spec_value.specs.Datum.{Datum, is_text};
 ghost use Rattle.spec_value.specs.Literal as text_of;
 ghost use Rattle.spec_world.specs.Checkpoint.{object_list, text_list};
 ghost use Rattle.line_fields.specs.Values.{is_readable};
 
-use moo_value::read::from_literal;
+use crate::quoted::front_text;
+use crate::spelled::front_value;
+use moo_value::read::NESTING_LIMIT;
 use moo_value::text::Text;
 use moo_value::value::{Shown, Value};
 use std::alloc::{AllocError, Global};
-use std::str;
 
 /// The value whose literal the text is.
 pub fn literal(alloc: Global, text: &[u8]) -> Result<Option<Value>, AllocError>
     ensures reads { (v : Datum) → IsTrue (is_readable v) → text.now ≡ text_of.literal v → IfOk result (λ o. o ≡ Some v) }
 {
-    let Ok(text) = str::from_utf8(text) else {
+    let Some((value, rest)) = front_value(alloc, text, NESTING_LIMIT)? else {
         return Ok(None);
     };
-    let Some(value) = from_literal(alloc, text)? else {
+    if rest.is_empty() {
+        Ok(Some(value))
+    } else {
+        Ok(None)
+    }
+}
+
+/// The text whose literal this is.
+pub fn text_literal(alloc: Global, text: &[u8]) -> Result<Option<Text>, AllocError>
+    ensures reads { (t : datum.Text) → IsTrue (is_text t) → text.now ≡ text_of.literal (datum.text t) → IfOk result (λ o. o ≡ Some t) }
+{
+    let [b'"', behind @ ..] = text else {
         return Ok(None);
     };
-    value.know();
-    Ok(Some(value))
+    let Some((found, rest)) = front_text(alloc, behind)? else {
+        return Ok(None);
+    };
+    if rest.is_empty() {
+        Ok(Some(found))
+    } else {
+        Ok(None)
+    }
 }
 
 /// The object number that a value is.

@@ -6,3 +6,5 @@ pub mod cut;
 pub mod fields;
 pub mod held;
 pub mod number;
+mod quoted;
+mod spelled;

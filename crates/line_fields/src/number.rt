@@ -1,9 +1,10 @@
 //! Numbers and objects as fields write them: no needless zeros, and a minus sign only before what is below zero.
-ghost use Rattle.std.specs.Prelude.{◌≡◌, ◌↔◌, ◌≤◌, ◌≤ℤ◌, ℕ, ℤ, List, [], ◌∷◌, map, Some, IsTrue, IfOk, MatchOption};
+ghost use Rattle.std.specs.Prelude.{◌≡◌, ◌↔◌, ◌≤◌, ◌≤ℤ◌, ℕ, ℤ, List, [], ◌∷◌, map, length, Some, IsTrue, IfOk, MatchOption};
 ghost use Rattle.std.specs.List.{list_all};
 ghost use Rattle.std.specs.Fmt.{decimal, signed_decimal};
 ghost use Rattle.spec_value.specs.Datum.{in_number_range};
 ghost use Rattle.spec_world.specs.Checkpoint as text_of;
+ghost use Rattle.moo_value.specs.Read.{digit_run, numeral_length, IsNoLonger, FindsNumber};
 ghost use Rattle.spec_program.specs.Names.{is_digit};
 ghost use Rattle.line_fields.specs.Values.{are_places};
 ghost use Rattle.line_fields.specs.Numbers.{is_plain_number, behind_sign};
@@ -48,6 +49,44 @@ pub fn integer(text: &[u8]) -> Option<i32>
         Ok(number) => Some(number),
         Err(_) => None,
     }
+}
+
+/// The integer of 32 bits whose digits stand at the front, and what stands behind them.
+pub fn front_integer(bytes: &[u8]) -> Option<(i32, &[u8])>
+    ensures shorter { IsNoLonger bytes.now result }
+    ensures finds { FindsNumber bytes.now result }
+{
+    let (digits, rest) = bytes.split_at(numeral_end(bytes));
+    match integer(digits) {
+        Some(number) => Some((number, rest)),
+        None => None,
+    }
+}
+
+// Where a number at the front ends.
+fn numeral_end(bytes: &[u8]) -> usize
+    ensures within { result ≤ length bytes.now }
+    ensures value { result ≡ numeral_length bytes.now }
+{
+    match bytes {
+        [b'-', rest @ ..] => digits_end(rest) + 1,
+        _ => digits_end(bytes),
+    }
+}
+
+// How many digits stand at the front.
+fn digits_end(bytes: &[u8]) -> usize
+    ensures within { result ≤ length bytes.now }
+    ensures value { result ≡ digit_run bytes.now }
+{
+    let mut count = 0;
+    for byte in bytes {
+        if *byte < b'0' || *byte > b'9' {
+            return count;
+        }
+        count += 1;
+    }
+    count
 }
 
 /// The integer that is spelled so, if it is at least the first and at most the second.

@@ -1,6 +1,7 @@
 //! Programs.
 ghost use Rattle.std.specs.Prelude.{◌≡◌, IfOk};
 
+use crate::compile::compile;
 use moo_program::program::Program as Whole;
 use moo_tree::statement::Tree;
 use std::alloc::{AllocError, Global};
@@ -34,7 +35,7 @@ impl Program {
     pub fn compile(alloc: Global, tree: Tree) -> Result<Program, AllocError>
         ensures { IfOk result (λ program. program ≡ tree) }
     {
-        let whole = Whole::compile(alloc, tree)?;
+        let whole = compile(alloc, tree)?;
         Ok(Program { whole })
     }
 

@@ -2,8 +2,8 @@
 #![tactic(auto)]
 
 mod expression;
-mod level;
+pub mod level;
 mod line;
-mod name;
+pub mod name;
 pub mod print;
 mod statement;

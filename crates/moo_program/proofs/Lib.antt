@@ -18,3 +18,4 @@ pub mod Scattered
 pub mod Slots
 pub mod Walked
 pub mod Whole
+pub mod Starting

@@ -11,13 +11,13 @@ ghost use Rattle.moo_program.specs.Tables.{bodies_of};
 ghost use Rattle.moo_program.specs.Within.{slots_in, handler_slots_in};
 
 use crate::assembly::{Assembled, assemble};
+use crate::copies::Copies;
 use crate::gather::gather;
 use crate::moo_bytecode::around::{Around, Bracketed};
 use crate::moo_bytecode::draft::{Draft, Item};
 use crate::names::count_slots;
 use crate::outline::{Step, outline};
 use crate::within::{handlers_within, instructions_within};
-use moo_copy::statement::copy_program;
 use moo_tree::statement::{Statement, Tree};
 use moo_value::text::Text;
 use std::alloc::{AllocError, Global};
@@ -38,7 +38,7 @@ pub struct Parts {
 }
 
 /// The code of a tree, and copies of the bodies of its forks.
-pub fn compile(alloc: Global, tree: &Tree) -> Result<Parts, AllocError>
+pub fn compile<C: Copies>(alloc: Global, copier: &C, tree: &Tree) -> Result<Parts, AllocError>
     ensures code { IfOk result (λ r. IsCode tree.now r.code) }
     ensures bodies { IfOk result (λ r. r.bodies.items ≡ forks_in (code_of tree.now)) }
 {
@@ -48,7 +48,7 @@ pub fn compile(alloc: Global, tree: &Tree) -> Result<Parts, AllocError>
     let assembled = assemble(alloc, &tables, items, draft.size)?;
     let outline = outline(alloc, items)?;
     let forked = tables.bodies.as_slice();
-    let bodies = copies(alloc, forked)?;
+    let bodies = copies(alloc, copier, forked)?;
     let names = tables.names.into_list();
     let own = names.as_slice();
     check_slots(&assembled, own)?;
@@ -78,12 +78,16 @@ fn check_slots(assembled: &Assembled, own: &[Text]) -> Result<(), AllocError>
 }
 
 #[tactic(auto, using(crate::proofs::Whole::copies_next))]
-fn copies(alloc: Global, bodies: &[&[Statement]]) -> Result<Vec<Tree>, AllocError>
+fn copies<C: Copies>(
+    alloc: Global,
+    copier: &C,
+    bodies: &[&[Statement]],
+) -> Result<Vec<Tree>, AllocError>
     ensures { IfOk result (λ v. v.items ≡ bodies_of bodies.now) }
 {
     let mut copies = Vec::with_capacity(alloc, bodies.len())?;
     for i in 0..bodies.len() {
-        let copy = copy_program(alloc, bodies[i])?;
+        let copy = copier.copy(alloc, bodies[i])?;
         copies.push(copy)?;
     }
     Ok(copies)

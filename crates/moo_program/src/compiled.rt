@@ -4,6 +4,7 @@ ghost use Rattle.spec_program.specs.Tree.{the_end};
 ghost use Rattle.moo_program.specs.Compiled.{AreCoded, IsWhole};
 
 use crate::compile::{Code, compile};
+use crate::copies::Copies;
 use moo_tree::statement::Tree;
 use std::alloc::{AllocError, Global};
 
@@ -26,7 +27,7 @@ pub struct Coded {
 impl Compiled {
     /// A tree and all that it forks.
     #[tactic(auto, using(crate::proofs::Coding::is_whole, crate::proofs::Coding::none_coded))]
-    pub fn new(alloc: Global, tree: Tree) -> Result<Compiled, AllocError>
+    pub fn new<C: Copies>(alloc: Global, copier: &C, tree: Tree) -> Result<Compiled, AllocError>
         ensures whole { IfOk result (λ c. IsWhole c) }
         ensures first { IfOk result (λ c. get_or c.trees.items 0 the_end ≡ tree) }
     {
@@ -40,21 +41,21 @@ impl Compiled {
             if compiled.trees.len() <= compiled.codes.len() {
                 return Ok(compiled);
             }
-            compiled.code_next(alloc)?;
+            compiled.code_next(alloc, copier)?;
         }
         Err(AllocError)
     }
 
     // The code of the first tree that has none. The bodies of its forks come behind all.
     #[tactic(auto, using(crate::proofs::Coding::more_coded, crate::proofs::Coding::first_stays, crate::proofs::Coding::some_stay))]
-    fn code_next(&mut self, alloc: Global) -> Result<(), AllocError>
+    fn code_next<C: Copies>(&mut self, alloc: Global, copier: &C) -> Result<(), AllocError>
         requires left { length self.old.codes.items < length self.old.trees.items }
         requires coded { AreCoded self.old }
         ensures coded { OnOk result (AreCoded self.new) }
         ensures first { OnOk result (get_or self.new.trees.items 0 the_end ≡ get_or self.old.trees.items 0 the_end) }
         ensures some { OnOk result (0 < length self.new.trees.items) }
     {
-        let mut parts = compile(alloc, &self.trees[self.codes.len()])?;
+        let mut parts = compile(alloc, copier, &self.trees[self.codes.len()])?;
         let bodies = self.trees.len();
         let forks = parts.bodies.len();
         self.trees.append(&mut parts.bodies)?;

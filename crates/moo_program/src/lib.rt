@@ -4,6 +4,7 @@
 mod assembly;
 mod compile;
 mod compiled;
+pub mod copies;
 mod emit;
 mod gather;
 pub mod handlers;

@@ -4,7 +4,7 @@ ghost use Rattle.std.specs.Borrow.{Bor};
 ghost use Rattle.spec_world.specs.WellFormed.{has_name};
 ghost use Rattle.moo_code.specs.Names.{with_names, starting_names};
 ghost use Rattle.moo_code.specs.Slots.{slot_of};
-ghost use Rattle.moo_program.specs.Names.{known};
+ghost use Rattle.moo_program.specs.Names.{known, is_at, candidate as candidate_of, candidate_by as candidate_by_of};
 ghost use Rattle.moo_program.specs.Meaning.{name_at};
 
 use moo_value::text::Text;
@@ -168,19 +168,58 @@ fn is_named(names: &[Text], place: usize, name: &Text) -> bool
 }
 
 // The place among the first names.
+#[tactic(auto, using(crate::proofs::Starting::is_candidate, crate::proofs::Starting::no_candidate))]
 fn starting_place(name: &str) -> usize
     ensures { result ≡ slot_of starting_names name.now }
 {
-    place_among(&STARTING_NAMES, name)
+    let place = candidate(name.as_bytes());
+    if is_starting(place, name) {
+        place
+    } else {
+        STARTING_NAMES.len()
+    }
 }
 
-fn place_among(names: &[&str], name: &str) -> usize
-    ensures { result ≡ slot_of (map (λ (s : Bor (List ℕ)). s.now) names.now) name.now }
+// Whether the first name at a place is this one.
+fn is_starting(place: usize, name: &str) -> bool
+    ensures { result ≡ is_at place name.now }
 {
-    for (place, known) in names.iter().enumerate() {
-        if name == *known {
-            return place;
-        }
+    place < STARTING_NAMES.len() && name == STARTING_NAMES[place]
+}
+
+// Where the one first name stands that has the length and the first character of a name, or how many there are.
+fn candidate(name: &[u8]) -> usize
+    ensures { result ≡ candidate_of name.now }
+{
+    match name.split_first() {
+        Some((first, rest)) => candidate_by(*first, rest.len()),
+        None => 17,
     }
-    names.len()
+}
+
+// By the first character, and how many are behind it.
+fn candidate_by(first: u8, behind: usize) -> usize
+    ensures { result ≡ candidate_by_of first behind }
+{
+    match first {
+        b'a' => if behind == 3 { 0 } else { 1 },
+        b'c' => 2,
+        b'd' => if behind == 3 { 3 } else { 4 },
+        b'e' => 5,
+        b'i' => if behind == 2 {
+            6
+        } else if behind == 3 {
+            7
+        } else {
+            8
+        },
+        b'l' => 9,
+        b'n' => 10,
+        b'o' => 11,
+        b'p' => if behind == 5 { 12 } else { 13 },
+        b's' => 14,
+        b't' => 15,
+        b'v' => 16,
+        _ => 17,
+    }
 }

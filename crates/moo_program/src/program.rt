@@ -10,6 +10,7 @@ ghost use Rattle.moo_program.specs.Outline.{outline_of};
 ghost use Rattle.moo_program.specs.Within.{slots_in, handler_slots_in};
 
 use crate::compiled::Compiled;
+use crate::copies::Copies;
 use crate::instruction::{Handler, Instruction};
 use crate::moo_bytecode::around::plus;
 use crate::names::count_slots;
@@ -54,11 +55,11 @@ impl Model for Program {
 }
 
 impl Program {
-    /// The program of a tree.
-    pub fn compile(alloc: Global, tree: Tree) -> Result<Program, AllocError>
+    /// The program of a tree. What its forks start are programs of copies.
+    pub fn compile<C: Copies>(alloc: Global, copier: &C, tree: Tree) -> Result<Program, AllocError>
         ensures { IfOk result (λ program. program ≡ tree) }
     {
-        let compiled = Compiled::new(alloc, tree)?;
+        let compiled = Compiled::new(alloc, copier, tree)?;
         let compiled = Arc::new(alloc, compiled)?;
         Ok(Program { compiled, place: 0 })
     }

@@ -16,8 +16,11 @@ use task_step::partial::{Partial, Refusal};
 use task_step::step::Step;
 use world::worlds::World;
 
-/// The most steps of a part. Its outcomes are in memory together.
+/// The most steps of a part that one worker runs. Its outcomes are in memory together.
 const LONGEST_PART: usize = 4096;
+
+/// The most steps of a part that several run.
+const LONGEST_SHARED_PART: usize = 65536;
 
 /// How far a list was run, with its lines written.
 #[derive(Drop)]
@@ -45,9 +48,10 @@ pub(crate) fn play_steps<G: Gate, R: Threads + Wait + Sync, W: Write>(
     ensures { IsPlayed world.plain steps.now (W.contents out.old) (W.contents out.new) result }
 {
     world.know();
+    let longest = longest_part(workers);
     let mut first = 0;
     'part: while first < steps.len() {
-        let end = end_of_part(first, steps.len());
+        let end = end_of_part(first, steps.len(), longest);
         let part = &steps[first..end];
         match run_list(rt, alloc, gate, world, part, workers) {
             Ok(report) => {
@@ -63,15 +67,27 @@ pub(crate) fn play_steps<G: Gate, R: Threads + Wait + Sync, W: Write>(
     Played::Whole(world)
 }
 
-// Where the part that begins at `first` ends, in a list of so many steps.
-fn end_of_part(first: usize, count: usize) -> usize
-    requires { first < count }
+// The most steps of a part by so many workers.
+fn longest_part(workers: usize) -> usize
+    ensures { 0 < result }
+{
+    if workers == 1 {
+        LONGEST_PART
+    } else {
+        LONGEST_SHARED_PART
+    }
+}
+
+// Where the part that begins at `first` ends, in a list of so many steps, where so many are the most of a part.
+fn end_of_part(first: usize, count: usize, longest: usize) -> usize
+    requires first { first < count }
+    requires longest { 0 < longest }
     ensures { (first < result) × (result ≤ count) }
 {
-    if count - first <= LONGEST_PART {
+    if count - first <= longest {
         count
     } else {
-        first + LONGEST_PART
+        first + longest
     }
 }
 

@@ -13,7 +13,7 @@ use crate::reading::read;
 use moo_token::token::Placed;
 use moo_token::tokens::{Tokens, tokens_of};
 use moo_tree::statement::Tree;
-use spelled_text::spelled;
+use spelled_text::quickly_read;
 use std::alloc::{AllocError, Global};
 use syntax_fault::fault::{FaultKind, SyntaxFault};
 
@@ -54,7 +54,7 @@ fn read_through(alloc: Global, text: &[u8]) -> Result<Result<Tree, SyntaxFault>,
 pub fn answered(alloc: Global, text: &[u8]) -> Result<Result<Tree, SyntaxFault>, AllocError>
     ensures { IfOk result (λ r. IsAnswer r (by.parsed text.now)) }
 {
-    let known = spelled(alloc, text)?;
+    let known = quickly_read(alloc, text)?;
     match known {
         Some(tree) => Ok(Ok(tree)),
         None => read_through(alloc, text),

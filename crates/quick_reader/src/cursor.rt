@@ -1,6 +1,8 @@
 //! A place in a text.
 use crate::stop::Stop;
 use std::alloc::Global;
+use tokens_ahead::front::{behind_blanks, continues_word};
+use tokens_ahead::reserved::is;
 
 /// A place in a text that is read, and where the trees of it are put.
 #[derive(Drop)]
@@ -10,12 +12,9 @@ pub struct Cursor<'a> {
 }
 
 impl<'a> Cursor<'a> {
-    /// The first byte of what is left.
-    pub fn first(&self) -> Option<u8> {
-        match self.rest {
-            [first, ..] => Some(*first),
-            [] => None,
-        }
+    /// Passes over spaces, tabs and line ends.
+    pub fn skip_blanks(&mut self) {
+        self.rest = behind_blanks(self.rest);
     }
 
     /// Takes so many bytes, or none where fewer are left.
@@ -30,7 +29,7 @@ impl<'a> Cursor<'a> {
     }
 
     /// Takes a byte, if it is next.
-    pub fn take_byte(&mut self, wanted: u8) -> bool {
+    pub fn take_exact(&mut self, wanted: u8) -> bool {
         match self.rest {
             [first, behind @ ..] if *first == wanted => {
                 self.rest = behind;
@@ -40,45 +39,73 @@ impl<'a> Cursor<'a> {
         }
     }
 
-    /// Takes these bytes, if they are next.
-    pub fn take(&mut self, wanted: &[u8]) -> bool {
-        match self.rest.strip_prefix(wanted) {
-            Some(behind) => {
+    /// Takes a sign of one byte behind blanks, if it is next.
+    pub fn take_byte(&mut self, wanted: u8) -> bool {
+        self.skip_blanks();
+        self.take_exact(wanted)
+    }
+
+    /// Takes a sign of one byte behind blanks, if it is next and no longer sign with this second byte is.
+    pub fn take_alone(&mut self, wanted: u8, second: u8) -> bool {
+        self.skip_blanks();
+        match self.rest {
+            [first, next, ..] if *first == wanted && *next == second => false,
+            [first, behind @ ..] if *first == wanted => {
                 self.rest = behind;
                 true
             }
-            None => false,
+            _ => false,
         }
     }
 
-    /// Takes so many spaces, if they are next.
-    pub fn take_spaces(&mut self, count: usize) -> bool {
-        let mut rest = self.rest;
-        for _ in 0..count {
-            match rest {
-                [b' ', behind @ ..] => rest = behind,
-                _ => return false,
+    /// Takes a sign of two bytes behind blanks, if it is next.
+    pub fn take_two(&mut self, wanted: u8, second: u8) -> bool {
+        self.skip_blanks();
+        match self.rest {
+            [first, next, behind @ ..] if *first == wanted && *next == second => {
+                self.rest = behind;
+                true
             }
+            _ => false,
         }
-        self.rest = rest;
+    }
+
+    /// Takes a word in lower case or another behind blanks, if it is next.
+    pub fn take_keyword(&mut self, wanted: &[u8]) -> bool {
+        self.skip_blanks();
+        let rest = self.rest;
+        if wanted.len() > rest.len() {
+            return false;
+        }
+        let (front, behind) = rest.split_at(wanted.len());
+        if continues_word(behind) || !is(front, wanted) {
+            return false;
+        }
+        self.rest = behind;
         true
     }
 
-    /// Takes a byte that has to be next.
+    /// Takes a sign of one byte that has to be next.
     pub fn expect_byte(&mut self, wanted: u8) -> Result<(), Stop> {
-        if self.take_byte(wanted) {
-            Ok(())
-        } else {
-            Err(Stop::Unlike)
-        }
+        found(self.take_byte(wanted))
     }
 
-    /// Takes bytes that have to be next.
-    pub fn expect(&mut self, wanted: &[u8]) -> Result<(), Stop> {
-        if self.take(wanted) {
-            Ok(())
-        } else {
-            Err(Stop::Unlike)
-        }
+    /// Takes a sign of one byte that has to be next, and no longer one with this second byte.
+    pub fn expect_alone(&mut self, wanted: u8, second: u8) -> Result<(), Stop> {
+        found(self.take_alone(wanted, second))
     }
+
+    /// Takes a sign of two bytes that has to be next.
+    pub fn expect_two(&mut self, wanted: u8, second: u8) -> Result<(), Stop> {
+        found(self.take_two(wanted, second))
+    }
+
+    /// Takes a word that has to be next.
+    pub fn expect_keyword(&mut self, wanted: &[u8]) -> Result<(), Stop> {
+        found(self.take_keyword(wanted))
+    }
+}
+
+fn found(is_next: bool) -> Result<(), Stop> {
+    if is_next { Ok(()) } else { Err(Stop::Unlike) }
 }

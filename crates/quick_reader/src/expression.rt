@@ -52,7 +52,7 @@ fn read_behind(
         }
         Infix::Conditional => {
             let value = read_expression(cursor, 0, room)?;
-            cursor.expect(b" | ".as_slice())?;
+            cursor.expect_alone(b'|', b'|')?;
             let other = read_expression(cursor, 1, room)?;
             conditional(cursor.alloc, left, value, other)
         }
@@ -118,7 +118,7 @@ fn read_step(cursor: &mut Cursor<'_>, base: Found, step: Step, room: usize) -> R
             if cursor.take_byte(b']') {
                 return index(cursor.alloc, base, first);
             }
-            cursor.expect(b"..".as_slice())?;
+            cursor.expect_two(b'.', b'.')?;
             let last = read_expression(cursor, 0, room)?;
             cursor.expect_byte(b']')?;
             range(cursor.alloc, base, first, last)
@@ -157,7 +157,7 @@ fn read_several(cursor: &mut Cursor<'_>, room: usize) -> Result<Arguments, Stop>
         let splices = cursor.take_byte(b'@');
         let found = read_expression(cursor, 0, room)?;
         arguments.put(splices, found)?;
-        if !cursor.take(b", ".as_slice()) {
+        if !cursor.take_byte(b',') {
             return Ok(arguments);
         }
     }
@@ -167,7 +167,7 @@ fn read_several(cursor: &mut Cursor<'_>, room: usize) -> Result<Arguments, Stop>
 /// Reads the codes that a handler takes.
 #[cycle(read)]
 pub fn read_codes(cursor: &mut Cursor<'_>, room: usize) -> Result<FoundCodes, Stop> {
-    if cursor.take(b"ANY".as_slice()) {
+    if cursor.take_keyword(b"any".as_slice()) {
         return Ok(FoundCodes {
             codes: Codes::Any,
             height: 0,
@@ -183,12 +183,12 @@ pub fn read_codes(cursor: &mut Cursor<'_>, room: usize) -> Result<FoundCodes, St
 #[cycle(read)]
 fn read_catch(cursor: &mut Cursor<'_>, room: usize) -> Result<Found, Stop> {
     let body = read_expression(cursor, 0, room)?;
-    cursor.expect(b" ! ".as_slice())?;
+    cursor.expect_alone(b'!', b'=')?;
     let codes = read_codes(cursor, room)?;
     if cursor.take_byte(b'\'') {
         return caught(cursor.alloc, body, codes);
     }
-    cursor.expect(b" => ".as_slice())?;
+    cursor.expect_two(b'=', b'>')?;
     let value = read_expression(cursor, 0, room)?;
     cursor.expect_byte(b'\'')?;
     caught_instead(cursor.alloc, body, codes, value)
@@ -200,17 +200,18 @@ fn read_scatter(cursor: &mut Cursor<'_>, room: usize) -> Result<Found, Stop> {
     for _ in 0..cursor.rest.len() {
         let mark = take_mark(cursor);
         let name = expect_word(cursor)?;
-        if mark == Mark::Optional && cursor.take(b" = ".as_slice()) {
+        if mark == Mark::Optional && cursor.take_alone(b'=', b'=') {
             let value = read_expression(cursor, 0, room)?;
             items.put_default(name, value)?;
         } else {
             items.put(mark, name)?;
         }
-        if !cursor.take(b", ".as_slice()) {
+        if !cursor.take_byte(b',') {
             break;
         }
     }
-    cursor.expect(b"} = ".as_slice())?;
+    cursor.expect_byte(b'}')?;
+    cursor.expect_alone(b'=', b'=')?;
     let value = read_expression(cursor, 0, room)?;
     scatter(cursor.alloc, items, value)
 }

@@ -5,7 +5,7 @@ use crate::stop::Stop;
 use moo_tree::statement::Tree;
 use std::alloc::{AllocError, Global};
 
-/// A tree that a text may spell in its canonical lines, if one is quickly found. Nothing is promised of it.
+/// A tree that a text may spell, if one is quickly found. Nothing is promised of it.
 ///
 /// An `Err` says that memory ran out.
 pub fn guess(alloc: Global, text: &[u8]) -> Result<Option<Tree>, AllocError> {

@@ -1,6 +1,7 @@
-//! First lines of statements.
+//! What statements begin with.
 use crate::cursor::Cursor;
 use crate::expression::{read_codes, read_expression};
+use crate::keyword::Keyword;
 use crate::limits::{GREATEST_HEIGHT, GREATEST_NESTING};
 use crate::several::FoundCodes;
 use crate::stop::Stop;
@@ -9,7 +10,7 @@ use moo_tree::expression::{Codes, Expression};
 use moo_tree::statement::StatementNode;
 use moo_value::text::Text;
 
-/// A statement of one line, or the first line of another.
+/// A statement without others in it, or what another begins with.
 #[derive(Drop)]
 pub enum Head {
     Simple(StatementNode),
@@ -34,55 +35,49 @@ pub enum Head {
     Try,
 }
 
-/// The first line of a handler.
+/// What a handler begins with.
 #[derive(Drop)]
 pub struct Except {
     pub variable: Option<Text>,
     pub codes: Codes,
 }
 
-/// Reads the first line of a statement that stands within so many others.
-pub fn read_head(cursor: &mut Cursor<'_>, depth: usize) -> Result<Head, Stop> {
-    let Some(first) = cursor.first() else {
-        return Err(Stop::Unlike);
-    };
-    match first {
-        b'i' if cursor.take(b"if (".as_slice()) => Ok(Head::If(read_condition(cursor, depth)?)),
-        b'f' if cursor.take(b"for ".as_slice()) => read_for(cursor, depth),
-        b'f' if cursor.take(b"fork ".as_slice()) => {
-            let variable = read_name_before(cursor)?;
-            let delay = read_condition(cursor, depth)?;
-            Ok(Head::Fork { variable, delay })
-        }
-        b'w' if cursor.take(b"while ".as_slice()) => {
+/// Reads what a statement begins with that stands within so many others.
+pub fn read_head(
+    cursor: &mut Cursor<'_>,
+    keyword: Option<Keyword>,
+    depth: usize,
+) -> Result<Head, Stop> {
+    match keyword {
+        Some(Keyword::If) => Ok(Head::If(read_condition(cursor, depth)?)),
+        Some(Keyword::For) => read_for(cursor, depth),
+        Some(Keyword::While) => {
             let name = read_name_before(cursor)?;
-            let condition = read_condition(cursor, depth)?;
+            let condition = read_rest_of_condition(cursor, depth)?;
             Ok(Head::While { name, condition })
         }
-        b't' if cursor.take(b"try\n".as_slice()) => Ok(Head::Try),
-        _ => Ok(Head::Simple(read_simple(cursor, first, depth)?)),
+        Some(Keyword::Fork) => {
+            let variable = read_name_before(cursor)?;
+            let delay = read_rest_of_condition(cursor, depth)?;
+            Ok(Head::Fork { variable, delay })
+        }
+        Some(Keyword::Try) => Ok(Head::Try),
+        Some(Keyword::Return) => read_return(cursor, depth),
+        Some(Keyword::Break) => Ok(Head::Simple(StatementNode::Break(read_loop_name(cursor)?))),
+        Some(Keyword::Continue) => {
+            Ok(Head::Simple(StatementNode::Continue(read_loop_name(cursor)?)))
+        }
+        Some(Keyword::End) => Err(Stop::Unlike),
+        None => Ok(Head::Simple(StatementNode::Evaluate(read_value(cursor, depth)?))),
     }
 }
 
-fn read_simple(cursor: &mut Cursor<'_>, first: u8, depth: usize) -> Result<StatementNode, Stop> {
-    match first {
-        b'r' if cursor.take(b"return;\n".as_slice()) => Ok(StatementNode::Return(None)),
-        b'r' if cursor.take(b"return ".as_slice()) => {
-            let value = read_value(cursor, depth)?;
-            Ok(StatementNode::Return(Some(value)))
-        }
-        b'b' if cursor.take(b"break;\n".as_slice()) => Ok(StatementNode::Break(None)),
-        b'b' if cursor.take(b"break ".as_slice()) => {
-            let name = read_loop_name(cursor)?;
-            Ok(StatementNode::Break(Some(name)))
-        }
-        b'c' if cursor.take(b"continue;\n".as_slice()) => Ok(StatementNode::Continue(None)),
-        b'c' if cursor.take(b"continue ".as_slice()) => {
-            let name = read_loop_name(cursor)?;
-            Ok(StatementNode::Continue(Some(name)))
-        }
-        _ => Ok(StatementNode::Evaluate(read_value(cursor, depth)?)),
+fn read_return(cursor: &mut Cursor<'_>, depth: usize) -> Result<Head, Stop> {
+    if cursor.take_byte(b';') {
+        return Ok(Head::Simple(StatementNode::Return(None)));
     }
+    let value = read_value(cursor, depth)?;
+    Ok(Head::Simple(StatementNode::Return(Some(value))))
 }
 
 // An expression of a statement within so many others.
@@ -94,24 +89,34 @@ fn read_whole(cursor: &mut Cursor<'_>, depth: usize) -> Result<Expression, Stop>
     Ok(found.expression)
 }
 
-// An expression that ends its line and its statement.
+// An expression that ends its statement.
 fn read_value(cursor: &mut Cursor<'_>, depth: usize) -> Result<Expression, Stop> {
     let value = read_whole(cursor, depth)?;
-    cursor.expect(b";\n".as_slice())?;
+    cursor.expect_byte(b';')?;
     Ok(value)
 }
 
-/// Reads an expression whose parenthesis was opened, which ends its line.
+/// Reads an expression in parentheses.
 pub fn read_condition(cursor: &mut Cursor<'_>, depth: usize) -> Result<Expression, Stop> {
+    cursor.expect_byte(b'(')?;
+    read_rest_of_condition(cursor, depth)
+}
+
+// An expression whose parenthesis was opened.
+fn read_rest_of_condition(cursor: &mut Cursor<'_>, depth: usize) -> Result<Expression, Stop> {
     let condition = read_whole(cursor, depth)?;
-    cursor.expect(b")\n".as_slice())?;
+    cursor.expect_byte(b')')?;
     Ok(condition)
 }
 
-fn read_loop_name(cursor: &mut Cursor<'_>) -> Result<Text, Stop> {
+// The name of a loop, if there is one, and the semicolon.
+fn read_loop_name(cursor: &mut Cursor<'_>) -> Result<Option<Text>, Stop> {
+    if cursor.take_byte(b';') {
+        return Ok(None);
+    }
     let name = expect_word(cursor)?;
-    cursor.expect(b";\n".as_slice())?;
-    Ok(name)
+    cursor.expect_byte(b';')?;
+    Ok(Some(name))
 }
 
 // The name before a parenthesis that opens, if there is one, and the parenthesis.
@@ -120,22 +125,22 @@ fn read_name_before(cursor: &mut Cursor<'_>) -> Result<Option<Text>, Stop> {
         return Ok(None);
     }
     let name = expect_word(cursor)?;
-    cursor.expect(b" (".as_slice())?;
+    cursor.expect_byte(b'(')?;
     Ok(Some(name))
 }
 
 fn read_for(cursor: &mut Cursor<'_>, depth: usize) -> Result<Head, Stop> {
     let variable = expect_word(cursor)?;
-    cursor.expect(b" in ".as_slice())?;
+    cursor.expect_keyword(b"in".as_slice())?;
     if cursor.take_byte(b'(') {
-        let list = read_condition(cursor, depth)?;
+        let list = read_rest_of_condition(cursor, depth)?;
         return Ok(Head::ForEach { variable, list });
     }
     cursor.expect_byte(b'[')?;
     let first = read_whole(cursor, depth)?;
-    cursor.expect(b"..".as_slice())?;
+    cursor.expect_two(b'.', b'.')?;
     let last = read_whole(cursor, depth)?;
-    cursor.expect(b"]\n".as_slice())?;
+    cursor.expect_byte(b']')?;
     Ok(Head::ForRange {
         variable,
         first,
@@ -143,14 +148,14 @@ fn read_for(cursor: &mut Cursor<'_>, depth: usize) -> Result<Head, Stop> {
     })
 }
 
-/// Reads the first line of a handler.
+/// Reads what a handler begins with.
 pub fn read_except(cursor: &mut Cursor<'_>, depth: usize) -> Result<Except, Stop> {
-    cursor.expect(b"except ".as_slice())?;
+    cursor.expect_keyword(b"except".as_slice())?;
     let variable = read_name_before(cursor)?;
     let FoundCodes { codes, height } = read_codes(cursor, GREATEST_NESTING)?;
     if height.saturating_add(depth) >= GREATEST_HEIGHT {
         return Err(Stop::Unlike);
     }
-    cursor.expect(b")\n".as_slice())?;
+    cursor.expect_byte(b')')?;
     Ok(Except { variable, codes })
 }

@@ -1,6 +1,7 @@
 //! What stands between two expressions.
 use crate::cursor::Cursor;
 use moo_value::operator::BinaryOperator;
+use tokens_ahead::front::continues_word;
 
 /// What stands between an expression and what goes on behind it.
 #[derive(Clone, Copy, Debug, PartialEq, Eq)]
@@ -47,10 +48,8 @@ pub fn right_level(operator: BinaryOperator) -> u8 {
 
 /// Takes what stands between two expressions, if it is next and binds as tightly as is wanted.
 pub fn take_infix(cursor: &mut Cursor<'_>, wanted: u8) -> Option<Infix> {
-    let [b' ', signs @ ..] = cursor.rest else {
-        return None;
-    };
-    let (infix, behind) = infix_at(signs)?;
+    cursor.skip_blanks();
+    let (infix, behind) = infix_at(cursor.rest)?;
     if infix.level() < wanted {
         return None;
     }
@@ -58,24 +57,33 @@ pub fn take_infix(cursor: &mut Cursor<'_>, wanted: u8) -> Option<Infix> {
     Some(infix)
 }
 
-fn infix_at(signs: &[u8]) -> Option<(Infix, &[u8])> {
-    match signs {
-        [b'=', b' ', behind @ ..] => Some((Infix::Assignment, behind)),
-        [b'?', b' ', behind @ ..] => Some((Infix::Conditional, behind)),
-        [b'&', b'&', b' ', behind @ ..] => Some((Infix::Both, behind)),
-        [b'|', b'|', b' ', behind @ ..] => Some((Infix::Either, behind)),
-        _ => {
-            let (operator, behind) = operator_at(signs)?;
-            Some((Infix::Operator(operator), behind))
-        }
+fn infix_at(rest: &[u8]) -> Option<(Infix, &[u8])> {
+    match rest {
+        [b'=', b'=', behind @ ..] => operator(BinaryOperator::Equals, behind),
+        [b'=', b'>', ..] => None,
+        [b'=', behind @ ..] => Some((Infix::Assignment, behind)),
+        [b'?', behind @ ..] => Some((Infix::Conditional, behind)),
+        [b'&', b'&', behind @ ..] => Some((Infix::Both, behind)),
+        [b'|', b'|', behind @ ..] => Some((Infix::Either, behind)),
+        [b'!', b'=', behind @ ..] => operator(BinaryOperator::Differs, behind),
+        [b'<', b'=', behind @ ..] => operator(BinaryOperator::LessOrEqual, behind),
+        [b'>', b'=', behind @ ..] => operator(BinaryOperator::GreaterOrEqual, behind),
+        [b'i' | b'I', b'n' | b'N', behind @ ..] => membership(behind),
+        [sign, behind @ ..] => operator(short_operator(*sign)?, behind),
+        [] => None,
     }
 }
 
-fn operator_at(signs: &[u8]) -> Option<(BinaryOperator, &[u8])> {
-    match signs {
-        [sign, b' ', behind @ ..] => Some((short_operator(*sign)?, behind)),
-        [first, second, b' ', behind @ ..] => Some((long_operator(*first, *second)?, behind)),
-        _ => None,
+fn operator(operator: BinaryOperator, behind: &[u8]) -> Option<(Infix, &[u8])> {
+    Some((Infix::Operator(operator), behind))
+}
+
+// `in`, if no longer word begins with it.
+fn membership(behind: &[u8]) -> Option<(Infix, &[u8])> {
+    if continues_word(behind) {
+        None
+    } else {
+        operator(BinaryOperator::IsIn, behind)
     }
 }
 
@@ -89,17 +97,6 @@ fn short_operator(sign: u8) -> Option<BinaryOperator> {
         b'^' => Some(BinaryOperator::ToThe),
         b'<' => Some(BinaryOperator::Less),
         b'>' => Some(BinaryOperator::Greater),
-        _ => None,
-    }
-}
-
-fn long_operator(first: u8, second: u8) -> Option<BinaryOperator> {
-    match (first, second) {
-        (b'=', b'=') => Some(BinaryOperator::Equals),
-        (b'!', b'=') => Some(BinaryOperator::Differs),
-        (b'<', b'=') => Some(BinaryOperator::LessOrEqual),
-        (b'>', b'=') => Some(BinaryOperator::GreaterOrEqual),
-        (b'i', b'n') => Some(BinaryOperator::IsIn),
         _ => None,
     }
 }

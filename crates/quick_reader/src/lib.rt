@@ -1,7 +1,7 @@
-//! A fast reader of programs in their canonical spelling.
+//! A fast reader of programs.
 //!
 //! It guesses: nothing is promised of the tree that it finds, but that it ends, is safe, and nests no deeper than a program may. Whoever
-//! uses the tree looks first whether it is one of the grammar and whether its canonical lines are the text.
+//! uses the tree looks first whether it is one of the grammar and whether its canonical spelling has the tokens of the text.
 #![tactic(auto)]
 
 mod cursor;
@@ -10,6 +10,7 @@ mod found;
 pub mod guess;
 mod head;
 mod infix;
+mod keyword;
 mod limits;
 mod literal;
 mod several;

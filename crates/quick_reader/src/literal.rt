@@ -41,7 +41,7 @@ pub fn take_integer(cursor: &mut Cursor<'_>) -> Result<Value, Stop> {
 
 /// Takes the number of an object.
 pub fn take_object(cursor: &mut Cursor<'_>) -> Result<Value, Stop> {
-    let negative = cursor.take_byte(b'-');
+    let negative = cursor.take_exact(b'-');
     let digits = take_digits(cursor);
     let Ok(number) = i64::try_from(digits) else {
         return Err(Stop::Unlike);
@@ -82,7 +82,7 @@ fn plain_end(rest: &[u8]) -> usize {
 pub fn take_text(cursor: &mut Cursor<'_>) -> Result<Text, Stop> {
     let end = plain_end(cursor.rest);
     let plain = cursor.take_front(end);
-    if cursor.take_byte(b'"') {
+    if cursor.take_exact(b'"') {
         return text_of(cursor.alloc, plain);
     }
     take_escaped(cursor, plain)

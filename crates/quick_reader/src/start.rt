@@ -3,11 +3,12 @@ use crate::cursor::Cursor;
 use crate::found::{Found, leaf, named, property};
 use crate::literal::{take_error, take_integer, take_object, take_text};
 use crate::stop::Stop;
-use crate::word::{expect_word, text_of};
+use crate::word::expect_word;
 use moo_tree::expression::ExpressionNode;
 use moo_value::operator::UnaryOperator;
 use moo_value::text::Text;
 use moo_value::value::Value;
+use tokens_ahead::front::behind_blanks;
 
 /// How an operand begins, or all of it.
 #[derive(Drop)]
@@ -31,6 +32,7 @@ pub enum Start {
 
 /// Takes the beginning of an operand.
 pub fn take_start(cursor: &mut Cursor<'_>) -> Result<Start, Stop> {
+    cursor.skip_blanks();
     match cursor.rest {
         [b'a'..=b'z' | b'_', ..] => take_name(cursor),
         [b'E', ..] => literal(take_error(cursor)?),
@@ -104,15 +106,21 @@ fn braces(rest: &[u8]) -> Start {
 
 fn is_scatter(rest: &[u8]) -> bool {
     let mut left = rest;
+    // Whether an item is to begin.
+    let mut is_fresh = true;
     for _ in 0..rest.len() {
         match left {
-            [b'}', behind @ ..] => return begins_value(behind),
-            [b'?', b' ', ..] => return false,
-            [b'?', ..] => return true,
-            [
-                b'a'..=b'z' | b'A'..=b'Z' | b'_' | b'0'..=b'9' | b'@' | b',' | b' ',
-                behind @ ..,
-            ] => left = behind,
+            [b'}', behind @ ..] => return begins_value(behind_blanks(behind)),
+            [b'?', ..] => return is_fresh,
+            [b',', behind @ ..] => {
+                is_fresh = true;
+                left = behind;
+            }
+            [b' ' | b'\t' | b'\n' | b'@', behind @ ..] => left = behind,
+            [b'a'..=b'z' | b'A'..=b'Z' | b'_' | b'0'..=b'9', behind @ ..] => {
+                is_fresh = false;
+                left = behind;
+            }
             _ => return false,
         }
     }
@@ -121,7 +129,8 @@ fn is_scatter(rest: &[u8]) -> bool {
 
 fn begins_value(rest: &[u8]) -> bool {
     match rest {
-        [b' ', b'=', b' ', ..] => true,
+        [b'=', b'=' | b'>', ..] => false,
+        [b'=', ..] => true,
         _ => false,
     }
 }

@@ -1,46 +1,45 @@
 //! Statements.
 use crate::cursor::Cursor;
 use crate::head::{Except, Head, read_condition, read_except, read_head};
+use crate::keyword::{Keyword, keyword_of};
 use crate::limits::GREATEST_HEIGHT;
 use crate::stop::Stop;
+use crate::word::next_word;
 use moo_tree::expression::Expression;
 use moo_tree::statement::{Arm, Branch, Statement, StatementNode};
 
-/// Reads the statements within so many others, as far as lines are indented so.
+/// Reads the statements within so many others, up to a word that ends them or the end of the text.
 #[cycle(read)]
 pub fn read_block(cursor: &mut Cursor<'_>, depth: usize) -> Result<Vec<Statement>, Stop> {
     let mut statements = Vec::new(cursor.alloc);
     for _ in 0..cursor.rest.len() {
-        if cursor.rest.is_empty() || !take_indent(cursor, depth) {
+        cursor.skip_blanks();
+        let word = next_word(cursor.rest);
+        let keyword = keyword_of(word);
+        if cursor.rest.is_empty() || keyword == Some(Keyword::End) {
             break;
         }
-        let statement = read_statement(cursor, depth)?;
+        if keyword.is_some() {
+            cursor.take_front(word.len());
+        }
+        let statement = read_statement(cursor, keyword, depth)?;
         statements.push(statement)?;
     }
     Ok(statements)
 }
 
-// The spaces before a line within so many statements, if they are next.
-fn take_indent(cursor: &mut Cursor<'_>, depth: usize) -> bool {
-    cursor.take_spaces(depth.saturating_mul(2))
-}
-
-fn expect_indent(cursor: &mut Cursor<'_>, depth: usize) -> Result<(), Stop> {
-    if take_indent(cursor, depth) {
-        Ok(())
-    } else {
-        Err(Stop::Unlike)
-    }
-}
-
 #[cycle(read)]
-fn read_statement(cursor: &mut Cursor<'_>, depth: usize) -> Result<Statement, Stop> {
-    let head = read_head(cursor, depth)?;
+fn read_statement(
+    cursor: &mut Cursor<'_>,
+    keyword: Option<Keyword>,
+    depth: usize,
+) -> Result<Statement, Stop> {
+    let head = read_head(cursor, keyword, depth)?;
     let node = match head {
         Head::Simple(node) => node,
         Head::If(condition) => read_branches(cursor, condition, depth)?,
         Head::ForEach { variable, list } => {
-            let body = read_loop(cursor, depth, b"endfor\n".as_slice())?;
+            let body = read_loop(cursor, depth, b"endfor".as_slice())?;
             StatementNode::ForEach {
                 variable,
                 list,
@@ -52,7 +51,7 @@ fn read_statement(cursor: &mut Cursor<'_>, depth: usize) -> Result<Statement, St
             first,
             last,
         } => {
-            let body = read_loop(cursor, depth, b"endfor\n".as_slice())?;
+            let body = read_loop(cursor, depth, b"endfor".as_slice())?;
             StatementNode::ForRange {
                 variable,
                 first,
@@ -61,7 +60,7 @@ fn read_statement(cursor: &mut Cursor<'_>, depth: usize) -> Result<Statement, St
             }
         }
         Head::While { name, condition } => {
-            let body = read_loop(cursor, depth, b"endwhile\n".as_slice())?;
+            let body = read_loop(cursor, depth, b"endwhile".as_slice())?;
             StatementNode::While {
                 name,
                 condition,
@@ -69,7 +68,7 @@ fn read_statement(cursor: &mut Cursor<'_>, depth: usize) -> Result<Statement, St
             }
         }
         Head::Fork { variable, delay } => {
-            let body = read_loop(cursor, depth, b"endfork\n".as_slice())?;
+            let body = read_loop(cursor, depth, b"endfork".as_slice())?;
             StatementNode::Fork {
                 variable,
                 delay,
@@ -81,22 +80,20 @@ fn read_statement(cursor: &mut Cursor<'_>, depth: usize) -> Result<Statement, St
     Ok(Statement { node })
 }
 
-// The statements within a statement that stands within so many others, and the indent of the line behind them.
+// The statements within a statement that stands within so many others.
 #[cycle(read)]
 fn read_body(cursor: &mut Cursor<'_>, depth: usize) -> Result<Vec<Statement>, Stop> {
     if depth >= GREATEST_HEIGHT {
         return Err(Stop::Unlike);
     }
-    let body = read_block(cursor, depth + 1)?;
-    expect_indent(cursor, depth)?;
-    Ok(body)
+    read_block(cursor, depth + 1)
 }
 
 // The statements up to an end word.
 #[cycle(read)]
 fn read_loop(cursor: &mut Cursor<'_>, depth: usize, end: &[u8]) -> Result<Vec<Statement>, Stop> {
     let body = read_body(cursor, depth)?;
-    cursor.expect(end)?;
+    cursor.expect_keyword(end)?;
     Ok(body)
 }
 
@@ -114,7 +111,7 @@ fn read_branches(
         body,
     })?;
     for _ in 0..cursor.rest.len() {
-        if !cursor.take(b"elseif (".as_slice()) {
+        if !cursor.take_keyword(b"elseif".as_slice()) {
             break;
         }
         let condition = read_condition(cursor, depth)?;
@@ -130,11 +127,11 @@ fn read_branches(
 
 #[cycle(read)]
 fn read_else(cursor: &mut Cursor<'_>, depth: usize) -> Result<Option<Vec<Statement>>, Stop> {
-    if cursor.take(b"endif\n".as_slice()) {
+    if cursor.take_keyword(b"endif".as_slice()) {
         return Ok(None);
     }
-    cursor.expect(b"else\n".as_slice())?;
-    let body = read_loop(cursor, depth, b"endif\n".as_slice())?;
+    cursor.expect_keyword(b"else".as_slice())?;
+    let body = read_loop(cursor, depth, b"endif".as_slice())?;
     Ok(Some(body))
 }
 
@@ -142,8 +139,8 @@ fn read_else(cursor: &mut Cursor<'_>, depth: usize) -> Result<Option<Vec<Stateme
 #[cycle(read)]
 fn read_try(cursor: &mut Cursor<'_>, depth: usize) -> Result<StatementNode, Stop> {
     let body = read_body(cursor, depth)?;
-    if cursor.take(b"finally\n".as_slice()) {
-        let cleanup = read_loop(cursor, depth, b"endtry\n".as_slice())?;
+    if cursor.take_keyword(b"finally".as_slice()) {
+        let cleanup = read_loop(cursor, depth, b"endtry".as_slice())?;
         return Ok(StatementNode::TryFinally { body, cleanup });
     }
     let arms = read_arms(cursor, depth)?;
@@ -161,7 +158,7 @@ fn read_arms(cursor: &mut Cursor<'_>, depth: usize) -> Result<Vec<Arm>, Stop> {
             codes,
             body,
         })?;
-        if cursor.take(b"endtry\n".as_slice()) {
+        if cursor.take_keyword(b"endtry".as_slice()) {
             return Ok(arms);
         }
     }

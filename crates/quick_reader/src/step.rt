@@ -14,6 +14,7 @@ pub enum Step {
 
 /// Takes the sign of what goes on right behind an operand, if one is next.
 pub fn take_step(cursor: &mut Cursor<'_>) -> Option<Step> {
+    cursor.skip_blanks();
     match cursor.rest {
         [b'.', b'.', ..] => None,
         [b'.', behind @ ..] => {

@@ -4,7 +4,7 @@ use std::alloc::{AllocError, AllocFailed};
 /// Why a text is read no further.
 #[derive(Debug, Drop)]
 pub enum Stop {
-    /// It is not spelled as programs are in their canonical lines, or nests too deep.
+    /// It is not spelled as most programs are, or nests too deep.
     Unlike,
     /// No memory is left.
     Memory(AllocError),

@@ -3,7 +3,6 @@ use Rattle.std.proofs.Common.{◌≡◌, ℤ, ◌&&◌, Result, Ok, Err, Option,
 use Rattle.std.specs.Prelude.{option_map}
 use Rattle.spec_value.specs.Datum.{object, text, Text, Data}
 use Rattle.spec_world.specs.World.{World, Object, Header, object_at}
-use Rattle.spec_world.specs.Inherit.{ancestors}
 use Rattle.spec_world.specs.Questions.{header_at}
 use Rattle.spec_world.specs.Agreeing.{ObjectsAgree}
 use Rattle.spec_world.specs.VerbNames.{any_spells}

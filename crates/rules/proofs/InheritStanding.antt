@@ -1,10 +1,9 @@
 -- What stands of a world stands after each change: of objects alone, of a task, of a link.
-use Rattle.std.proofs.Common.{◌≡◌, ◌⊎◌, inl, inr, ℕ, ℤ, pos, Bool, true, false, not, ◌&&◌, ◌||◌, List, [], ◌∷◌, ◌++◌, Option, Some, None, refl, sym, ap, ◌∙◌, subst, IsTrue, is_some}
-use Rattle.std.specs.Prelude.{int_le}
+use Rattle.std.proofs.Common.{◌≡◌, ◌⊎◌, inl, inr, ℕ, ℤ, Bool, false, not, [], ◌∷◌, ◌++◌, Some, None, refl, sym, ap, ◌∙◌, subst, IsTrue, is_some}
 use Rattle.std.specs.Ordering.{int_eq}
 use Rattle.std.specs.List.{filter}
 use Rattle.std.specs.Cmp.{int_cmp_total}
-use Rattle.spec_value.specs.Datum.{Datum, Text, fold_case}
+use Rattle.spec_value.specs.Datum.{Text}
 use Rattle.spec_value.specs.Table.{Numbered, at, with, without, is_numbered}
 use Rattle.spec_world.specs.World.{World, Object, Slot, Task, Waiting, forked, timed, idle, reading_on, Link, object_at}
 use Rattle.spec_world.specs.Inherit.{slot_at, with_slot}

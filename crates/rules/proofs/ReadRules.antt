@@ -1,8 +1,7 @@
 -- What a read of a property answers, from what was asked.
 use Rattle.std.proofs.Common.{◌≡◌, ℤ, Bool, true, false, ◌||◌, Option, Some, None, refl, sym, ap, ◌∙◌, if◌then◌else◌}
-use Rattle.std.specs.Prelude.{option_map}
 use Rattle.spec_value.specs.Datum.{Datum, object, text, Text, ErrorCode, permission_denied}
-use Rattle.spec_value.specs.Answer.{Answer, raises}
+use Rattle.spec_value.specs.Answer.{raises}
 use Rattle.spec_world.specs.World.{World, Object, Slot, object_at}
 use Rattle.spec_world.specs.Inherit.{slot_of, slot_at, property_value}
 use Rattle.spec_world.specs.Permissions as act

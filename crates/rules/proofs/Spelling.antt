@@ -7,9 +7,10 @@ use Rattle.std.proofs.Math.Dec.{leb-zero, leb-suc-zero, eqb-suc-zero, eqb-suc-su
 use Rattle.std.proofs.lemmas.Bool.{eq-eqb, ne_eqb, le-leb, lt-leb, lt-ltb, le-ltb, cases_lt}
 use Rattle.std.proofs.lemmas.Str.Ascii.{lowercase_is}
 use Rattle.std.proofs.lemmas.List.{length-map, take_rest, drop-drop, take-map, drop-map, drop_all}
-use Rattle.std.proofs.Math.Seq.{drop-nil}
+use Rattle.std.proofs.Math.Seq.{drop-nil, take-length}
 use Rattle.spec_value.specs.Datum.{Text, fold_case, same_text}
 use Rattle.spec_value.specs.TextSearch.{begins}
+use Rattle.rules.specs.VerbMatchMeant.{IsPlain}
 use Rattle.spec_world.specs.VerbNames.{before_star, after_star, spelled, spells, unless_empty, cut_at_spaces, names_in}
 
 -- ---- names cut at spaces
@@ -225,3 +226,20 @@ module _ (name word : Text) where
   pub spells_by_parts : (a b : Text) → before_star (fold_case name) ≡ fold_case a → after_star (fold_case name) ≡ Some (fold_case b) → spelled (fold_case a) (Some (fold_case b)) (fold_case word) ≡ spells name word
   unfolding spells
   spells_by_parts a b before after = sym (ap (λ t. spelled t (after_star (fold_case name)) (fold_case word)) before ∙ ap (λ o. spelled (fold_case a) o (fold_case word)) after)
+
+-- ---- one name alone
+
+or_false : (b : Bool) → (b || false) ≡ b
+or_false true = refl
+or_false false = refl
+
+pub plain_spells : (names word : Text) → IsPlain names → same_text (fold_case names) (fold_case word) ≡ list_any (λ n. spells n word) (names_in names)
+plain_spells names word h =
+    let test = λ (n : Text). spells n word in
+    let k = length names in
+    spells_itself names word (no_star names h.no_star)
+    ∙ sym (any_name test names k (omega arith) (cut_here names k (omega arith) h.no_space (λ lt. absurd (omega arith)))
+    ∙ ap (λ b. (b && test (take k names)) || list_any test (names_in (drop (suc k) names))) (lt-ltb 0 k h.some)
+    ∙ ap (λ t. test t || list_any test (names_in (drop (suc k) names))) (take-length names)
+    ∙ ap (λ b. test names || b) (none_behind word names (suc k) (omega arith))
+    ∙ or_false (test names))

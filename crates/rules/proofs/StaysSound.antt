@@ -1,5 +1,5 @@
 -- A call that changes nothing leaves the world as sound as it was.
-use Rattle.std.proofs.Common.{◌≡◌, ℕ, Result, Ok, Err, OnOk, sym, ◌∙◌, subst}
+use Rattle.std.proofs.Common.{ℕ, Result, Ok, Err, OnOk, sym, ◌∙◌, subst}
 use Rattle.std.specs.Prelude.{IfOk}
 use Rattle.spec_world.specs.World.{World}
 use Rattle.view.specs.Sound.{IsSound}

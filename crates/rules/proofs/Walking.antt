@@ -1,16 +1,15 @@
 -- How a walk from parents to children goes.
-use Rattle.std.proofs.Common.{◌≡◌, ◌⊎◌, inl, inr, ℕ, zero, suc, ◌+◌, ◌<◌, ◌≤◌, ℤ, pos, Bool, true, false, ◌||◌, List, [], ◌∷◌, ◌++◌, length, get_or, take, Option, Some, None, refl, sym, ap, ◌∙◌, subst, IsTrue, is_some, is_none, arith}
+use Rattle.std.proofs.Common.{◌≡◌, ◌⊎◌, inl, inr, ℕ, zero, suc, ◌+◌, ◌<◌, ◌≤◌, ℤ, pos, true, false, ◌||◌, List, [], ◌∷◌, ◌++◌, length, get_or, take, Option, Some, None, refl, sym, ap, ◌∙◌, subst, IsTrue, is_some, is_none, arith}
 use Rattle.std.specs.Prelude.{option_map}
 use Rattle.std.specs.Ordering.{int_eq}
-use Rattle.std.specs.List.{list_any}
 use Rattle.std.proofs.lemmas.List.Folds.{list_any-append}
-use Rattle.spec_value.proofs.Same.{same_integer, integer_itself}
+use Rattle.spec_value.proofs.Same.{integer_itself}
 use Rattle.spec_world.specs.World.{World, Header, Object, object_at}
 use Rattle.spec_world.specs.WellFormed.{lists}
 use Rattle.spec_world.specs.Agreeing.{ObjectsAgree}
 use Rattle.spec_world.specs.Families.{nowhere, is_below}
 use Rattle.spec_world.specs.Questions.{header_at, children_at}
-use Rattle.spec_world.proofs.Trees.{Node, Nodes, Path, IsTree, same_or_not, some_same, path_from, on_path, either, first_of, second_of, listed_alone}
+use Rattle.spec_world.proofs.Trees.{Node, Path, IsTree, same_or_not, some_same, path_from, on_path, either, first_of, second_of, listed_alone}
 use Rattle.spec_world.proofs.WorldTrees.{parents, node_there, object_there}
 use Rattle.spec_world.proofs.Households.{household, same_tests}
 use Rattle.spec_world.proofs.PropertyChanges.{below_is}

@@ -25,3 +25,4 @@ pub mod Queueing
 pub mod Tops
 pub mod Onward
 pub mod Appending
+pub mod AskingOn

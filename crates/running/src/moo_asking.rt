@@ -2,3 +2,4 @@
 //! machine of the whole language.
 pub mod asking;
 pub mod leading;
+pub mod simply;

@@ -1,5 +1,6 @@
 //! The loop of the machine: tasks run over a view of the world, with the built-in functions that they are given.
 mod append;
+mod asking;
 pub mod calling;
 mod forking;
 pub mod leaving;

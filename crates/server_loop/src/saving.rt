@@ -4,18 +4,17 @@ use checkpoint_beside::encoder::{Encoder, Plain};
 use std::alloc::{AllocError, Global};
 use std::io;
 use std::io::Write;
-use std::rt::Files;
 use std::sync::Arc;
 use std::sync::atomic::{AtomicBool, Ordering};
 use std::thread::{Parker, Threads};
-use whole_files::writing::write_file;
+use whole_files::writing::WholeFiles;
 use world::worlds::{Snapshot, World};
 
-/// The file of a server's checkpoints, and the next of them on its way. Its text is made on a thread of its own while the
-/// server goes on, one at a time; of the worlds that wait for it the newest alone is kept.
+/// The file of a server's checkpoints, and the next of them on its way. Its text is made and written on a thread of its own while
+/// the server goes on, one at a time; of the worlds that wait for it the newest alone is kept.
 #[derive(Drop)]
 pub struct Saver {
-    file: String,
+    file: Arc<String, Global>,
     // The world that is to be written next.
     waiting: Option<Snapshot>,
     // Whether the world of the next turn is to be written, as none could be kept or begun.
@@ -28,21 +27,22 @@ impl Saver {
     /// Nothing is to be written yet. The bell rings when something has been done.
     pub fn new(alloc: Global, file: &str, bell: &Arc<Parker, Global>) -> Result<Saver, AllocError> {
         Ok(Saver {
-            file: String::from_str(alloc, file)?,
+            file: Arc::new(alloc, String::from_str(alloc, file)?)?,
             waiting: None,
             is_owed: false,
             encoding: None,
             signal: Signal {
                 is_done: Arc::new(alloc, AtomicBool::new(false))?,
+                is_written: Arc::new(alloc, AtomicBool::new(false))?,
                 bell: Arc::try_clone(bell)?,
             },
         })
     }
 
-    /// Keeps the world if a task asked for that, writes what has been made, and goes on with what is to be made.
-    pub fn tend<R: AllocGlobal + Files + Threads, E: Write>(
+    /// Keeps the world if a task asked for that, says how the writing of one went that is over, and goes on with what is to be written.
+    pub fn tend<R: AllocGlobal + WholeFiles + Threads + Copy + Send + 'static, E: Write>(
         &mut self,
-        rt: &R,
+        rt: R,
         world: &World,
         is_asked: bool,
         errors: &mut E,
@@ -51,7 +51,7 @@ impl Saver {
             self.keep(world);
         }
         if self.signal.is_given() {
-            self.write(rt, errors);
+            self.finish(&rt, errors);
         }
         if self.encoding.is_none() {
             self.begin(rt);
@@ -70,49 +70,59 @@ impl Saver {
     }
 
     // Begins with the world that waits.
-    fn begin<R: AllocGlobal + Threads>(&mut self, rt: &R) {
+    fn begin<R: AllocGlobal + WholeFiles + Threads + Copy + Send + 'static>(&mut self, rt: R) {
         let Some(snapshot) = self.waiting.take() else {
             return;
         };
-        let Ok(signal) = self.signal.share() else {
+        let Ok(writer) = self.make_writer(rt) else {
             self.is_owed = true;
             return;
         };
-        match Beside::start(rt, rt.alloc(), signal, snapshot) {
+        match Beside::start(&rt, rt.alloc(), writer, snapshot) {
             Ok(beside) => self.encoding = Some(beside),
             Err(_) => self.is_owed = true,
         }
     }
 
-    // The thread has done its work: writes the text that it made, and says how that went.
-    fn write<R: AllocGlobal + Files + Threads, E: Write>(&mut self, rt: &R, errors: &mut E) {
+    // What a thread needs that writes the file.
+    fn make_writer<R: Copy>(&self, rt: R) -> Result<Writer<R>, AllocError> {
+        Ok(Writer {
+            rt,
+            file: Arc::try_clone(&self.file)?,
+            signal: self.signal.share()?,
+        })
+    }
+
+    // Waits for the thread, if there is one, and says whether it wrote the file.
+    fn finish<R: Threads, E: Write>(&mut self, rt: &R, errors: &mut E) {
         if let Some(encoding) = self.encoding.take() {
-            let is_written = match encoding.join(rt) {
-                Ok(text) => write_file(rt, self.file.as_str(), text.as_slice()).is_ok(),
-                Err(_) => false,
-            };
-            say(errors, self.file.as_str(), is_written);
+            let is_made = encoding.join(rt).is_ok();
+            say(
+                errors,
+                self.file.as_str(),
+                is_made && self.signal.is_written(),
+            );
         }
     }
 
     /// Waits for what is on its way, and writes the last world. Gives whether that went well.
-    pub fn end<R: AllocGlobal + Files + Threads, E: Write>(
+    pub fn end<R: AllocGlobal + WholeFiles + Threads, E: Write>(
         mut self,
         rt: &R,
         world: &World,
         errors: &mut E,
     ) -> bool {
-        self.write(rt, errors);
+        self.finish(rt, errors);
         let is_written = write_world(rt, self.file.as_str(), world).is_ok();
         say(errors, self.file.as_str(), is_written);
         is_written
     }
 }
 
-fn write_world<R: AllocGlobal + Files>(rt: &R, file: &str, world: &World) -> io::Result<()> {
+fn write_world<R: AllocGlobal + WholeFiles>(rt: &R, file: &str, world: &World) -> io::Result<()> {
     let snapshot = world.snapshot()?;
     let text = Plain.encode(rt.alloc(), &snapshot)?;
-    write_file(rt, file, text.as_slice())
+    rt.write_whole(file, text.as_slice())
 }
 
 // Says how the writing of a file went.
@@ -124,10 +134,11 @@ fn say<E: Write>(errors: &mut E, file: &str, is_written: bool) {
     };
 }
 
-// What a thread gives when it has done its work.
+// What a thread gives when it has done its work, and whether the file was written.
 #[derive(Drop)]
 struct Signal {
     is_done: Arc<AtomicBool, Global>,
+    is_written: Arc<AtomicBool, Global>,
     bell: Arc<Parker, Global>,
 }
 
@@ -136,12 +147,14 @@ impl Signal {
     fn share(&self) -> Result<Signal, AllocError> {
         Ok(Signal {
             is_done: Arc::try_clone(&self.is_done)?,
+            is_written: Arc::try_clone(&self.is_written)?,
             bell: Arc::try_clone(&self.bell)?,
         })
     }
 
     // Gives it, and rings the bell.
-    fn give(&self) {
+    fn give(&self, is_written: bool) {
+        self.is_written.store(is_written, Ordering::SeqCst);
         self.is_done.store(true, Ordering::SeqCst);
         self.bell.unpark();
     }
@@ -154,12 +167,32 @@ impl Signal {
         }
         is_given
     }
+
+    // Whether the thread that gave it last had written the file.
+    fn is_written(&self) -> bool {
+        self.is_written.load(Ordering::SeqCst)
+    }
 }
 
-impl Encoder for Signal {
+// Makes the text of a world and writes the file, on the thread that it is handed to.
+#[derive(Drop)]
+struct Writer<R> {
+    rt: R,
+    file: Arc<String, Global>,
+    signal: Signal,
+}
+
+impl<R: WholeFiles + Send> Encoder for Writer<R> {
     fn encode(&self, alloc: Global, snapshot: &Snapshot) -> Result<Vec<u8>, AllocError> {
         let text = Plain.encode(alloc, snapshot);
-        self.give();
+        let is_written = match &text {
+            Ok(text) => self
+                .rt
+                .write_whole(self.file.as_str(), text.as_slice())
+                .is_ok(),
+            Err(_) => false,
+        };
+        self.signal.give(is_written);
         text
     }
 }

@@ -12,11 +12,12 @@ use speculate::gate::Gate;
 use std::alloc::Global;
 use std::io::Write;
 use std::net::TcpListener;
-use std::rt::{Clock, Files};
+use std::rt::Clock;
 use std::sync::{Arc, Wait};
 use std::thread;
 use std::thread::{Parker, Threads};
 use std::time::Duration;
+use whole_files::writing::WholeFiles;
 use world::worlds::World;
 
 /// The status of a server that a task ended.
@@ -38,7 +39,7 @@ const LAST_LINES: u64 = 300;
 /// an end that a task asked for is `FAULT`.
 pub fn serve<
     G: Gate,
-    R: AllocGlobal + Files + Threads + Wait + Clock + Copy + Send + Sync + 'static,
+    R: AllocGlobal + WholeFiles + Threads + Wait + Clock + Copy + Send + Sync + 'static,
     C: Clock,
     E: Write,
 >(
@@ -117,7 +118,7 @@ fn end_links<R: Threads + Wait + Clock + Copy>(rt: R, mut links: Links, end: End
 // Turns until the server does not go on. Gives the world that it has come to.
 fn run_turns<
     G: Gate,
-    R: AllocGlobal + Files + Threads + Wait + Copy + Send + Sync + 'static,
+    R: AllocGlobal + WholeFiles + Threads + Wait + Copy + Send + Sync + 'static,
     C: Clock,
     E: Write,
 >(
@@ -138,7 +139,7 @@ fn run_turns<
             return (world, end);
         }
         if let Some(saver) = &mut edge.saver {
-            saver.tend(&rt, &world, asks, errors);
+            saver.tend(rt, &world, asks, errors);
         }
         reached = run_turn(rt, alloc, gate, clock, plan, world, &mut pace, edge);
     }

@@ -17,6 +17,7 @@ use Rattle.task_step.proofs.Crossing.{step_send, step_sync, outcome_send}
 use Rattle.world.proofs.Crossing.{count_send, draft_send, snapshot_send, world_send}
 use Rattle.speculate.specs.contracts.board.Board as board
 use Rattle.speculate.specs.contracts.guesses.Guess as guess
+use Rattle.speculate.specs.contracts.guesses.Spent as spent
 use Rattle.speculate.specs.contracts.held.Held as held
 use Rattle.speculate.specs.contracts.held.Mark as mark
 use Rattle.speculate.specs.contracts.shared.SharedBoard as shared
@@ -32,11 +33,14 @@ guess_send = search (sendable, crosses, step_send, reads_send, changes_send, out
 held_send : IsSend held.the_row
 held_send = search (sendable, crosses, guess_send) depth 60
 
+spent_send : IsSend spent.the_row
+spent_send = search (sendable, crosses, step_send, reads_send, changes_send) depth 60
+
 mark_send : IsSend mark.the_row
 mark_send = search (sendable, crosses) depth 60
 
 board_send : IsSend board.the_row
-board_send = search (sendable, crosses, step_send, world_send, outcome_send, mark_send, held_send, count_send) depth 60
+board_send = search (sendable, crosses, step_send, world_send, outcome_send, mark_send, held_send, spent_send, count_send) depth 60
 
 phantom_send : (J : RattleType) → IsSend (PhantomData.the_row J)
 phantom_send J = search (sendable, crosses) depth 60
@@ -47,12 +51,12 @@ tied_send J g s = declared_send (tied.the_type J g) (as_row_send board.the_field
 pub shared_sync : (J : RattleType) (g : Run.Ghosts J.Denot) → IsSend J → IsSync (shared.the_row J g)
 shared_sync J g s = let t = tied_send J g s in search (sendable, crosses, t) depth 60
 
--- what a worker is lent: the runtime, the allocator, the gate, the board, the claims and the steps; its seat, and how many positions it claims at once
+-- what a worker is lent: the runtime, the allocator, the gate, the board, the claims and the steps; its seat, how many positions it claims at once, and how far ahead it goes
 abbrev Lent : (J G R : RattleType) → Run.Ghosts J.Denot → (runtime gate board claims steps : NamedLft) → List RattleType
 Lent J G R g a b c d e =
     (shr_ref_field a (param.param 2 R) tt).row ∷ Global.the_row ∷ (shr_ref_field b (param.param 1 G) tt).row
     ∷ (shr_ref_field c (shared.the_row (param.param 0 J) g) tt).row ∷ (shr_ref_field d claims.the_row tt).row
-    ∷ seat.the_row ∷ (shr_slice_field e step.the_row tt).row ∷ u64-field.row ∷ []
+    ∷ seat.the_row ∷ (shr_slice_field e step.the_row tt).row ∷ u64-field.row ∷ u64-field.row ∷ []
 
 pub worker_send : (J G R : RattleType) (g : Run.Ghosts J.Denot) (n : Sym) (a b c d e : NamedLft)
     → IsSend (param.param 0 J) → IsSync (param.param 1 G) → IsSync (param.param 2 R) → IsSend (TupleAt n (Lent J G R g a b c d e))
@@ -72,7 +76,7 @@ worker_send J G R g n a b c d e j gate runtime =
                 (search (sendable, crosses, as_row_send, seat_send) depth 60),
                 (
                   (search (sendable, crosses, as_row_send, step_sync) depth 60),
-                  ((search (sendable, crosses) depth 60), tt),
+                  ((search (sendable, crosses) depth 60), ((search (sendable, crosses) depth 60), tt)),
                 ),
               ),
             ),

@@ -1,4 +1,5 @@
 pub mod Crossing
+pub mod Again
 pub mod Alone
 pub mod Honest
 pub mod Places

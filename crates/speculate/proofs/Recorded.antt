@@ -41,6 +41,6 @@ home_agrees before t rs home reads agrees = rw (home, reads) agrees
 
 -- and becomes what came of it, where records have that
 pub records_at : (before : World) (t : Trace) (cs : List Change) (fork : Option World) → before ≡ t.home → cs ≡ t.changes
-    → unwrap_or fork t.home ≡ apply_all t.changes t.home → IfSome fork (λ d. d ≡ apply_all cs before)
+    → unwrap_or fork (apply_all t.changes t.home) ≡ apply_all t.changes t.home → IfSome fork (λ d. d ≡ apply_all cs before)
 records_at before t cs None home changes is = tt
 records_at before t cs (Some d) home changes is = rw (home, changes) is

@@ -5,11 +5,13 @@ ghost use Rattle.speculate.specs.BoardState.{IsHonest, IsFree, opened_on, with_h
 ghost use Rattle.speculate.specs.Progress.{Commits, Advances, AdvancesInPart, IsNextHeld, StaysPut, SameRun, ready, rest, AllHeld};
 
 use crate::commit::{Done, commit};
-use crate::guesses::Guess;
+use crate::guesses::{Guess, Spent};
 use crate::held::{Held, Mark, put_back, take_out};
 use crate::report::Report;
+use crate::sight::Sight;
 use std::alloc::{AllocError, Global};
 use std::marker::Model;
+use std::mem;
 use std::snapshot::Snapshot as Remembered;
 use task_step::list::may_play;
 use task_step::outcome::Outcome;
@@ -22,6 +24,12 @@ use world::worlds::{Snapshot, World};
 const RECENT: usize = 128;
 // How many steps are guessed first, whatever comes of it.
 const TRIED: usize = 4096;
+// How many steps are run at once without guesses where these seldom hold.
+const STRETCH: usize = 1024;
+// Where of so many guesses that held at most one did not, a worker may go so much farther ahead.
+const CALM: usize = 8;
+
+const FARTHER: usize = 8;
 
 /// A list of steps under way. The steps are committed in their order: what is committed is what they do one after another.
 #[derive(Drop)]
@@ -35,6 +43,10 @@ pub struct Board {
     undone: Count,
     // No verb has changed since so many steps were committed.
     since: usize,
+    // What is left of the guesses that were committed, until it is handed out.
+    spent: Vec<Spent>,
+    // How far ahead of what is committed a guess may be made, as far as is known.
+    reach: usize,
 }
 
 impl Model for Board {
@@ -103,6 +115,8 @@ impl Board {
                 held,
                 undone: Count::zero(),
                 since: 0,
+                spent: Vec::new(alloc),
+                reach: 0,
             }),
             Err(_) => Err((Refusal::Memory, world)),
         }
@@ -213,6 +227,7 @@ impl Board {
             return Err(AllocError);
         }
         let held = take_out(&mut self.held, at);
+        let distance = held.distance(at);
         match commit(
             alloc,
             &mut self.world,
@@ -227,10 +242,13 @@ impl Board {
                     outcome,
                     mark,
                     leaves_verbs,
+                    spent,
                 } = done;
                 self.outcomes.push_reserved(outcome);
                 self.marks.push_reserved(mark);
                 self.since = since_after(leaves_verbs, self.since, at);
+                keep_spent(&mut self.spent, spent);
+                self.reach = reach_after(self.reach, mark, distance);
                 Ok(())
             }
             Err(held) => {
@@ -304,8 +322,8 @@ impl Board {
     }
 
     /// Posts guesses, each with its position, and the number of steps that were committed when they were made; from the first position up to the end it
-    /// loses what holds nothing then. Then it commits as far as each position holds something; want of memory is no answer, since what is left is committed
-    /// at the end.
+    /// loses what holds nothing then. Then it commits as far as each position holds something, and where guesses seldom hold a stretch of what follows, without
+    /// guesses. Want of memory is no answer, since what is left is committed at the end. It hands out what is left of the guesses.
     pub(crate) fn hand_in_all(
         &mut self,
         alloc: Global,
@@ -313,17 +331,47 @@ impl Board {
         end: usize,
         found: Vec<(usize, Guess)>,
         seen: usize,
-    )
+    ) -> Vec<Spent>
         requires { All (λ f. f.1.before ≡ world_after self.old.base.plain self.old.steps seen) found.items }
         ensures { (self.new.base ≡ self.old.base) × (self.new.steps ≡ self.old.steps) }
     {
         self.post_all(found, seen);
         self.lose_free(first, end);
         let _ = self.advance(alloc);
+        if !self.is_hopeful() {
+            self.play_stretch(alloc);
+        }
+        mem::replace(&mut self.spent, Vec::new(alloc))
     }
 
-    /// Whether guesses are worth their while: the list is young, or of the guesses among the last steps not less than every fourth was kept.
-    pub(crate) fn is_hopeful(&self) -> bool {
+    // Loses what holds nothing of a stretch of positions that are not committed yet, and commits it.
+    fn play_stretch(&mut self, alloc: Global)
+        ensures { (self.new.base ≡ self.old.base) × (self.new.steps ≡ self.old.steps) }
+    {
+        let from = self.count();
+        let end = from.saturating_add(STRETCH).min(self.steps.len());
+        self.lose_free(from, end);
+        let _ = self.advance(alloc);
+    }
+
+    /// What a worker sees that is to go so far ahead of what is committed, and farther where guesses held so far ahead. None after want of memory.
+    pub(crate) fn sight(&self, ahead: usize) -> Option<Sight>
+        ensures { IfSome result (λ s. s.snapshot ≡ world_after self.now.base.plain self.now.steps s.count) }
+    {
+        let count = self.count();
+        let Ok(snapshot) = self.snapshot() else {
+            return None;
+        };
+        let limit = count.saturating_add(ahead.max(self.reach));
+        Some(Sight {
+            snapshot,
+            count,
+            limit,
+        })
+    }
+
+    // Whether guesses are worth their while: the list is young, or of the guesses among the last steps not less than every fourth was kept.
+    fn is_hopeful(&self) -> bool {
         if self.marks.len() < TRIED {
             return true;
         }
@@ -380,12 +428,33 @@ impl Board {
             held: _,
             undone: _,
             since: _,
+            spent: _,
+            reach: _,
         } = self;
         Report {
             world,
             outcomes,
             marks,
         }
+    }
+}
+
+// How far ahead guesses may be made, once one from this distance came so: a quarter farther than the farthest that was kept, and no farther than the last that
+// was not.
+fn reach_after(reach: usize, mark: Mark, distance: usize) -> usize {
+    match mark {
+        Mark::Kept => reach.max(distance.saturating_add(distance / 4)),
+        Mark::Rerun => reach.min(distance),
+        Mark::Lost => reach,
+    }
+}
+
+// Keeps what is left of a guess, if there is memory for it.
+fn keep_spent(all: &mut Vec<Spent>, spent: Option<Spent>) {
+    if let Some(spent) = spent
+        && all.reserve(1).is_ok()
+    {
+        all.push_reserved(spent);
     }
 }
 

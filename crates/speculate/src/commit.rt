@@ -1,14 +1,15 @@
 //! The commit of one position.
-ghost use Rattle.std.specs.Prelude.{◌≡◌, ◌≢◌, false, IsTrue, IfOk, IfErr};
+ghost use Rattle.std.specs.Prelude.{◌≡◌, ◌≢◌, false, IsTrue, IfOk, IfErr, IfSome};
 ghost use Rattle.spec_world.specs.Questions.{Agrees};
 ghost use Rattle.spec_world.specs.Step.{in_range};
 ghost use Rattle.view.specs.Sound.{IsSound};
 ghost use Rattle.speculate.specs.BoardState.{FitsStep};
-ghost use Rattle.speculate.specs.Right.{after_guess};
+ghost use Rattle.speculate.specs.Right.{IsRight, after_guess};
 ghost use Rattle.speculate.specs.Progress.{Ran, Committed, IsUndone};
 ghost use Rattle.speculate.specs.Verbs.{SameVerbs, IsWithin, KnowsVerbs};
 
-use crate::guesses::Guess;
+use crate::guesses::{Guess, Spent};
+use crate::guessing::guess;
 use crate::held::{Held, Mark};
 use std::alloc::Global;
 use task_run::list::play_step;
@@ -17,12 +18,13 @@ use task_step::step::Step;
 use world::count::Count;
 use world::worlds::World;
 
-/// A step that is committed: its outcome, how it came, and whether it is known to have left all verbs as they were.
+/// A step that is committed: its outcome, how it came, whether it is known to have left all verbs as they were, and what is left of its guess.
 #[derive(Drop)]
 pub(crate) struct Done {
     pub(crate) outcome: Outcome,
     pub(crate) mark: Mark,
     pub(crate) leaves_verbs: bool,
+    pub(crate) spent: Option<Spent>,
 }
 
 /// Commits a step on the world, as its position says, where so many steps are committed, and no verb has changed since so many of them. After want of
@@ -53,7 +55,7 @@ pub(crate) fn commit(
                 keep(world, guess, seen)
             } else {
                 let held = Held::Holds(guess, seen);
-                run(alloc, world, undone, held, step, Mark::Rerun)
+                run_again(alloc, world, undone, held, step)
             }
         }
     }
@@ -79,13 +81,59 @@ fn keep(world: &mut World, guess: Guess, seen: Option<usize>) -> Result<Done, He
 {
     let leaves_verbs = guess.leaves_verbs();
     match guess.keep(world) {
-        Ok(outcome) => Ok(Done {
+        Ok((outcome, spent)) => Ok(Done {
             outcome,
             mark: Mark::Kept,
             leaves_verbs,
+            spent: Some(spent),
         }),
         Err(guess) => Err(Held::Holds(guess, seen)),
     }
+}
+
+// The step is run on the world as it is now, so that what it changes is known, and its changes are made through a view of the world.
+fn run_again(
+    alloc: Global,
+    world: &mut World,
+    undone: &mut Count,
+    held: Held,
+    step: &Step,
+) -> Result<Done, Held>
+    requires { IsTrue (in_range step.now) }
+    ensures ok { IfOk result (λ d. Ran world.old step.now world.new d.outcome × (d.mark ≡ Mark.Rerun) × (undone.new ≡ undone.old)) }
+    ensures verbs { IfOk result (λ d. IsTrue d.leaves_verbs → SameVerbs world.old.plain world.new.plain) }
+    ensures err { IfErr result (λ h. (h ≡ held) × IsUndone world.old undone.old world.new undone.new) }
+{
+    world.know();
+    let Some(guess) = guess_now(alloc, world, step) else {
+        return Err(held);
+    };
+    let leaves_verbs = guess.leaves_verbs();
+    match guess.put_through(world) {
+        Some(outcome) => Ok(Done {
+            outcome,
+            mark: Mark::Rerun,
+            leaves_verbs,
+            spent: held.into_spent(),
+        }),
+        None => {
+            undone.tick();
+            Err(held)
+        }
+    }
+}
+
+// A guess on the world as it is.
+fn guess_now(alloc: Global, world: &World, step: &Step) -> Option<Guess>
+    requires { IsTrue (in_range step.now) }
+    ensures step { IfSome result (λ g. g.step ≡ step.now) }
+    ensures right { IfSome result (λ g. IsRight g) }
+    ensures agrees { IfSome result (λ g. Agrees world.now.plain g.reads) }
+{
+    let Ok(snapshot) = world.snapshot() else {
+        return None;
+    };
+    guess(alloc, &snapshot, step).ok()
 }
 
 // The step is run on the world.
@@ -106,6 +154,7 @@ fn run(
             outcome,
             mark,
             leaves_verbs: false,
+            spent: held.into_spent(),
         }),
         Err(_) => {
             undone.tick();

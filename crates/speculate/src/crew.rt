@@ -1,6 +1,6 @@
 //! A list by several workers. Each claims some positions that follow one another, guesses their steps on the world as it then is, and posts the guesses; none
 //! waits for another's.
-ghost use Rattle.std.specs.Prelude.{◌≡◌, ◌≤◌, ◌<◌, ◌+◌, [], All, length, take, vec_len, IfOk, IfErr, IfSome};
+ghost use Rattle.std.specs.Prelude.{◌≡◌, ◌≤◌, ◌<◌, ◌+◌, ℕ, [], All, length, take, vec_len, IfOk, IfErr, IfSome};
 ghost use Rattle.round_claims.specs.Claimed.{fresh_seat};
 ghost use Rattle.spec_world.specs.Step.{AllInRange};
 ghost use Rattle.spec_world.specs.World.{World as Plain};
@@ -14,6 +14,7 @@ use crate::gate::{Gate, guess_at};
 use crate::guesses::Guess;
 use crate::report::Report;
 use crate::shared::{Run, SharedBoard};
+use crate::sight::Sight;
 use round_claims::{ClaimSeat, Claims};
 use std::alloc::Global;
 use std::sync::Wait;
@@ -24,7 +25,11 @@ use task_step::stack::STACK_SIZE;
 use task_step::step::Step;
 use world::worlds::Snapshot;
 
-/// Plays the board of the list `J` to its end by a worker for each seat, each claiming batches of so many positions.
+// How often at most a worker guesses what is next in place of its own positions.
+const MOST_HELPS: usize = 64;
+
+/// Plays the board of the list `J` to its end by a worker for each seat, each claiming batches of so many positions, and going so far
+/// ahead of what is committed where guesses do not hold.
 pub(crate) fn play_by_claims<J: Run, G: Gate, R: Threads + Wait + Sync>(
     rt: &R,
     alloc: Global,
@@ -34,6 +39,7 @@ pub(crate) fn play_by_claims<J: Run, G: Gate, R: Threads + Wait + Sync>(
     seats: Vec<ClaimSeat>,
     steps: &[Step],
     size: usize,
+    ahead: usize,
 ) -> Result<Report, Partial>
     requires base { board.base ≡ J.base }
     requires list { board.steps ≡ J.steps }
@@ -46,7 +52,7 @@ pub(crate) fn play_by_claims<J: Run, G: Gate, R: Threads + Wait + Sync>(
     ensures views { IfOk result (λ r. board.base.opened + runs r.marks.items ≤ r.world.opened) }
 {
     let shared: SharedBoard<J> = SharedBoard::new(board);
-    crew(rt, alloc, gate, &shared, claims, seats, steps, size);
+    crew(rt, alloc, gate, &shared, claims, seats, steps, size, ahead);
     conclude(alloc, shared.into_board())
 }
 
@@ -60,6 +66,7 @@ fn crew<J: Run, G: Gate, R: Threads + Wait + Sync>(
     mut seats: Vec<ClaimSeat>,
     steps: &[Step],
     size: usize,
+    ahead: usize,
 )
     requires range { AllInRange steps.now }
     requires seats { All (λ seat. seat ≡ fresh_seat claims.now) seats.items }
@@ -78,12 +85,12 @@ fn crew<J: Run, G: Gate, R: Threads + Wait + Sync>(
             'seat: while let Some(seat) = next_seat(claims, &mut seats) {
                 let job = move ||
                     requires { AllInRange steps.now × (seat ≡ fresh_seat claims.now) }
-                { work(rt, alloc, gate, shared, claims, seat, steps, size) };
+                { work(rt, alloc, gate, shared, claims, seat, steps, size, ahead) };
                 let _ = Builder::new()
                     .stack_size(STACK_SIZE)
                     .spawn_scoped(scope, job);
             }
-            work(rt, alloc, gate, shared, claims, own, steps, size);
+            work(rt, alloc, gate, shared, claims, own, steps, size, ahead);
         },
     );
 }
@@ -109,18 +116,21 @@ fn work<J: Run, G: Gate, R: Wait>(
     mut seat: ClaimSeat,
     steps: &[Step],
     size: usize,
+    ahead: usize,
 )
     requires range { AllInRange steps.now }
     requires seat { seat.offer ≡ claims.now }
 {
+    let mut sight = shared.look(rt, ahead);
     'claim: while let Some(ticket) = claims.claim(&mut seat) {
-        let first = ticket.position().saturating_mul(size);
+        let first = ticket.position().saturating_mul(size).min(steps.len());
         let end = first.saturating_add(size).min(steps.len());
-        play_batch(rt, alloc, gate, shared, steps, first, end);
+        sight = play_batch(rt, alloc, gate, shared, steps, first, end, ahead, sight);
     }
 }
 
-// Guesses from the first position up to the end, and hands them in.
+// Guesses from the first position up to the end, and hands them in. While these are too far ahead of what is committed, it guesses what is to be committed
+// next instead, whoever claimed it.
 fn play_batch<J: Run, G: Gate, R: Wait>(
     rt: &R,
     alloc: Global,
@@ -129,13 +139,72 @@ fn play_batch<J: Run, G: Gate, R: Wait>(
     steps: &[Step],
     first: usize,
     end: usize,
-)
+    ahead: usize,
+    sight: Option<Sight>,
+) -> Option<Sight>
     requires range { AllInRange steps.now }
     requires end { end ≤ length steps.now }
+    requires sight { IfSome sight (λ s. s.snapshot ≡ world_after J.base.plain J.steps s.count) }
+    ensures { IfSome result (λ s. s.snapshot ≡ world_after J.base.plain J.steps s.count) }
+{
+    let mut sight = sight;
+    'help: for _ in 0..MOST_HELPS {
+        let Some((from, to)) = next_up(&sight, first, end) else {
+            break;
+        };
+        sight = guess_and_hand_in(rt, alloc, gate, shared, steps, from, to, ahead, sight);
+    }
+    if is_done(&sight, end) {
+        return sight;
+    }
+    guess_and_hand_in(rt, alloc, gate, shared, steps, first, end, ahead, sight)
+}
+
+// As many positions as from the first one up to the end, which are to be committed next, where the first one is too far ahead of them.
+fn next_up(sight: &Option<Sight>, first: usize, end: usize) -> Option<(usize, usize)>
+    ensures { IfSome result (λ r. r.1 ≤ end) }
+{
+    match sight {
+        Some(sight) if first >= sight.limit => {
+            let to = sight
+                .count
+                .saturating_add(end.saturating_sub(first))
+                .min(first)
+                .min(end);
+            Some((sight.count, to))
+        }
+        _ => None,
+    }
+}
+
+// Whether all positions below the end are committed.
+fn is_done(sight: &Option<Sight>, end: usize) -> bool {
+    match sight {
+        Some(sight) => end <= sight.count,
+        None => false,
+    }
+}
+
+// Guesses from the first position up to the end on what is seen, and hands them in.
+fn guess_and_hand_in<J: Run, G: Gate, R: Wait>(
+    rt: &R,
+    alloc: Global,
+    gate: &G,
+    shared: &SharedBoard<J>,
+    steps: &[Step],
+    first: usize,
+    end: usize,
+    ahead: usize,
+    sight: Option<Sight>,
+) -> Option<Sight>
+    requires range { AllInRange steps.now }
+    requires end { end ≤ length steps.now }
+    requires sight { IfSome sight (λ s. s.snapshot ≡ world_after J.base.plain J.steps s.count) }
+    ensures { IfSome result (λ s. s.snapshot ≡ world_after J.base.plain J.steps s.count) }
 {
     let mut found = room(alloc, end.saturating_sub(first));
-    let seen = guess_shared(rt, alloc, gate, shared, steps, first, end, &mut found);
-    shared.hand_in(rt, alloc, first, end, found, seen);
+    let seen = guess_on(alloc, gate, sight, steps, first, end, &mut found);
+    shared.hand_in(rt, alloc, first, end, found, seen, ahead)
 }
 
 // Room for so many guesses, or for none.
@@ -148,12 +217,11 @@ fn room(alloc: Global, count: usize) -> Vec<(usize, Guess)>
     }
 }
 
-// Guesses on the world after the steps that are committed, and how many these are; none where guesses seldom hold.
-fn guess_shared<J: Run, G: Gate, R: Wait>(
-    rt: &R,
+// Guesses on what is seen, of which nothing is kept, and how many steps were committed then.
+fn guess_on<G: Gate>(
     alloc: Global,
     gate: &G,
-    shared: &SharedBoard<J>,
+    sight: Option<Sight>,
     steps: &[Step],
     first: usize,
     end: usize,
@@ -162,14 +230,14 @@ fn guess_shared<J: Run, G: Gate, R: Wait>(
     requires range { AllInRange steps.now }
     requires end { end ≤ length steps.now }
     requires empty { found.old.items ≡ [] }
-    ensures { All (λ f. f.1.before ≡ world_after J.base.plain J.steps result) found.new.items }
+    ensures found { (at : ℕ → Plain) → IfSome sight (λ s. s.snapshot ≡ at s.count) → All (λ f. f.1.before ≡ at result) found.new.items }
 {
-    match shared.snapshot(rt) {
-        Ok(Some((snapshot, count))) => {
-            guess_batch(alloc, gate, &snapshot, steps, first, end, found);
-            count
+    match sight {
+        Some(sight) => {
+            guess_batch(alloc, gate, &sight.snapshot, steps, first, end, found);
+            sight.count
         }
-        _ => 0,
+        None => 0,
     }
 }
 

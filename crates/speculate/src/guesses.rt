@@ -1,5 +1,5 @@
 //! Guesses.
-ghost use Rattle.std.specs.Prelude.{◌≡◌, ◌↔◌, map, IsTrue, IfOk, IfErr, MatchOption};
+ghost use Rattle.std.specs.Prelude.{◌≡◌, ◌↔◌, ◌+◌, map, IsTrue, IfOk, IfErr, MatchOption};
 ghost use Rattle.spec_world.specs.World.{World as Plain};
 ghost use Rattle.spec_world.specs.Questions.{Agrees, apply_all};
 ghost use Rattle.view.specs.Sound.{IsSound};
@@ -15,6 +15,7 @@ use view::change::Change;
 use view::part::Part;
 use view::reads::{Changes, Reads};
 use world::draft::Draft;
+use world::live::Live;
 use world::worlds::{Snapshot, World};
 
 /// What a step reads, changes and answers, found on a snapshot. It is so on each world that gives the answers that were read.
@@ -27,6 +28,14 @@ pub struct Guess {
     // The world on which it was found, and its records with the changes, if they are kept.
     pub(crate) before: Remembered<Snapshot>,
     pub(crate) after: Option<Draft>,
+}
+
+/// What is left of a guess that is committed, to be let go where nobody waits for it.
+#[derive(Drop)]
+pub(crate) struct Spent {
+    step: Step,
+    reads: Reads,
+    changes: Changes,
 }
 
 impl Model for Guess {
@@ -99,26 +108,67 @@ impl Guess {
         all_leave_verbs(self.changes.as_slice())
     }
 
-    /// The world has the changes, and the guess's outcome is the step's. After want of memory nothing has changed.
-    pub(crate) fn keep(self, world: &mut World) -> Result<Outcome, Guess>
+    /// The world has the changes, and the guess's outcome is the step's; with it comes what is left of the guess. After want of memory nothing has changed.
+    pub(crate) fn keep(self, world: &mut World) -> Result<(Outcome, Spent), Guess>
         requires agrees { Agrees world.old.plain self.reads }
         requires sound { IsSound (after_guess self world.old.plain) }
-        ensures ok { IfOk result (λ o. (world.new ≡ record { plain = after_guess self world.old.plain; opened = world.old.opened }) × (o ≡ self.outcome)) }
+        ensures ok { IfOk result (λ r. (world.new ≡ record { plain = after_guess self world.old.plain; opened = world.old.opened }) × (r.0 ≡ self.outcome)) }
         ensures err { IfErr result (λ g. (g ≡ self) × (world.new ≡ world.old)) }
     {
-        let Ok(prepared) = world.prepare(&self.changes) else {
+        if world.change(&self.changes).is_err() {
             return Err(self);
-        };
+        }
         let Guess {
-            step: _,
-            reads: _,
-            changes: _,
+            step,
+            reads,
+            changes,
             outcome,
             before: _,
             after: _,
         } = self;
-        world.commit(prepared);
-        Ok(outcome)
+        let spent = Spent {
+            step,
+            reads,
+            changes,
+        };
+        Ok((outcome, spent))
+    }
+
+    /// The world has the changes through a view that is opened on it. After want of memory nothing has changed, but the view was opened.
+    pub(crate) fn put_through(self, world: &mut World) -> Option<Outcome>
+        requires { IsSound (after_guess self world.old.plain) }
+        ensures opened { world.new.opened ≡ world.old.opened + 1 }
+        ensures plain { MatchOption result (world.new.plain ≡ world.old.plain) (λ o. (world.new.plain ≡ after_guess self world.old.plain) × (o ≡ self.outcome)) }
+    {
+        let Guess {
+            step: _,
+            reads: _,
+            changes,
+            outcome,
+            before: _,
+            after: _,
+        } = self;
+        let mut live = Live::open(world);
+        live.put_all(&changes).ok()?;
+        live.keep();
+        Some(outcome)
+    }
+
+    /// What is left of the guess without its outcome.
+    pub(crate) fn into_spent(self) -> Spent {
+        let Guess {
+            step,
+            reads,
+            changes,
+            outcome: _,
+            before: _,
+            after: _,
+        } = self;
+        Spent {
+            step,
+            reads,
+            changes,
+        }
     }
 
     /// The world, on which the guess was found, becomes what it became there. After want of memory nothing has changed.
@@ -137,21 +187,18 @@ impl Guess {
         } = self;
         match after {
             Some(draft) => world.replace(draft),
-            None => commit_changes(world, &changes)?,
+            None => change(world, &changes)?,
         }
         Some(outcome)
     }
 }
 
 // The world has these changes. After want of memory nothing has changed.
-#[inline(never)]
-fn commit_changes(world: &mut World, changes: &Changes) -> Option<()>
+fn change(world: &mut World, changes: &Changes) -> Option<()>
     requires { IsSound (apply_all changes.now world.old.plain) }
     ensures { MatchOption result (world.new ≡ world.old) (λ _. world.new ≡ record { plain = apply_all changes.now world.old.plain; opened = world.old.opened }) }
 {
-    let prepared = world.prepare(changes).ok()?;
-    world.commit(prepared);
-    Some(())
+    world.change(changes).ok()
 }
 
 // Whether no change is to verbs.

@@ -1,7 +1,7 @@
 //! What a position of a list holds, and how it was committed.
 ghost use Rattle.std.specs.Prelude.{◌≡◌, ◌↔◌, ◌<◌, IsTrue, length, Some, slice_get, slice_set};
 
-use crate::guesses::Guess;
+use crate::guesses::{Guess, Spent};
 use std::mem;
 
 /// What a position that is not committed yet holds.
@@ -21,6 +21,22 @@ impl Held {
         ensures { IsTrue result ↔ self.now ≡ Held.Empty }
     {
         matches!(self, Held::Empty)
+    }
+
+    /// How many steps a guess for this position leaps over that were not committed when it was made, if that is known, else none.
+    pub(crate) fn distance(&self, position: usize) -> usize {
+        match self {
+            Held::Holds(_, Some(seen)) => position.saturating_sub(*seen),
+            _ => 0,
+        }
+    }
+
+    /// What is left of a guess, where it is one.
+    pub(crate) fn into_spent(self) -> Option<Spent> {
+        match self {
+            Held::Holds(guess, _) => Some(guess.into_spent()),
+            _ => None,
+        }
     }
 }
 

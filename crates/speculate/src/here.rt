@@ -1,10 +1,11 @@
 //! A list on the caller's thread alone, without a board, without a lock and without threads.
-ghost use Rattle.std.specs.Prelude.{◌≡◌, ◌≤◌, ◌+◌, [], ◌∷◌, length, take, vec_len, vec_capacity, IsTrue, IfOk, IfErr, OnErr, MatchOption};
+ghost use Rattle.std.specs.Prelude.{◌≡◌, ◌≤◌, ◌+◌, [], ◌∷◌, length, take, vec_len, vec_capacity, IsTrue, IfOk, IfErr, IfSome, OnErr, MatchOption};
 ghost use Rattle.spec_world.specs.Step.{AllInRange, in_range};
 ghost use Rattle.spec_moo.specs.Steps.{play1, play};
 ghost use Rattle.speculate.specs.BoardState.{runs};
 
 use crate::gate::Gate;
+use crate::guesses::Guess;
 use crate::held::Mark;
 use crate::report::Report;
 use std::alloc::{AllocError, Global};
@@ -100,10 +101,7 @@ fn keep_here<G: Gate>(
     ensures { MatchOption result (world.new ≡ world.old) (λ o. (play1 world.old.plain step.now ≡ (world.new.plain, o)) × (world.new.opened ≡ world.old.opened)) }
 {
     world.know();
-    let Ok(snapshot) = world.snapshot() else {
-        return None;
-    };
-    let Ok(guess) = gate.guess(alloc, at, &snapshot, step) else {
+    let Some(guess) = guess_here(alloc, gate, world, step, at) else {
         return None;
     };
     if !guess.is_for(step) {
@@ -111,6 +109,24 @@ fn keep_here<G: Gate>(
     }
     guess.know();
     guess.take_over(world)
+}
+
+// The gate's guess on the world as it is. Nothing shares the world's records behind it.
+#[inline(always)]
+fn guess_here<G: Gate>(
+    alloc: Global,
+    gate: &G,
+    world: &World,
+    step: &Step,
+    at: usize,
+) -> Option<Guess>
+    requires { IsTrue (in_range step.now) }
+    ensures { IfSome result (λ g. g.before ≡ world.now.plain) }
+{
+    let Ok(snapshot) = world.snapshot() else {
+        return None;
+    };
+    gate.guess(alloc, at, &snapshot, step).ok()
 }
 
 // The step is run on the world.

@@ -14,3 +14,4 @@ pub mod list;
 pub mod report;
 pub mod schedules;
 pub mod shared;
+pub mod sight;

@@ -70,7 +70,8 @@ pub fn run_list<G: Gate, R: Threads + Wait + Sync>(
         Ok(board) => board,
         Err((refusal, world)) => return Err(refused(alloc, refusal, world)),
     };
-    play_by_claims::<Brand, G, R>(rt, alloc, gate, board, &claims, seats, steps, size)
+    let ahead = reach(size, workers);
+    play_by_claims::<Brand, G, R>(rt, alloc, gate, board, &claims, seats, steps, size, ahead)
 }
 
 // How many positions a worker claims at once: few where the list is short, so that each worker gets some.
@@ -79,6 +80,11 @@ fn batch_size(count: usize, workers: usize) -> usize
 {
     let each = workers.saturating_mul(BATCHES_OF_WORKER).max(1);
     (count / each).min(LARGEST_BATCH).max(1)
+}
+
+// How far ahead of what is committed a worker goes where guesses do not hold: as far as all workers' batches reach, and two more.
+fn reach(size: usize, workers: usize) -> usize {
+    size.saturating_mul(workers.saturating_add(2))
 }
 
 // How many batches of this size there are, of which the last may be empty.

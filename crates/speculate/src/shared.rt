@@ -1,16 +1,16 @@
 //! The board of one list, under a lock.
-ghost use Rattle.std.specs.Prelude.{◌≡◌, All, IfOk, IfSome};
+ghost use Rattle.std.specs.Prelude.{◌≡◌, All, IfSome};
 ghost use Rattle.std.specs.Coded.{Coded-set, coded_list};
 ghost use Rattle.spec_world.specs.StepCode.{step_code};
 ghost use Rattle.world.specs.Counted.{counted_code};
 ghost use Rattle.speculate.specs.BoardState.{world_after};
 
 use crate::board::Board;
-use crate::guesses::Guess;
-use std::alloc::{AllocError, Global};
+use crate::guesses::{Guess, Spent};
+use crate::sight::Sight;
+use std::alloc::Global;
 use std::marker::{Brand, PhantomData};
 use std::sync::{Mutex, Wait};
-use world::worlds::Snapshot;
 
 /// Which list is played: the world that it began with, and its steps. Each call that plays one picks it.
 pub trait Run: Send + Sync {
@@ -60,21 +60,16 @@ impl<J: Run> SharedBoard<J> {
         }
     }
 
-    /// The world after the steps that are committed, and how many these are; none where guesses seldom hold.
-    pub fn snapshot<R: Wait>(&self, rt: &R) -> Result<Option<(Snapshot, usize)>, AllocError>
-        ensures { IfOk result (λ o. IfSome o (λ s. s.0 ≡ world_after J.base.plain J.steps s.1)) }
+    /// What a worker sees of the board. None after want of memory.
+    pub fn look<R: Wait>(&self, rt: &R, ahead: usize) -> Option<Sight>
+        ensures { IfSome result (λ s. s.snapshot ≡ world_after J.base.plain J.steps s.count) }
     {
         let tied = self.board.lock(rt);
-        if !tied.board.is_hopeful() {
-            return Ok(None);
-        }
-        let count = tied.board.count();
-        let snapshot = tied.board.snapshot()?;
-        Ok(Some((snapshot, count)))
+        tied.board.sight(ahead)
     }
 
     /// Posts guesses, each with its position, and the number of steps that were committed when they were made, and loses what holds nothing then from the
-    /// first position up to the end. Then it commits as far as each position holds something.
+    /// first position up to the end. Then it commits as far as each position holds something, and looks at the board again.
     pub fn hand_in<R: Wait>(
         &self,
         rt: &R,
@@ -83,13 +78,33 @@ impl<J: Run> SharedBoard<J> {
         end: usize,
         found: Vec<(usize, Guess)>,
         seen: usize,
-    )
+        ahead: usize,
+    ) -> Option<Sight>
         requires { All (λ f. f.1.before ≡ world_after J.base.plain J.steps seen) found.items }
+        ensures { IfSome result (λ s. s.snapshot ≡ world_after J.base.plain J.steps s.count) }
     {
-        self.board
-            .lock(rt)
-            .board
-            .hand_in_all(alloc, first, end, found, seen);
+        let (sight, _spent) = self.hand_in_locked(rt, alloc, first, end, found, seen, ahead);
+        sight
+    }
+
+    // The same, with what is left of the guesses that are committed, so that it is let go when the lock is free again.
+    #[inline(always)]
+    fn hand_in_locked<R: Wait>(
+        &self,
+        rt: &R,
+        alloc: Global,
+        first: usize,
+        end: usize,
+        found: Vec<(usize, Guess)>,
+        seen: usize,
+        ahead: usize,
+    ) -> (Option<Sight>, Vec<Spent>)
+        requires { All (λ f. f.1.before ≡ world_after J.base.plain J.steps seen) found.items }
+        ensures { IfSome result.0 (λ s. s.snapshot ≡ world_after J.base.plain J.steps s.count) }
+    {
+        let mut tied = self.board.lock(rt);
+        let spent = tied.board.hand_in_all(alloc, first, end, found, seen);
+        (tied.board.sight(ahead), spent)
     }
 
     /// The board, when no worker has it any more.

@@ -1,2 +1,3 @@
 mod Known
 mod Behind
+mod TokensLeft

@@ -16,6 +16,7 @@ use crate::start::next_start;
 use crate::variables::{Variables, next_variables};
 use checkpoint_lines::fault::DecodeError;
 use checkpoint_lines::lines::Lines;
+use moo_compiler::compile::compile;
 use moo_program::program::Program;
 use moo_task::frame::Frame;
 use moo_task::moo_machine::call::Call;
@@ -35,7 +36,7 @@ pub fn next_frame(
 {
     let Head { call, lines: count } = head;
     let tree = lines.next_program(alloc, count)?;
-    let program = Program::compile(alloc, tree)?;
+    let program = compile(alloc, tree)?;
     next_under_way(alloc, lines, call, program, is_fork)
 }
 

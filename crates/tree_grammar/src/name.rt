@@ -1,51 +1,10 @@
 //! Names of variables, functions and loops.
-ghost use Rattle.std.specs.Prelude.{◌≡◌, ℕ, List, map};
-ghost use Rattle.std.specs.List.{list_all, list_any};
-ghost use Rattle.std.specs.Borrow.{Bor};
-ghost use Rattle.spec_value.specs.Datum.{same_text};
-ghost use Rattle.spec_program.specs.Names.{is_digit};
+ghost use Rattle.std.specs.Prelude.{◌≡◌};
+ghost use Rattle.std.specs.List.{list_all};
 ghost use Rattle.spec_program.specs.Trees as spec;
 
 use moo_value::text::Text;
-
-/// The words that name nothing.
-const KEYWORDS: [&str; 35] = [
-    "if",
-    "else",
-    "elseif",
-    "endif",
-    "for",
-    "in",
-    "endfor",
-    "while",
-    "endwhile",
-    "break",
-    "continue",
-    "return",
-    "fork",
-    "endfork",
-    "try",
-    "except",
-    "finally",
-    "endtry",
-    "any",
-    "e_none",
-    "e_type",
-    "e_div",
-    "e_perm",
-    "e_propnf",
-    "e_verbnf",
-    "e_varnf",
-    "e_invind",
-    "e_recmove",
-    "e_maxrec",
-    "e_range",
-    "e_args",
-    "e_nacc",
-    "e_invarg",
-    "e_quota",
-    "e_float",
-];
+use tokens_ahead::reserved::is_keyword;
 
 fn begins_name(byte: u8) -> bool
     ensures { result ≡ spec.begins_name byte }
@@ -79,36 +38,17 @@ fn is_lower_word(text: &[u8]) -> bool
     }
 }
 
-// Most words are told apart by their lengths.
-#[tactic(auto, using(crate::proofs::Parts::other_length))]
-fn is_same(text: &str, word: &str) -> bool
-    ensures { result ≡ same_text text.now word.now }
-{
-    text.len() == word.len() && text == word
-}
-
-fn is_among(words: &[&str], text: &str) -> bool
-    ensures { result ≡ list_any (same_text text.now) (map (λ (s : Bor (List ℕ)). s.now) words.now) }
-{
-    for word in words {
-        if is_same(text, word) {
-            return true;
-        }
-    }
-    false
-}
-
-fn is_free_word(text: &str) -> bool
+fn is_free_word(text: &[u8]) -> bool
     ensures { result ≡ spec.is_name text.now }
 {
-    is_lower_word(text.as_bytes()) && !is_among(&KEYWORDS, text)
+    is_lower_word(text) && !is_keyword(text)
 }
 
 /// Whether a text is a name: a word in lower case that is no keyword.
 pub fn is_name(text: &Text) -> bool
     ensures { result ≡ spec.is_name text.now }
 {
-    is_free_word(text.as_str())
+    is_free_word(text.as_str().as_bytes())
 }
 
 /// Whether a text is a name, where there is one.

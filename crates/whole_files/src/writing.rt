@@ -4,6 +4,18 @@ use std::io::{ErrorKind, Write};
 use std::rt::Files;
 use std::{fs, io};
 
+/// A system whose files are written whole, for threads too.
+pub trait WholeFiles {
+    /// Writes bytes into a file of this name, as `write_file` does.
+    fn write_whole(&self, name: &str, bytes: &[u8]) -> io::Result<()>;
+}
+
+impl<R: AllocGlobal + Files> WholeFiles for R {
+    fn write_whole(&self, name: &str, bytes: &[u8]) -> io::Result<()> {
+        write_file(self, name, bytes)
+    }
+}
+
 /// How many names are tried for the file beside.
 const MOST_NAMES: u32 = 100;
 

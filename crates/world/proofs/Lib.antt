@@ -1,5 +1,6 @@
 pub mod Local
 pub mod History
+pub mod Lightly
 pub mod Found
 pub mod Goings
 pub mod Crossing

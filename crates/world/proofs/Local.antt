@@ -18,16 +18,16 @@ use Rattle.spec_world.specs.Questions.{Question, about_header, about_children, a
 use Rattle.world.specs.Picked.{pick, picked, changed}
 use Rattle.world.proofs.Picked.{picked_put, picked_removed, sorted_changed}
 
-abbrev same_number : ℤ → ℤ → Bool
+abbrev pub same_number : ℤ → ℤ → Bool
 same_number = eq_by_cmp int_cmp
 
-abbrev same_name : Text → Text → Bool
+abbrev pub same_name : Text → Text → Bool
 same_name = eq_by_cmp (slice_cmp nat_cmp)
 
-number_is : (q o : ℤ) → same_number q o ≡ true → q ≡ o
+pub number_is : (q o : ℤ) → same_number q o ≡ true → q ≡ o
 number_is q o e = int_cmp-IsAntisymmetric q o ((Equal-is (int_cmp q o)).0 e)
 
-name_is : (s t : Text) → same_name s t ≡ true → s ≡ t
+pub name_is : (s t : Text) → same_name s t ≡ true → s ≡ t
 name_is s t e = slice_cmp-IsAntisymmetric nat_cmp-IsAntisymmetric s t ((Equal-is (slice_cmp nat_cmp s t)).0 e)
 
 object_put : (w : World) (o q : ℤ) (y : Object) → object_at (with_object w o y) q ≡ cond (same_number q o) (Some y) (object_at w q)
@@ -47,23 +47,23 @@ facet_stays f w o q x y is same = ap (option_map f) (object_put w o q y) ∙ go 
 
 -- ---- what an answer becomes
 
-abbrev filled : Slot → Datum → Slot
+abbrev pub filled : Slot → Datum → Slot
 filled s v = record s { content = Some v }
 
-abbrev refilled : Bool → Datum → Option Slot → Option Slot
+abbrev pub refilled : Bool → Datum → Option Slot → Option Slot
 refilled b v s = cond b (option_map (λ t. filled t v) s) s
 
-slot_with : Part → Text → Option Slot → Option Slot
+pub slot_with : Part → Text → Option Slot → Option Slot
 slot_with (new_slot p t) r s = cond (same_text (fold_case r) (fold_case p)) t s
 slot_with _ r s = s
 
 -- whether another record, or none, for a number is one for this number
-hits : {X : Type 0} → ℤ → Option X → ℤ → Bool
+pub hits : {X : Type 0} → ℤ → Option X → ℤ → Bool
 hits n None q = int_eq q n
 hits n (Some x) q = is_number n && int_eq q n
 
 -- whether anything comes of another record, or none, for a number
-acts : {X : Type 0} → ℤ → Option X → Bool
+pub acts : {X : Type 0} → ℤ → Option X → Bool
 acts n None = true
 acts n (Some x) = is_number n
 
@@ -89,7 +89,7 @@ belongs o k = int_eq k.person o
 abbrev player_on : Link → Option ℤ
 player_on k = cond (int_le (pos 0) k.person) (Some k.person) None
 
-abbrev after : Change → Question → Answer → Answer
+abbrev pub after : Change → Question → Answer → Answer
 after (new_part o a) (about_header q) (the_header h) = the_header (cond (int_eq q o) (option_map (put_header a) h) h)
 after (new_part o a) (about_children q) (the_children os) = the_children (cond (int_eq q o) (option_map (put_children a) os) os)
 after (new_part o a) (about_contents q) (the_contents os) = the_contents (cond (int_eq q o) (option_map (put_contents a) os) os)
@@ -117,7 +117,7 @@ unchanged : (b : Bool) (v : Datum) (s : Option Slot) → (b ≡ true → s ≡ N
 unchanged true v s none = none refl ∙ ap (option_map (λ t. filled t v)) (sym (none refl))
 unchanged false v s none = refl
 
-both_true : (a b : Bool) → (a && b) ≡ true → (a ≡ true) × (b ≡ true)
+pub both_true : (a b : Bool) → (a && b) ≡ true → (a ≡ true) × (b ≡ true)
 both_true true true e = (refl, refl)
 both_true true false e = cc
 both_true false b e = cc
@@ -420,10 +420,9 @@ stays_in_order (new_next n) w h = record { tasks = h.tasks; links = h.links }
 
 -- ---- each change
 
-one_after : (c : Change) (w : World) (q : Question) → InOrder w → ask (apply c w) q ≡ after c q (ask w q)
+pub value_after : (o : ℤ) (p : Text) (v : Datum) (w : World) (q : Question) → ask (apply (new_value o p v) w) q ≡ after (new_value o p v) q (ask w q)
 unfolding with_slot
-one_after (new_part o a) w q h = part_after o a w q
-one_after (new_value o p v) w q h = by_slot (slot_at w o p) refl
+value_after o p v w q = by_slot (slot_at w o p) refl
   where
     by_object : (s : Slot) (z : Option Object) → object_at w o ≡ z → slot_of z p ≡ Some s → ask (put_slot w o p (filled s v) z) q ≡ after (new_value o p v) q (ask w q)
     by_object s None is e = cc
@@ -432,6 +431,10 @@ one_after (new_value o p v) w q h = by_slot (slot_at w o p) refl
     by_slot : (s : Option Slot) → slot_at w o p ≡ s → ask (put_value w o p v s) q ≡ after (new_value o p v) q (ask w q)
     by_slot None e = nothing_after w o p v e q
     by_slot (Some s) e = by_object s (object_at w o) refl e
+
+one_after : (c : Change) (w : World) (q : Question) → InOrder w → ask (apply c w) q ≡ after c q (ask w q)
+one_after (new_part o a) w q h = part_after o a w q
+one_after (new_value o p v) w q h = value_after o p v w q
 one_after (new_object o x) w q h = object_after o x w q
 one_after (new_task i t) w q h = task_after i t w h.tasks q
 one_after (new_link c k) w q h = link_after c k w h.links q

@@ -1,4 +1,5 @@
 pub mod Besides
+pub mod Late
 pub mod Trace
 pub mod Counted
 pub mod Counts

@@ -26,7 +26,7 @@ use view::lists::{Names, Numbers, Objects, Players};
 use view::object::Object;
 use view::part::Part;
 use view::question::{Answer, Question};
-use view::reads::Reads;
+use view::reads::{Changes, Reads};
 use view::slot::Slot;
 use view::verb::Verbs;
 use world_table::Table;
@@ -495,6 +495,58 @@ impl Draft {
             }
             _ => self.put_copy(change),
         }
+    }
+
+    /// The same records with changes, and one more owner of those that stay.
+    #[tactic(auto, using(crate::proofs::Changed::rest_applied, crate::proofs::Changed::all_applied))]
+    pub(crate) fn changed(&self, changes: &Changes) -> Result<Draft, AllocError>
+        ensures { IfOk result (λ d. d ≡ apply_all changes.now self.now) }
+    {
+        let mut draft = self.share()?;
+        for change in changes.as_slice() {
+            draft.put_kept(change)?;
+        }
+        Ok(draft)
+    }
+
+    /// Changes where the records lie, as far as no other draft shares them. After an `Err` nothing has changed.
+    pub(crate) fn change(&mut self, changes: &Changes) -> Result<(), AllocError>
+        ensures ok { OnOk result (self.new ≡ apply_all changes.now self.old) }
+        ensures err { OnErr result (self.new ≡ self.old) }
+    {
+        match changes.as_slice() {
+            [] => Ok(()),
+            [one] => self.put_kept(one),
+            [Change::Next(next), one] => self.raise_and_put(*next, one),
+            _ => {
+                let changed = self.changed(changes)?;
+                *self = changed;
+                Ok(())
+            }
+        }
+    }
+
+    // The next step has at least this number, and one change more.
+    fn raise_and_put(&mut self, next: u64, change: &Change) -> Result<(), AllocError>
+        ensures ok { OnOk result (self.new ≡ apply (change_of change.now) (apply (new_next next) self.old)) }
+        ensures err { OnErr result (self.new ≡ self.old) }
+    {
+        let before = self.next();
+        self.raise(next);
+        match self.put_kept(change) {
+            Ok(()) => Ok(()),
+            Err(error) => {
+                self.set_next(before);
+                Err(error)
+            }
+        }
+    }
+
+    // The next step has this number.
+    fn set_next(&mut self, next: u64)
+        ensures { self.new ≡ record (self.old) { next = next } }
+    {
+        self.next = next;
     }
 
     // The same by a copy.

@@ -1,6 +1,6 @@
 //! A world with changes that are kept or forgotten at their end.
 ghost use Rattle.std.specs.Prelude.{◌≡◌, ◌+◌, IfOk, OnOk};
-ghost use Rattle.spec_world.specs.Questions.{ask, apply};
+ghost use Rattle.spec_world.specs.Questions.{ask, apply, apply_all};
 ghost use Rattle.view.specs.Meanings.{question_of, answer_of, change_of};
 ghost use Rattle.view.specs.Sound.{IsSound};
 ghost use Rattle.world.specs.Forks.{start_of, changed_in, borrow_of, IsKeepable};
@@ -10,6 +10,7 @@ use crate::worlds::World;
 use std::alloc::AllocError;
 use view::change::Change;
 use view::question::{Answer, Question};
+use view::reads::Changes;
 
 /// The changes stand in a fork of the world's records until they are kept. Dropped, it leaves the world as it was.
 pub struct Forked<'w, T> {
@@ -63,6 +64,20 @@ impl<'w> Forked<'w, Draft> {
         if let Some(draft) = &mut self.fork {
             draft.put(change)?;
         }
+        Ok(())
+    }
+
+    /// Changes more, one after another, that somebody else keeps. After an `Err` it is as it was.
+    pub fn put_all(&mut self, changes: &Changes) -> Result<(), AllocError>
+        ensures same_reference { borrow_of self.new ≡ borrow_of self.old }
+        ensures start { start_of self.new ≡ start_of self.old }
+        ensures changed { OnOk result (changed_in self.new ≡ apply_all changes.now (changed_in self.old)) }
+    {
+        let changed = match &self.fork {
+            Some(draft) => draft.changed(changes)?,
+            None => self.world.changed(changes)?,
+        };
+        self.fork = Some(changed);
         Ok(())
     }
 

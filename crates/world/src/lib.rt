@@ -15,6 +15,7 @@ pub mod draft;
 mod edits;
 pub mod fork;
 pub mod keeping;
+mod late;
 mod links;
 pub mod live;
 mod moments;

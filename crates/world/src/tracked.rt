@@ -1,16 +1,18 @@
 //! A view of a snapshot that keeps what was read.
-ghost use Rattle.std.specs.Prelude.{◌≡◌, ◌++◌, ◌∷◌, [], ℕ, List, false, None, Some, IfOk, OnOk, OnErr};
+ghost use Rattle.std.specs.Prelude.{◌≡◌, ◌++◌, ◌∷◌, [], ℕ, List, false, None, IsTrue, IfOk, OnOk, OnErr};
 ghost use Rattle.std.specs.Option.{unwrap_or};
 ghost use Rattle.spec_world.specs.World.{World as Plain};
 ghost use Rattle.spec_world.specs.Questions.{ask, apply, apply_all, Agrees, Read};
 ghost use Rattle.view.specs.Meanings.{question_of, answer_of, change_of};
 ghost use Rattle.view.specs.Sound.{IsSound};
 ghost use Rattle.view.specs.Law.{Goes, Keeps};
+ghost use Rattle.world.specs.Late.{is_light as is_light_change, AllLight};
 ghost use Rattle.world.specs.Trace.{Trace, IsStart, IsTold, AnswersAlike, world_now};
 
 use crate::answers::copied;
 use crate::asked::Asked;
 use crate::draft::Draft;
+use crate::late::{answer_after, is_light};
 use crate::questions::mark_of;
 use crate::worlds::Snapshot;
 use std::alloc::{AllocError, Global};
@@ -20,10 +22,14 @@ use view::law::View;
 use view::question::{Answer, Question};
 use view::reads::{Changes, Reads};
 
+// So many changes are asked through, one after another, before records are made of them.
+const FEW: usize = 4;
+
 /// A view of a snapshot. It keeps the questions with the snapshot's answers, and the changes; the snapshot stays as it is.
 #[derive(Drop)]
 pub struct Tracked<'s> {
     snapshot: &'s Snapshot,
+    // The records with the changes. None where these are few and light, so that answers follow without them.
     fork: Option<Draft>,
     // Whether a question may see that there are changes.
     seen: bool,
@@ -33,8 +39,9 @@ pub struct Tracked<'s> {
 }
 
 impl<'s> Model for Tracked<'s> {
-    ghost use Rattle.std.specs.Prelude.{◌≡◌, false};
+    ghost use Rattle.std.specs.Prelude.{◌≡◌, false, None};
     ghost use Rattle.std.specs.Option.{unwrap_or};
+    ghost use Rattle.world.specs.Late.{AllLight};
     ghost use Rattle.world.specs.Trace.{Trace, trace_code, AnswersAlike};
     ghost use Rattle.view.specs.Sound.{IsSound};
     ghost use Rattle.spec_world.specs.Questions.{Agrees, apply_all};
@@ -45,7 +52,7 @@ impl<'s> Model for Tracked<'s> {
 
     ghost view = { λ a. record { home = a.snapshot.now; reads = a.reads; changes = a.changes } };
 
-    ghost invariant = { λ a. IsSound a.snapshot.now × Agrees a.snapshot.now a.reads × (unwrap_or a.fork a.snapshot.now ≡ apply_all a.changes a.snapshot.now) × (a.seen ≡ false → AnswersAlike (apply_all a.changes a.snapshot.now) a.snapshot.now) };
+    ghost invariant = { λ a. IsSound a.snapshot.now × Agrees a.snapshot.now a.reads × (unwrap_or a.fork (apply_all a.changes a.snapshot.now) ≡ apply_all a.changes a.snapshot.now) × (a.fork ≡ None → AllLight a.changes) × (a.seen ≡ false → AnswersAlike (apply_all a.changes a.snapshot.now) a.snapshot.now) };
 }
 
 impl<'s> Tracked<'s> {
@@ -65,11 +72,11 @@ impl<'s> Tracked<'s> {
         }
     }
 
-    /// What was read, what is to change, and the records with the changes, where there are any.
+    /// What was read, what is to change, and the records with the changes, where they were made.
     pub fn finish(self) -> (Reads, Changes, Option<Draft>)
         ensures reads { result.0 ≡ self.entry.reads }
         ensures changes { result.1 ≡ self.entry.changes }
-        ensures fork { unwrap_or result.2 self.entry.home ≡ apply_all self.entry.changes self.entry.home }
+        ensures fork { unwrap_or result.2 (apply_all self.entry.changes self.entry.home) ≡ apply_all self.entry.changes self.entry.home }
         ensures agrees { Agrees self.entry.home self.entry.reads }
     {
         let Tracked {
@@ -89,9 +96,12 @@ impl<'s> Tracked<'s> {
         requires { answer_of home.now ≡ ask self.now.home (question_of question.now) }
         ensures { IfOk result (λ a. answer_of a ≡ ask (apply_all self.now.changes self.now.home) (question_of question.now)) }
     {
+        if !self.seen {
+            return copied(self.alloc, home);
+        }
         match &self.fork {
-            Some(draft) if self.seen => draft.ask(question),
-            _ => copied(self.alloc, home),
+            Some(draft) => draft.ask(question),
+            None => answer_after(self.alloc, question, home, self.changes.as_slice()),
         }
     }
 
@@ -156,7 +166,7 @@ impl<'s> View for Tracked<'s> {
 
     #[tactic(auto, using(crate::proofs::History::apply_all_last, crate::proofs::History::unseen_last))]
     fn put(&mut self, change: Change) -> Result<(), AllocError> {
-        put_on(self.snapshot, &mut self.fork, &change)?;
+        put_on(self.snapshot, &mut self.fork, &self.changes, &change)?;
         let seen = self.seen || is_seen(&change);
         if self.changes.push(change).is_err() {
             forget(&mut self.fork, &mut self.changes, self.alloc);
@@ -175,25 +185,42 @@ fn is_seen(change: &Change) -> bool
     !matches!(change, Change::Next(_))
 }
 
-// A change of a fork of a snapshot, or of one that is begun by it.
-fn put_on(snapshot: &Snapshot, fork: &mut Option<Draft>, change: &Change) -> Result<(), AllocError>
-    ensures ok { OnOk result (unwrap_or fork.new snapshot.now ≡ apply (change_of change.now) (unwrap_or fork.old snapshot.now)) }
+// One change more of a fork of a snapshot, where there is one or it takes one.
+fn put_on(
+    snapshot: &Snapshot,
+    fork: &mut Option<Draft>,
+    changes: &Changes,
+    change: &Change,
+) -> Result<(), AllocError>
+    requires fork { unwrap_or fork.old (apply_all changes.now snapshot.now) ≡ apply_all changes.now snapshot.now }
+    requires light { fork.old ≡ None → AllLight changes.now }
+    ensures ok { OnOk result (unwrap_or fork.new (apply (change_of change.now) (apply_all changes.now snapshot.now)) ≡ apply (change_of change.now) (apply_all changes.now snapshot.now)) }
+    ensures light { OnOk result (fork.new ≡ None → AllLight changes.now × IsTrue (is_light_change (change_of change.now))) }
     ensures err { OnErr result (fork.new ≡ fork.old) }
 {
     match fork {
         Some(draft) => draft.put_kept(change),
-        None => begin(snapshot, fork, change),
+        None => begin(snapshot, fork, changes, change),
     }
 }
 
-// A first change, of a fork that is begun by it.
-#[inline(never)]
-fn begin(snapshot: &Snapshot, fork: &mut Option<Draft>, change: &Change) -> Result<(), AllocError>
-    ensures ok { OnOk result (fork.new ≡ Some (apply (change_of change.now) snapshot.now)) }
+// The same where there is none yet: few light changes take none.
+fn begin(
+    snapshot: &Snapshot,
+    fork: &mut Option<Draft>,
+    changes: &Changes,
+    change: &Change,
+) -> Result<(), AllocError>
+    requires none { fork.old ≡ None }
+    requires light { AllLight changes.now }
+    ensures ok { OnOk result (unwrap_or fork.new (apply (change_of change.now) (apply_all changes.now snapshot.now)) ≡ apply (change_of change.now) (apply_all changes.now snapshot.now)) }
+    ensures light { OnOk result (fork.new ≡ None → AllLight changes.now × IsTrue (is_light_change (change_of change.now))) }
     ensures err { OnErr result (fork.new ≡ fork.old) }
 {
-    let mut draft = snapshot.share()?;
-    draft.put_kept(change)?;
+    if is_light(change) && changes.as_slice().len() < FEW {
+        return Ok(());
+    }
+    let draft = snapshot.changed_by(changes, change)?;
     *fork = Some(draft);
     Ok(())
 }

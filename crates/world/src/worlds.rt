@@ -1,7 +1,7 @@
 //! Worlds and snapshots.
 ghost use Rattle.std.specs.Prelude.{◌≡◌, ◌↔◌, ◌+◌, ◌≤◌, ℕ, negsuc, false, [], max, IfOk, OnOk, OnErr, IsTrue};
-ghost use Rattle.spec_world.specs.Questions.{ask, Agrees, apply_all};
-ghost use Rattle.view.specs.Meanings.{question_of, answer_of};
+ghost use Rattle.spec_world.specs.Questions.{ask, Agrees, apply, apply_all};
+ghost use Rattle.view.specs.Meanings.{question_of, answer_of, change_of};
 ghost use Rattle.view.specs.Sound.{IsSound};
 ghost use Rattle.world.specs.Besides.{AgreesBesides};
 ghost use Rattle.world.specs.Due.{by_moment, due_ids, first_due_from};
@@ -12,6 +12,7 @@ use crate::prepared::Prepared;
 use std::alloc::{AllocError, Global};
 use std::marker::Model;
 use std::snapshot::Snapshot as Remembered;
+use view::change::Change;
 use view::question::{Answer, Question};
 use view::reads::{Changes, Reads};
 
@@ -153,15 +154,16 @@ impl World {
         })
     }
 
-    #[tactic(auto, using(crate::proofs::Changed::rest_applied, crate::proofs::Changed::all_applied))]
-    fn changed(&self, changes: &Changes) -> Result<Draft, AllocError>
-        ensures { IfOk result (λ d. d ≡ apply_all changes.now self.now.plain) }
+    /// The world has changes that leave it sound. What no snapshot shares is changed where it lies. After want of memory nothing has changed.
+    pub fn change(&mut self, changes: &Changes) -> Result<(), AllocError>
+        requires { IsSound (apply_all changes.now self.old.plain) }
+        ensures ok { OnOk result (self.new ≡ record { plain = apply_all changes.now self.old.plain; opened = self.old.opened }) }
+        ensures err { OnErr result (self.new ≡ self.old) }
     {
-        let mut draft = self.draft.share()?;
-        for change in changes.as_slice() {
-            draft.put_kept(change)?;
+        match self.draft.change(changes) {
+            Ok(()) => Ok(()),
+            Err(error) => Err(error),
         }
-        Ok(draft)
     }
 
     /// The world, which is as it was when they were made ready, has the changes. It takes no memory.
@@ -197,6 +199,13 @@ impl World {
         ensures opened { self.new.opened ≡ self.old.opened + 1 }
     {
         self.opened.tick();
+    }
+
+    /// The records of the world with changes.
+    pub(crate) fn changed(&self, changes: &Changes) -> Result<Draft, AllocError>
+        ensures { IfOk result (λ d. d ≡ apply_all changes.now self.now.plain) }
+    {
+        self.draft.changed(changes)
     }
 
     /// The records of the world, with one more owner.
@@ -236,6 +245,16 @@ impl Snapshot {
         ensures { IfOk result (λ d. d ≡ self.now) }
     {
         self.draft.share()
+    }
+
+    /// The records of the snapshot with changes, of which one comes last.
+    #[inline(never)]
+    pub(crate) fn changed_by(&self, changes: &Changes, last: &Change) -> Result<Draft, AllocError>
+        ensures { IfOk result (λ d. d ≡ apply (change_of last.now) (apply_all changes.now self.now)) }
+    {
+        let mut draft = self.draft.changed(changes)?;
+        draft.put_kept(last)?;
+        Ok(draft)
     }
 
     /// The snapshot as a world of its own.

@@ -14,7 +14,7 @@ ghost use Rattle.builtins.specs.Faults.{refusal_told};
 ghost use Rattle.builtins.specs.Later.{with_call};
 
 use crate::builtins_code::faults::fault_value;
-use moo_program::program::Program;
+use moo_compiler::compile::compile;
 use moo_syntax::parse::answered;
 use moo_task::effect::NativeEffect;
 use moo_task::moo_machine::call::Call;
@@ -93,7 +93,7 @@ fn begun(alloc: Global, call: &Call, text: &Text, tree: Tree) -> Result<NativeEf
         arguments: given,
     };
     let call = eval_call(alloc, call)?;
-    let program = Program::compile(alloc, tree)?;
+    let program = compile(alloc, tree)?;
     Ok(NativeEffect::Begins {
         native,
         call,

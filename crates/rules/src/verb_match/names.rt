@@ -3,6 +3,7 @@ ghost use Rattle.std.specs.Prelude.{◌≡◌, ◌↔◌, ◌<◌, ◌≤◌, �
 ghost use Rattle.std.specs.Char.{to_ascii_lowercase};
 ghost use Rattle.spec_value.specs.Datum.{fold_case, same_text};
 ghost use Rattle.spec_value.specs.TextSearch.{begins};
+ghost use Rattle.rules.specs.VerbMatchMeant.{IsPlain};
 ghost use Rattle.spec_world.specs.VerbNames.{any_spells, spells as spells_of, spelled, before_star, after_star, cut_at_spaces, names_in};
 
 /// Whether one of a verb's names, cut at spaces, spells a word. A name without a star spells itself, `a*` each word that `a`
@@ -13,9 +14,13 @@ pub fn matches(names: &str, word: &str) -> bool
     any_matches(names.as_bytes(), word.as_bytes())
 }
 
+#[tactic(auto, using(crate::proofs::Spelling::plain_spells))]
 fn any_matches(names: &[u8], word: &[u8]) -> bool
     ensures { result ≡ any_spells names.now word.now }
 {
+    if is_plain(names) {
+        return is_same(names, word);
+    }
     let mut from = 0;
     while from < names.len() {
         let rest = &names[from..];
@@ -26,6 +31,18 @@ fn any_matches(names: &[u8], word: &[u8]) -> bool
         from += size + 1;
     }
     false
+}
+
+// Whether names are one alone, without a star.
+fn is_plain(names: &[u8]) -> bool
+    ensures { IsTrue result → IsPlain names.now }
+{
+    for byte in names {
+        if *byte == b' ' || *byte == b'*' {
+            return false;
+        }
+    }
+    !names.is_empty()
 }
 
 // How many characters stand before the first space.

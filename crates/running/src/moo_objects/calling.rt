@@ -1,5 +1,5 @@
 //! Calls of verbs (Programmer's Manual, "Calling Built-in Functions and Other Verbs").
-ghost use Rattle.std.specs.Prelude.{◌≡◌, ◌<◌, ◌+◌, ◌^◌, true, codes, IfOk, OnOk};
+ghost use Rattle.std.specs.Prelude.{◌≡◌, ◌<◌, ◌+◌, ◌^◌, ◌∷◌, true, drop, codes, IfOk, OnOk, IfSome, IsTrue, None};
 ghost use Rattle.spec_value.specs.Datum.{list, text as text_of, Data, Text as TextOf, same_text};
 ghost use Rattle.spec_moo.specs.Scene.{Scene};
 ghost use Rattle.spec_moo.specs.Calling.{verb_call};
@@ -10,17 +10,21 @@ ghost use Rattle.moo_code.specs.Instruction.{call_verb as call_verb_of, call_fun
 ghost use Rattle.moo_task.specs.Shown.{Around, here};
 ghost use Rattle.rules.specs.Lines.{AreAgreeing};
 ghost use Rattle.rules.specs.Calling.{call_effect};
-ghost use Rattle.view.specs.Law.{Goes, Lasts};
-ghost use Rattle.running.specs.Called.{items_of, running, effect_of, shown_called, weighed_effect, Calls, HasList};
+ghost use Rattle.view.specs.Law.{Goes, Lasts, Tells};
+ghost use Rattle.running.specs.Called.{items_of, running, effect_of, shown_called, weighed_effect, Calls, HasList, HasCall, IsCalled, IsVerbOf};
+ghost use Rattle.running.specs.Calls.{AreArguments};
 
+use crate::moo_objects::properties::drop_two;
+use moo_program::program::Program;
 use moo_task::moo_machine::call::Call;
+use moo_task::moo_machine::operands::Operands;
 use moo_task::moo_machine::verb::{Did, State};
-use moo_value::answer::limited;
+use moo_value::answer::{WEIGHT_LIMIT, limited};
 use moo_value::error::MooError;
 use moo_value::text::Text;
 use moo_value::value::{Shown, Value};
 use rules::access::calling::{called_verb, passed_verb};
-use rules::inherit::verb::FoundVerb;
+use rules::inherit::verb::{FoundVerb, find_verb};
 use std::alloc::AllocError;
 use view::law::View;
 
@@ -197,4 +201,77 @@ fn enters_above(call: &Call, found: FoundVerb, arguments: Value) -> Result<Calle
 {
     let entered = callee_above(call, &found)?;
     Ok(Called::Entered(entered, found, arguments))
+}
+
+/// The call of the verb that is named by the two operands below the one on top, with its program, if one is found and a list of arguments is on top.
+#[inline(always)]
+pub fn called_by_three<V: View>(
+    view: &mut V,
+    call: &Call,
+    operands: &Operands,
+) -> Result<Option<(Call, Program)>, AllocError>
+    requires home { V.holds view.old (V.home view.old) }
+    requires well_formed { AreAgreeing V.holds V.now view.old }
+    ensures lasts { Lasts V.holds V.home V.anchor view.old view.new result }
+    ensures held { IfOk result (λ o. IfSome o (λ d. HasCall operands.now)) }
+    ensures left { IfOk result (λ o. Tells V.holds V.now view.old view.new (λ w. IfSome o (λ d. IsCalled w call.now operands.now d.0 d.1))) }
+{
+    let Some([object, word, arguments]) = operands.top(3) else {
+        return Ok(None);
+    };
+    if !are_arguments(arguments) {
+        return Ok(None);
+    }
+    match (object.shown(), word.as_text()) {
+        (Shown::Object(object), Some(word)) => verb_on(view, call, object, word),
+        _ => Ok(None),
+    }
+}
+
+// The call of the verb that a word names on an object, with its program, if one is found.
+#[inline(always)]
+fn verb_on<V: View>(
+    view: &mut V,
+    call: &Call,
+    object: i32,
+    word: &Text,
+) -> Result<Option<(Call, Program)>, AllocError>
+    requires home { V.holds view.old (V.home view.old) }
+    requires well_formed { AreAgreeing V.holds V.now view.old }
+    ensures lasts { Lasts V.holds V.home V.anchor view.old view.new result }
+    ensures left { IfOk result (λ o. Tells V.holds V.now view.old view.new (λ w. IfSome o (λ d. IsVerbOf w call.now object word.now d.0 d.1))) }
+{
+    let found = find_verb(view, object, word.as_str())?;
+    let Some(found) = found else {
+        return Ok(None);
+    };
+    let word = word.clone()?;
+    let entered = callee(call, object, word, &found);
+    let program = found.verb().program.whole().clone()?;
+    Ok(Some((entered, program)))
+}
+
+// Whether a value is a list of arguments that does not weigh too much.
+#[inline(always)]
+fn are_arguments(arguments: &Value) -> bool
+    ensures { IsTrue result → AreArguments None arguments.now }
+{
+    match arguments.shown() {
+        Shown::List(_) => arguments.weight() <= WEIGHT_LIMIT,
+        _ => false,
+    }
+}
+
+/// Takes the arguments of a call, with the two operands below them.
+#[inline(always)]
+pub fn take_arguments(operands: &mut Operands) -> Value
+    requires { HasCall operands.old }
+    ensures taken { operands.old ≡ result ∷ drop 1 operands.old }
+    ensures rest { operands.new ≡ drop 3 operands.old }
+{
+    let Some(arguments) = operands.pop() else {
+        unreachable!();
+    };
+    drop_two(operands);
+    arguments
 }

@@ -5,8 +5,8 @@ ghost use Rattle.view.specs.Law.{Goes, Lasts};
 ghost use Rattle.moo_task.specs.Outcomes.{running_kept};
 ghost use Rattle.running.specs.Stopping.{IsUnderWay, StopsAsSegment, stopped_at};
 
+use crate::moo_run::asking::go_asking;
 use crate::moo_run::natives::Natives;
-use crate::moo_run::onward::go_onward;
 use crate::moo_run::step::step;
 use crate::moo_run::stopped::{Stop, Stopped};
 use crate::moo_run::tracing::verbs_under_way;
@@ -35,7 +35,7 @@ pub fn run<V: View, N: Natives>(
     let mut deeds = deeds;
     let mut task = task;
     'instructions: loop {
-        go_onward(alloc, &mut task)?;
+        go_asking(alloc, view, &mut task)?;
         let outcome = step(alloc, view, natives, &mut deeds, &mut task)?;
         match outcome {
             Outcome::On => {}

@@ -1,22 +1,30 @@
-use Rattle.std.proofs.Common.{Some, ap, ◌∙◌}
-use Rattle.std.proofs.lemmas.Str.{IsUtf8-from_ascii}
+use Rattle.std.proofs.Common.{Some, ap}
 use Rattle.spec_value.specs.Datum.{is_value}
-use Rattle.spec_value.specs.Literal as text_of
-use Rattle.spec_value.proofs.Entries.{first_holds}
-use Rattle.spec_checkpoint.proofs.Fields.{whole_value}
-use Rattle.moo_value.proofs.Characters.{all_ascii}
+use Rattle.spec_value.proofs.Entries.{first_holds, second_holds}
+use Rattle.moo_value.proofs.Reading.{none_found, rest_found, not_empty}
 use Rattle.line_fields.specs.Values.{nests_no_deeper}
-use Rattle.line_fields.proofs.Literals.{literal_text}
+use Rattle.line_fields.proofs.Literals.{no_deeper}
 use Rattle.line_fields.proofs.held.literal.Goals as goal
 
 pub returns-in_default : goal.returns-in_default
 returns-in_default c = record {
-  reads = λ v h e. absurd (c.in_default.ensures.cases.0 (rw e (IsUtf8-from_ascii (text_of.literal v) (all_ascii (text_of.literal v) (literal_text v (first_holds (is_value v) (nests_no_deeper v) h))))));
+  reads = λ v h e.
+      let f = rw c.in_default.is at c.in_ok-value.ensures.finds in
+      absurd (none_found v c.args.text.now _ (first_holds (is_value v) (nests_no_deeper v) h) (no_deeper v (second_holds (is_value v) (nests_no_deeper v) h)) e f);
 }
 
-pub returns : goal.returns
-returns c = record {
+pub returns-then-is_empty : goal.returns-then-is_empty
+returns-then-is_empty c = record {
   reads = λ v h e.
-      let spells = rw c.in-Some.is at c.in_ok-value.ensures in
-      ap Some (whole_value c.in-Some.value v c.know.ensures (first_holds (is_value v) (nests_no_deeper v) h) (spells ∙ c.in-Ok.ensures.cases.0 ∙ e));
+      let f = rw c.in-Some.is at c.in_ok-value.ensures.finds in
+      let all = rest_found v c.in-Some.value c.args.text.now c.in-Some.rest _ (first_holds (is_value v) (nests_no_deeper v) h) (no_deeper v (second_holds (is_value v) (nests_no_deeper v) h)) e f in
+      ap Some all.0;
+}
+
+pub returns-else-is_empty : goal.returns-else-is_empty
+returns-else-is_empty c = record {
+  reads = λ v h e.
+      let f = rw c.in-Some.is at c.in_ok-value.ensures.finds in
+      let all = rest_found v c.in-Some.value c.args.text.now c.in-Some.rest _ (first_holds (is_value v) (nests_no_deeper v) h) (no_deeper v (second_holds (is_value v) (nests_no_deeper v) h)) e f in
+      absurd (not_empty c.in-Some.rest.now c.is_empty.result c.is_empty.ensures all.1 c.if-is_empty.false);
 }

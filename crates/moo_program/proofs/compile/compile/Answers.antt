@@ -11,7 +11,7 @@ use Rattle.moo_program.proofs.Whole.{draft_lent, draft_named, draft_forks, code_
 use Rattle.moo_program.proofs.compile.compile.Goals as goal
 
 pub returns : goal.returns
-returns c =
+returns o c =
     let p = c.args.tree.now in
     let items = c.as_slice-items.result.now in
     let n = c.in_ok-draft.draft.size in

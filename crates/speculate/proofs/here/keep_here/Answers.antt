@@ -1,4 +1,4 @@
-use Rattle.std.proofs.Common.{◌≡◌, refl, subst, ◌∙◌}
+use Rattle.std.proofs.Common.{◌≡◌, refl, subst}
 use Rattle.spec_world.specs.World.{World}
 use Rattle.spec_world.specs.Questions.{Agrees}
 use Rattle.speculate.proofs.Honest.{kept_is_sound}
@@ -7,15 +7,15 @@ use Rattle.speculate.proofs.here.keep_here.Goals as goal
 
 pub take_over-requires-clause-sound : goal.take_over-requires-clause-sound
 take_over-requires-clause-sound g c =
-    let guess = c.in-Ok-guess.guess in
+    let guess = c.in-Some.guess in
     let same : guess.step ≡ c.args.step.now = c.if-not-is_for.ensures.0 refl in
-    let before : guess.before ≡ c.args.world.now.plain = c.in-Ok-guess.ensures ∙ c.in-Ok.ensures in
+    let before : guess.before ≡ c.args.world.now.plain = c.in-Some.ensures in
     let A : World → Type 0 = λ w. Agrees w guess.reads in
     kept_is_sound c.args.world.now.plain c.args.step.now guess c.know.ensures c.requires same c.know-2.ensures.right (subst A before c.know-2.ensures.agrees)
 
 pub returns : goal.returns
 returns g c =
-    let guess = c.in-Ok-guess.guess in
+    let guess = c.in-Some.guess in
     let same : guess.step ≡ c.args.step.now = c.if-not-is_for.ensures.0 refl in
-    let before : guess.before ≡ c.args.world.now.plain = c.in-Ok-guess.ensures ∙ c.in-Ok.ensures in
+    let before : guess.before ≡ c.args.world.now.plain = c.in-Some.ensures in
     kept_step c.args.world.now c.take_over.new.world c.args.step.now guess c.take_over.result c.know.ensures same c.know-2.ensures.right before c.know-2.ensures.agrees c.take_over.ensures

@@ -3,7 +3,7 @@ use Rattle.spec_value.specs.Datum.{list, of_list}
 use Rattle.spec_world.specs.Checkpoint.{text_list}
 use Rattle.line_fields.proofs.Readable.{texts_readable}
 use Rattle.std.proofs.lemmas.Result.{err_from_is_err_and}
-use Rattle.checkpoint_lines.proofs.Giving.{gives_found, gives_passed}
+use Rattle.checkpoint_lines.proofs.Giving.{gives_known, gives_passed}
 use Rattle.checkpoint_lines.proofs.row.Row.texts.Goals as goal
 
 pub returns-in_err-value : goal.returns-in_err-value
@@ -18,5 +18,5 @@ pub returns : goal.returns
 returns c = record {
   reads = λ ts h e.
       let is = c.in_ok-value.ensures.reads (list (of_list (text_list ts))) (texts_readable ts h) e in
-      gives_found c.in_ok-found.found c.ok_or.result _ (λ v. v.items ≡ ts) c.ok_or.ensures.value (c.in_ok-found.ensures.reads ts is);
+      gives_known c.in_ok-found.found c.known.result (λ v. v.items ≡ ts) c.known.ensures (c.in_ok-found.ensures.reads ts is);
 }

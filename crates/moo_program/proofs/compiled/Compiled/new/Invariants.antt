@@ -4,7 +4,7 @@ use Rattle.moo_program.specs.Compiled.{AreCoded}
 use Rattle.moo_program.proofs.compiled.Compiled.new.Given as goal
 
 abbrev pub invariant-next : goal.invariant-next
-invariant-next l =
+invariant-next o l =
     record {
       coded : AreCoded l.compiled;
       first : get_or l.compiled.trees.items 0 the_end ≡ l.fn.tree;

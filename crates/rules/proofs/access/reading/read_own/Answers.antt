@@ -5,7 +5,6 @@ use Rattle.spec_value.specs.Datum.{permission_denied}
 use Rattle.spec_world.specs.World.{Slot, object_at}
 use Rattle.spec_world.specs.Inherit.{slot_at, property_value}
 use Rattle.spec_world.specs.Permissions.{is_wizard, owns_or}
-use Rattle.spec_moo.specs.Properties.{found}
 use Rattle.moo_value.specs.Answers.{answer_of}
 use Rattle.rules.proofs.Tellings.{known_on, told_on}
 use Rattle.rules.specs.Reading.{read_named}

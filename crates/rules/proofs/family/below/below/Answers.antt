@@ -1,4 +1,4 @@
-use Rattle.std.proofs.Common.{◌≡◌, [], not, ap, ◌∙◌, subst, IsTrue, sym, w32, to_z, of_z}
+use Rattle.std.proofs.Common.{◌≡◌, [], not, ap, ◌∙◌, subst, IsTrue, sym, w32}
 use Rattle.std.proofs.lemmas.Int.{to_z-of_z}
 use Rattle.std.specs.Prelude.{is_some}
 use Rattle.spec_world.specs.World.{World, object_at}

@@ -1,4 +1,4 @@
-use Rattle.std.proofs.Common.{w32, to_z, of_z}
+use Rattle.std.proofs.Common.{w32}
 use Rattle.std.proofs.lemmas.Int.{to_z-of_z}
 use Rattle.view.specs.Meanings.{part_of}
 use Rattle.rules.proofs.OneByOne.{lost_told}

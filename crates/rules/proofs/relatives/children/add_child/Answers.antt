@@ -1,6 +1,5 @@
 use Rattle.std.proofs.Common.{[], ◌∷◌, ◌++◌, w32}
 use Rattle.std.proofs.lemmas.Int.{to_z-of_z}
-use Rattle.spec_world.specs.World.{Object}
 use Rattle.rules.proofs.Changes.{part_told, nothing_told}
 use Rattle.rules.proofs.relatives.children.add_child.Goals as goal
 

@@ -1,7 +1,6 @@
 use Rattle.std.proofs.Common.{w32}
 use Rattle.std.proofs.lemmas.Int.{to_z-of_z}
 use Rattle.spec_world.specs.Families.{leave_out}
-use Rattle.spec_world.specs.World.{Object}
 use Rattle.rules.proofs.Changes.{part_told, nothing_told}
 use Rattle.rules.proofs.relatives.contents.out_of_place.Goals as goal
 

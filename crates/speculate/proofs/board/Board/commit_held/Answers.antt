@@ -49,7 +49,7 @@ commit-requires-clause-fits c =
     let at : slice_get c.self.inside.steps.items c.len-at.result ≡ Some c.index.result.now = slice_get_read c.self.inside.steps.items (length c.self.inside.steps.items) c.len-at.result c.index.result.now refl (omega arith) c.index.ensures in
     fits_at c.self.inside.steps.items c.self.inside.held.items c.len-at.result c.index.result.now c.take_out-held.result c.self.invariant.held at c.take_out-held.ensures.value
 
-made : (c : goal.After-self-1) → Commits (seen c.self.inside) record { base = c.self.inside.base.value; steps = c.self.inside.steps.items; world = c.commit.new.world; outcomes = c.push_reserved.new.self.items; marks = c.push_reserved-in-Ok.new.self.items; held = c.take_out-held.new.held.items; undone = c.commit.new.undone; since = c.since_after-self-inside.result }
+made : (c : goal.After-self-in-Ok-1) → Commits (seen c.self.inside) record { base = c.self.inside.base.value; steps = c.self.inside.steps.items; world = c.commit.new.world; outcomes = c.push_reserved.new.self.items; marks = c.push_reserved-in-Ok.new.self.items; held = c.take_out-held.new.held.items; undone = c.commit.new.undone; since = c.since_after-self-inside.result }
 made c =
     let w = slice_get_within c.self.inside.held.items c.len-at.result c.take_out-held.result c.take_out-held.ensures.value in
     let e = fits_length c.self.inside.steps.items c.self.inside.held.items c.self.invariant.held in

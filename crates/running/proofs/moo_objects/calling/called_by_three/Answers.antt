@@ -1,0 +1,42 @@
+use Rattle.std.proofs.Common.{◌≡◌, refl, [], ◌∷◌, take, reverse, Option, Some, None, Result, Ok, Err, rules, w32, to_z, of_z}
+use Rattle.std.specs.Prelude.{IfOk, IfSome}
+use Rattle.running.specs.Called.{HasCall}
+use Rattle.running.proofs.Entering.{has_call, called_as}
+use Rattle.running.proofs.Tops.{three_on_top}
+use Rattle.running.proofs.moo_objects.calling.called_by_three.Goals as goal
+
+some_way : {X E : Type 0} (P : Type 0) (r : Result (Option X) E) → P → IfOk r (λ o. IfSome o (λ d. P))
+some_way P (Ok (Some d)) h = h
+some_way P (Ok None) h = tt
+some_way P (Err e) h = tt
+
+pub returns-in_default-clause-left : goal.returns-in_default-clause-left
+returns-in_default-clause-left g c = λ w is. (is, (refl, tt))
+
+pub returns-then-not-are_arguments-clause-left : goal.returns-then-not-are_arguments-clause-left
+returns-then-not-are_arguments-clause-left g c = λ w is. (is, (refl, tt))
+
+pub returns-in_default-2-clause-left : goal.returns-in_default-2-clause-left
+returns-in_default-2-clause-left g c = λ w is. (is, (refl, tt))
+
+pub returns-in-Object-Some-clause-held : goal.returns-in-Object-Some-clause-held
+returns-in-Object-Some-clause-held g c =
+    let o = c.object-item.result in
+    let word = c.word-item.result in
+    let args = c.arguments-item.result in
+    let three : o ∷ word ∷ args ∷ [] ≡ reverse (take 3 c.args.operands.now) = search rules in
+    let held = has_call c.args.operands.now o word args c.in-Object-Some.object c.in-Object-Some.word.now (three_on_top c.args.operands.now o word args three) c.in-Object-Some.ensures
+    c.in-Object-Some.ensures'.some (c.are_arguments.ensures (search rules)) in
+    some_way (HasCall c.args.operands.now) c.verb_on.result held
+
+pub returns-in-Object-Some-clause-left : goal.returns-in-Object-Some-clause-left
+returns-in-Object-Some-clause-left g c =
+    let view = g.V.View in
+    let at : to_z w32 (of_z w32 c.in-Object-Some.object) ≡ c.in-Object-Some.object = search rules in
+    let o = c.object-item.result in
+    let word = c.word-item.result in
+    let args = c.arguments-item.result in
+    let three : o ∷ word ∷ args ∷ [] ≡ reverse (take 3 c.args.operands.now) = search rules in
+    let held = has_call c.args.operands.now o word args c.in-Object-Some.object c.in-Object-Some.word.now (three_on_top c.args.operands.now o word args three) c.in-Object-Some.ensures
+    c.in-Object-Some.ensures'.some (c.are_arguments.ensures (search rules)) in
+    called_as view.holds view.now c.args.view.now c.verb_on.new.view c.args.call.now c.args.operands.now held c.verb_on.result (rw at at c.verb_on.ensures.left)

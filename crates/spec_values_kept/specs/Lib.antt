@@ -1,0 +1,5 @@
+pub mod Values
+pub mod Nodes
+pub mod WorldValues
+pub mod UnderWay
+pub mod Whole

@@ -1,0 +1,8 @@
+//! Laws of turns: tasks over values lead to values.
+ghost use Rattle.spec_values_kept.specs.UnderWay.{TurnsHold};
+
+/// After each turn of a task that stands in its programs, in the verb that is under way and in those that wait for it.
+#[tactic(auto, using(crate::proofs::TurnsHold::turns_hold))]
+pub fn keeping()
+    ensures { TurnsHold }
+{}

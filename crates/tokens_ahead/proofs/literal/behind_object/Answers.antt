@@ -1,0 +1,7 @@
+use Rattle.std.proofs.Common.{◌∙◌, sym}
+use Rattle.tokens_ahead.proofs.Literals.{object_taken}
+use Rattle.tokens_ahead.proofs.literal.behind_object.Goals as goal
+
+pub returns : goal.returns
+returns c =
+    object_taken _ _ _ _ c.args.number c.requires c.behind_blanks-text.ensures (c.in_ok-digits.ensures) (c.in_ok-rest.ensures) (sym c.continues_word.ensures ∙ c.if-continues_word.false)

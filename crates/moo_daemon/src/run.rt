@@ -14,6 +14,7 @@ use std::net::{Net, TcpListener, TcpStream};
 use std::rt::{Clock, Env, Files};
 use std::sync::Wait;
 use std::thread::Threads;
+use whole_files::writing::WholeFiles;
 use world::worlds::World;
 
 /// The program's name.
@@ -25,6 +26,7 @@ pub fn run<
         + Eprint
         + AllocGlobal
         + Files
+        + WholeFiles
         + Env
         + Threads
         + Wait
@@ -53,6 +55,7 @@ pub fn run<
 fn run_options<
     R: AllocGlobal
         + Files
+        + WholeFiles
         + Threads
         + Wait
         + Clock

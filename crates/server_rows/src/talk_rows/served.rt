@@ -4,16 +4,17 @@ use server_loop::serving::serve;
 use speculate::gate::Free;
 use std::alloc::Global;
 use std::net::{Ipv4Addr, Net, SocketAddr, TcpListener, TcpStream};
-use std::rt::{Clock, Files};
+use std::rt::Clock;
 use std::sync::Wait;
 use std::thread::Threads;
 use std::{io, thread};
+use whole_files::writing::WholeFiles;
 use world_fixture::fixture::fixture;
 
 /// What a client is told otherwise than its turns say, and what the server says.
 pub fn others<
     R: AllocGlobal
-        + Files
+        + WholeFiles
         + Threads
         + Wait
         + Clock

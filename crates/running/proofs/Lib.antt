@@ -25,4 +25,5 @@ pub mod Queueing
 pub mod Tops
 pub mod Onward
 pub mod Appending
+pub mod Numbers
 pub mod AskingOn

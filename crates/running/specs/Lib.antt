@@ -14,3 +14,4 @@ pub mod Stopping
 pub mod Closing
 pub mod Onward
 pub mod Appending
+pub mod Numbers

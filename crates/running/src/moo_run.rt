@@ -5,6 +5,7 @@ pub mod calling;
 mod forking;
 pub mod leaving;
 pub mod natives;
+mod numbers;
 mod onward;
 mod parts;
 mod returning;

@@ -119,4 +119,17 @@ impl Gate for MeetingGate {
             _ => guess(alloc, snapshot, step),
         }
     }
+
+    fn allows(&self, position: usize) -> bool {
+        self.calls.fetch_add(1, Ordering::SeqCst);
+        match position {
+            0 => self.meeting.begin(),
+            1 => {
+                self.meeting.wait();
+                self.meeting.answer();
+            }
+            _ => {}
+        }
+        position != 1 || !self.refuses
+    }
 }

@@ -9,7 +9,7 @@ use task_step::step::Step;
 use world::worlds::Snapshot;
 
 /// Makes every guess of a list, each on the thread of the worker that took its position. It may answer want of memory at will;
-/// the step is then run when its turn comes.
+/// the step is then run when its turn comes. One worker makes no guesses: it asks which steps to try.
 pub trait Gate: Sync {
     /// A guess for the step at this position of the list, on this snapshot.
     fn guess(
@@ -21,6 +21,10 @@ pub trait Gate: Sync {
     ) -> Result<Guess, AllocError>
         requires { IsTrue (in_range step.now) }
         ensures { IfOk result (λ g. g.before ≡ snapshot.now) };
+
+    /// Whether the one worker of a list tries the step at this position, on the world itself. Where it is not to be tried, it is run as after want of
+    /// memory.
+    fn allows(&self, position: usize) -> bool;
 }
 
 /// The gate that only guesses.
@@ -36,6 +40,10 @@ impl Gate for Free {
         step: &Step,
     ) -> Result<Guess, AllocError> {
         guess(alloc, snapshot, step)
+    }
+
+    fn allows(&self, _position: usize) -> bool {
+        true
     }
 }
 

@@ -1,21 +1,26 @@
 //! A list on the caller's thread alone, without a board, without a lock and without threads.
 ghost use Rattle.std.specs.Prelude.{◌≡◌, ◌≤◌, ◌+◌, [], ◌∷◌, length, take, vec_len, vec_capacity, IsTrue, IfOk, IfErr, IfSome, OnErr, MatchOption};
+ghost use Rattle.spec_world.specs.Questions.{apply_all};
 ghost use Rattle.spec_world.specs.Step.{AllInRange, in_range};
 ghost use Rattle.spec_moo.specs.Steps.{play1, play};
+ghost use Rattle.view.specs.Sound.{IsSound};
 ghost use Rattle.speculate.specs.BoardState.{runs};
 
 use crate::gate::Gate;
-use crate::guesses::Guess;
 use crate::held::Mark;
 use crate::report::Report;
 use std::alloc::{AllocError, Global};
 use task_run::list::play_step;
+use task_run::step::run_step;
 use task_step::outcome::Outcome;
 use task_step::partial::{Partial, Refusal, refused};
 use task_step::step::Step;
+use view::reads::Changes;
+use world::alone::Alone;
+use world::draft::Draft;
 use world::worlds::World;
 
-/// Plays the steps one after another, each guessed on the world that those before it left. After want of memory, the first part was run.
+/// Plays the steps one after another, each tried on the world that those before it left. After want of memory, the first part was run.
 pub(crate) fn play_here<G: Gate>(
     alloc: Global,
     gate: &G,
@@ -68,7 +73,7 @@ fn places(alloc: Global, count: usize) -> Result<(Vec<Outcome>, Vec<Mark>), Allo
     Ok((outcomes, marks))
 }
 
-// One step: its guess is kept, or it is run on the world. After an error the world is as it was.
+// One step: it is tried and kept, or it is run on the world. After an error the world is as it was.
 #[inline(always)]
 fn step_here<G: Gate>(
     alloc: Global,
@@ -88,7 +93,7 @@ fn step_here<G: Gate>(
     }
 }
 
-// Where a guess comes for the step, the world becomes what it became there.
+// Where the gate allows it and there is memory for it, the world becomes what the step makes of it.
 #[inline(always)]
 fn keep_here<G: Gate>(
     alloc: Global,
@@ -100,33 +105,42 @@ fn keep_here<G: Gate>(
     requires { IsTrue (in_range step.now) }
     ensures { MatchOption result (world.new ≡ world.old) (λ o. (play1 world.old.plain step.now ≡ (world.new.plain, o)) × (world.new.opened ≡ world.old.opened)) }
 {
-    world.know();
-    let Some(guess) = guess_here(alloc, gate, world, step, at) else {
-        return None;
-    };
-    if !guess.is_for(step) {
+    if !gate.allows(at) {
         return None;
     }
-    guess.know();
-    guess.take_over(world)
+    let (outcome, changes, after) = try_here(alloc, world, step)?;
+    take_over(world, &changes, after)?;
+    Some(outcome)
 }
 
-// The gate's guess on the world as it is. Nothing shares the world's records behind it.
+// What the step makes of the world: its outcome, the changes, and the records with them, where they were made. The world stays as it is.
 #[inline(always)]
-fn guess_here<G: Gate>(
-    alloc: Global,
-    gate: &G,
-    world: &World,
-    step: &Step,
-    at: usize,
-) -> Option<Guess>
+fn try_here(alloc: Global, world: &World, step: &Step) -> Option<(Outcome, Changes, Option<Draft>)>
     requires { IsTrue (in_range step.now) }
-    ensures { IfSome result (λ g. g.before ≡ world.now.plain) }
+    ensures played { IfSome result (λ r. play1 world.now.plain step.now ≡ (apply_all r.1 world.now.plain, r.0)) }
+    ensures sound { IfSome result (λ r. IsSound (apply_all r.1 world.now.plain)) }
+    ensures after { IfSome result (λ r. IfSome r.2 (λ d. d ≡ apply_all r.1 world.now.plain)) }
 {
-    let Ok(snapshot) = world.snapshot() else {
-        return None;
-    };
-    gate.guess(alloc, at, &snapshot, step).ok()
+    let mut view = Alone::over(alloc, world);
+    let outcome = run_step(alloc, &mut view, step).ok()?;
+    let (changes, after) = view.finish();
+    Some((outcome, changes, after))
+}
+
+// The world has these changes, which these records have too, where they were made. After want of memory nothing has changed.
+#[inline(always)]
+fn take_over(world: &mut World, changes: &Changes, after: Option<Draft>) -> Option<()>
+    requires sound { IsSound (apply_all changes.now world.old.plain) }
+    requires after { IfSome after (λ d. d ≡ apply_all changes.now world.old.plain) }
+    ensures { MatchOption result (world.new ≡ world.old) (λ _. world.new ≡ record { plain = apply_all changes.now world.old.plain; opened = world.old.opened }) }
+{
+    match after {
+        Some(draft) => {
+            world.replace(draft);
+            Some(())
+        }
+        None => world.change(changes).ok(),
+    }
 }
 
 // The step is run on the world.

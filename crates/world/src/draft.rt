@@ -509,6 +509,16 @@ impl Draft {
         Ok(draft)
     }
 
+    /// The same records with changes, of which one comes last.
+    #[inline(never)]
+    pub(crate) fn changed_by(&self, changes: &Changes, last: &Change) -> Result<Draft, AllocError>
+        ensures { IfOk result (λ d. d ≡ apply (change_of last.now) (apply_all changes.now self.now)) }
+    {
+        let mut draft = self.changed(changes)?;
+        draft.put_kept(last)?;
+        Ok(draft)
+    }
+
     /// Changes where the records lie, as far as no other draft shares them. After an `Err` nothing has changed.
     pub(crate) fn change(&mut self, changes: &Changes) -> Result<(), AllocError>
         ensures ok { OnOk result (self.new ≡ apply_all changes.now self.old) }

@@ -1,5 +1,5 @@
 -- Steps of a list on one thread.
-use Rattle.std.proofs.Common.{◌≡◌, ◌+◌, ℕ, List, ◌∷◌, ◌++◌, [], Option, Some, None, Result, Ok, Err, IfOk, OnOk, IfSome, refl, sym, ap, subst, ◌∙◌, arith}
+use Rattle.std.proofs.Common.{◌≡◌, ◌+◌, ℕ, List, ◌∷◌, ◌++◌, [], Option, Some, None, IfSome, refl, sym, ap, subst, ◌∙◌, arith}
 use Rattle.std.specs.Option.{unwrap_or}
 use Rattle.spec_world.specs.World.{World}
 use Rattle.spec_world.specs.Step.{Step}
@@ -10,6 +10,7 @@ use Rattle.view.specs.Law.{Goes, AreSound}
 use Rattle.view.specs.Sound.{IsSound}
 use Rattle.world.specs.Amended.{Amended, amended_now}
 use Rattle.task_run.specs.Performed.{StepsTo}
+use Rattle.task_run.proofs.Playing.{is_played}
 use Rattle.speculate.specs.BoardState.{runs}
 use Rattle.speculate.specs.declared.held.Mark.{Mark}
 use Rattle.speculate.proofs.Honest.{runs_more}
@@ -20,8 +21,8 @@ unchanged home = record { home = home; changes = [] }
 abbrev IsHome : Amended → World → Type 0
 IsHome a w = w ≡ a.home
 
-abbrev now : Amended → World → World
-now a w = amended_now a
+abbrev changed_world : Amended → World → World
+changed_world a w = amended_now a
 
 -- the same world with the same changes
 amended_same : (home : World) (old new : Amended) (cs : List Change) → old ≡ unchanged home → new.home ≡ old.home → cs ≡ new.changes → amended_now new ≡ apply_all cs home
@@ -30,14 +31,14 @@ amended_same home old new cs empty stays changes =
 
 -- what a step does on a borrowed world is what it plays there
 pub tried : (home : World) (s : Step) (old new : Amended) (cs : List Change) (o : Outcome) → old ≡ unchanged home → new.home ≡ old.home → cs ≡ new.changes
-    → Goes IsHome now old new (λ before after. StepsTo (play1 before s) after o) → play1 home s ≡ (apply_all cs home, o)
+    → Goes IsHome changed_world old new (λ before after. StepsTo (play1 before s) after o) → play1 home s ≡ (apply_all cs home, o)
 tried home s old new cs o empty stays changes goes =
     let P : Amended → Type 0 = λ a. StepsTo (play1 (amended_now a) s) (amended_now new) o in
     let g : StepsTo (play1 home s) (amended_now new) o = subst P empty (goes new.home refl).1 in
-    λ i. ((sym g.0 ∙ amended_same home old new cs empty stays changes) i, g.1 i)
+    is_played (play1 home s) (apply_all cs home) o (sym (amended_same home old new cs empty stays changes) ∙ g.0, g.1)
 
 -- and leaves it sound
-pub tried_sound : (home : World) (old new : Amended) (cs : List Change) → old ≡ unchanged home → new.home ≡ old.home → cs ≡ new.changes → AreSound IsHome now new → IsSound (apply_all cs home)
+pub tried_sound : (home : World) (old new : Amended) (cs : List Change) → old ≡ unchanged home → new.home ≡ old.home → cs ≡ new.changes → AreSound IsHome changed_world new → IsSound (apply_all cs home)
 tried_sound home old new cs empty stays changes sound =
     subst IsSound (amended_same home old new cs empty stays changes) (sound new.home refl)
 

@@ -22,7 +22,7 @@ use Rattle.speculate.proofs.Places.{fits_at, fits_set, fits_any, fits_empty, fit
 use Rattle.speculate.proofs.Plays.{play_more, play_none, range_at}
 use Rattle.view.proofs.SoundKeeps.{sound_step}
 
-pub kept_plays : (w : World) (s : Step) (g : Guessed) (w' : Counted) (n : ℕ) (o : Outcome) → IsSound w → g.step ≡ s → IsRight g → Agrees w g.reads
+kept_plays : (w : World) (s : Step) (g : Guessed) (w' : Counted) (n : ℕ) (o : Outcome) → IsSound w → g.step ≡ s → IsRight g → Agrees w g.reads
     → w' ≡ record { plain = after_guess g w; opened = n } → o ≡ g.outcome → play1 w s ≡ (w'.plain, o)
 kept_plays w s g w' n o sound same right agrees a b =
     let P : Step → Type 0 = λ z. play1 w z ≡ (after_guess g w, g.outcome) in

@@ -1,5 +1,5 @@
 //! A list on the caller's thread alone, without a board, without a lock and without threads.
-ghost use Rattle.std.specs.Prelude.{◌≡◌, ◌≤◌, ◌+◌, [], ◌∷◌, length, take, vec_len, vec_capacity, IsTrue, IfOk, IfErr, IfSome, OnErr, MatchOption};
+ghost use Rattle.std.specs.Prelude.{◌≡◌, ◌≤◌, ◌+◌, [], ◌∷◌, length, take, vec_len, vec_capacity, IsTrue, IfOk, IfErr, IfSome, OnOk, OnErr, MatchOption};
 ghost use Rattle.spec_world.specs.Questions.{apply_all};
 ghost use Rattle.spec_world.specs.Step.{AllInRange, in_range};
 ghost use Rattle.spec_moo.specs.Steps.{play1, play};
@@ -108,38 +108,48 @@ fn keep_here<G: Gate>(
     if !gate.allows(at) {
         return None;
     }
-    let (outcome, changes, after) = try_here(alloc, world, step)?;
-    take_over(world, &changes, after)?;
-    Some(outcome)
+    let Ok((outcome, changes, after)) = try_here(alloc, world, step) else {
+        return None;
+    };
+    match take_over(world, &changes, after) {
+        Ok(()) => Some(outcome),
+        Err(_) => None,
+    }
 }
 
 // What the step makes of the world: its outcome, the changes, and the records with them, where they were made. The world stays as it is.
 #[inline(always)]
-fn try_here(alloc: Global, world: &World, step: &Step) -> Option<(Outcome, Changes, Option<Draft>)>
+fn try_here(
+    alloc: Global,
+    world: &World,
+    step: &Step,
+) -> Result<(Outcome, Changes, Option<Draft>), AllocError>
     requires { IsTrue (in_range step.now) }
-    ensures played { IfSome result (λ r. play1 world.now.plain step.now ≡ (apply_all r.1 world.now.plain, r.0)) }
-    ensures sound { IfSome result (λ r. IsSound (apply_all r.1 world.now.plain)) }
-    ensures after { IfSome result (λ r. IfSome r.2 (λ d. d ≡ apply_all r.1 world.now.plain)) }
+    ensures played { IfOk result (λ r. play1 world.now.plain step.now ≡ (apply_all r.1 world.now.plain, r.0)) }
+    ensures sound { IfOk result (λ r. IsSound (apply_all r.1 world.now.plain)) }
+    ensures after { IfOk result (λ r. IfSome r.2 (λ d. d ≡ apply_all r.1 world.now.plain)) }
 {
     let mut view = Alone::over(alloc, world);
-    let outcome = run_step(alloc, &mut view, step).ok()?;
+    let outcome = run_step(alloc, &mut view, step)?;
     let (changes, after) = view.finish();
-    Some((outcome, changes, after))
+    Ok((outcome, changes, after))
 }
 
 // The world has these changes, which these records have too, where they were made. After want of memory nothing has changed.
 #[inline(always)]
-fn take_over(world: &mut World, changes: &Changes, after: Option<Draft>) -> Option<()>
+fn take_over(world: &mut World, changes: &Changes, after: Option<Draft>) -> Result<(), AllocError>
     requires sound { IsSound (apply_all changes.now world.old.plain) }
     requires after { IfSome after (λ d. d ≡ apply_all changes.now world.old.plain) }
-    ensures { MatchOption result (world.new ≡ world.old) (λ _. world.new ≡ record { plain = apply_all changes.now world.old.plain; opened = world.old.opened }) }
+    ensures plain { OnOk result (world.new.plain ≡ apply_all changes.now world.old.plain) }
+    ensures opened { OnOk result (world.new.opened ≡ world.old.opened) }
+    ensures err { OnErr result (world.new ≡ world.old) }
 {
     match after {
         Some(draft) => {
             world.replace(draft);
-            Some(())
+            Ok(())
         }
-        None => world.change(changes).ok(),
+        None => world.change(changes),
     }
 }
 

@@ -24,6 +24,7 @@ pub(crate) fn is_light(change: &Change) -> bool
 }
 
 /// The answer to a question after light changes, where this was the one before them.
+#[inline(always)]
 pub(crate) fn answer_after(
     question: &Question,
     home: Answer,
@@ -39,6 +40,7 @@ pub(crate) fn answer_after(
 }
 
 // The same of a slot.
+#[inline(always)]
 fn slot_answer_after(
     object: i32,
     name: &Text,
@@ -58,6 +60,7 @@ fn slot_answer_after(
 }
 
 // A slot that is there, after light changes.
+#[inline(always)]
 fn slot_after(object: i32, name: &Text, home: Slot, changes: &[Change]) -> Result<Slot, AllocError>
     requires { AllLight (map change_of changes.now) }
     ensures { IfOk result (λ s. (w : Plain) → slot_on w object name.now ≡ Some (Some home) → slot_on (apply_all (map change_of changes.now) w) object name.now ≡ Some (Some s)) }

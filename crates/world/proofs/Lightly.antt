@@ -1,5 +1,5 @@
 -- What is asked after light changes.
-use Rattle.std.proofs.Common.{◌≡◌, ℕ, zero, suc, ◌+◌, ◌<◌, ◌≤◌, ℤ, Bool, true, false, cond, ◌&&◌, List, [], ◌∷◌, ◌++◌, map, length, take, get_or, Option, Some, None, option_map, IsTrue, refl, sym, ◌∙◌, ap, add-one, arith}
+use Rattle.std.proofs.Common.{◌≡◌, ℕ, zero, suc, ◌+◌, ◌<◌, ◌≤◌, ℤ, Bool, true, false, cond, ◌&&◌, List, [], ◌∷◌, ◌++◌, map, length, take, get_or, Option, Some, None, option_map, IsTrue, Result, Ok, Err, IfOk, refl, sym, ◌∙◌, ap, add-one, arith}
 use Rattle.std.specs.Ordering.{nat_cmp, int_cmp, ordering_reverse}
 use Rattle.std.specs.Cmp.{int_cmp_total, Equal-is, IsTotalOrder}
 use Rattle.std.specs.Cmp.Lexicographic.{slice_cmp, nat_list_cmp_total}
@@ -8,9 +8,10 @@ use Rattle.std.specs.declared.cmp.Ordering.TheVariants.{Less, Equal, Greater}
 use Rattle.spec_value.specs.Datum.{Datum, Text, fold_case}
 use Rattle.spec_world.specs.World.{World, Slot}
 use Rattle.spec_world.specs.Questions.{Question, about_header, about_children, about_contents, about_defines, about_slot, about_verbs, about_task, about_waiting, about_link, about_readers, about_connections, about_connected, about_greatest, about_ending, Answer, the_slot, ask, slot_on, Change, new_part, new_value, new_object, new_task, new_link, new_greatest, new_ending, new_next, apply, apply_all}
-use Rattle.view.specs.Meanings.{change_of}
+use Rattle.view.specs.Meanings.{answer_of, change_of}
 use Rattle.view.specs.declared.change.Change as shown
 use Rattle.view.specs.declared.change.Change.TheVariants.{Value}
+use Rattle.view.specs.declared.question.Answer as answered
 use Rattle.world.specs.Late.{is_light, AllLight, is_about_slot, slot_told}
 use Rattle.world.proofs.History.{next_unseen}
 use Rattle.world.proofs.Local.{same_number, same_name, number_is, name_is, both_true, filled, refilled, after, value_after}
@@ -151,11 +152,17 @@ pub left_at : (c : shown.Change) (o q : ℤ) (p r : Text) (v : Datum) (w : World
     → slot_on (apply (change_of c) w) q r ≡ Some (Some s)
 left_at c o q p r v w s this other is = ap (λ (x : shown.Change). slot_on (apply (change_of x) w) q r) this ∙ slot_missed o q p r v w s other is
 
--- ---- answers that stay
+-- ---- copies of answers
 
 pub answer_unseen : (home : Answer) (cs : List Change) (q : Question) (w : World) → AllLight cs → is_about_slot q ≡ false → home ≡ ask w q → home ≡ ask (apply_all cs w) q
 answer_unseen home cs q w all e same = same ∙ sym (all_unseen cs w q all e)
 
-pub answer_absent : (home : Answer) (cs : List Change) (o : ℤ) (p : Text) (w : World) → AllLight cs → slot_told home ≡ None → home ≡ the_slot (slot_on w o p)
-    → home ≡ the_slot (slot_on (apply_all cs w) o p)
-answer_absent home cs o p w all none same = same ∙ sym (ap the_slot (all_absent cs w o p (slot_on w o p) all (sym (ap slot_told same) ∙ none) refl))
+pub copy_unseen : {E : Type 0} (r : Result answered.Answer E) (home : Answer) (cs : List Change) (q : Question) → AllLight cs → is_about_slot q ≡ false
+    → IfOk r (λ a. answer_of a ≡ home) → IfOk r (λ a. (w : World) → home ≡ ask w q → answer_of a ≡ ask (apply_all cs w) q)
+copy_unseen (Ok a) home cs q all e is = λ w same. is ∙ answer_unseen home cs q w all e same
+copy_unseen (Err x) home cs q all e is = tt
+
+pub copy_absent : {E : Type 0} (r : Result answered.Answer E) (home : Answer) (cs : List Change) (o : ℤ) (p : Text) → AllLight cs → slot_told home ≡ None
+    → IfOk r (λ a. answer_of a ≡ home) → IfOk r (λ a. (w : World) → home ≡ the_slot (slot_on w o p) → answer_of a ≡ the_slot (slot_on (apply_all cs w) o p))
+copy_absent (Ok a) home cs o p all none is = λ w same. is ∙ same ∙ sym (ap the_slot (all_absent cs w o p (slot_on w o p) all (sym (ap slot_told same) ∙ none) refl))
+copy_absent (Err x) home cs o p all none is = tt

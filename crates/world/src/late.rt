@@ -1,13 +1,14 @@
 //! Answers after light changes, which follow from the answers before them: no records are made to give them.
-ghost use Rattle.std.specs.Prelude.{◌≡◌, ◌↔◌, Some, map, IsTrue, IfOk, OnOk};
+ghost use Rattle.std.specs.Prelude.{◌≡◌, ◌↔◌, Some, map, IsTrue, IfOk, OnOk, option_map};
 ghost use Rattle.spec_value.specs.Datum.{fold_case};
 ghost use Rattle.spec_world.specs.World.{World as Plain};
 ghost use Rattle.spec_world.specs.Questions.{ask, apply, apply_all, slot_on, the_slot};
 ghost use Rattle.view.specs.Meanings.{question_of, answer_of, change_of};
-ghost use Rattle.world.specs.Late.{is_light as is_light_change, AllLight};
+ghost use Rattle.world.specs.Late.{is_light as is_light_change, AllLight, slot_told as slot_of_answer};
 
+use crate::answers::copied;
 use moo_value::text::Text;
-use std::alloc::AllocError;
+use std::alloc::{AllocError, Global};
 use view::change::Change;
 use view::question::{Answer, Question};
 use view::slot::Slot;
@@ -24,8 +25,24 @@ pub(crate) fn is_light(change: &Change) -> bool
 }
 
 /// The answer to a question after light changes, where this was the one before them.
-#[inline(always)]
 pub(crate) fn answer_after(
+    alloc: Global,
+    question: &Question,
+    home: &Answer,
+    changes: &[Change],
+) -> Result<Answer, AllocError>
+    requires { AllLight (map change_of changes.now) }
+    ensures { IfOk result (λ a. (w : Plain) → answer_of home.now ≡ ask w (question_of question.now) → answer_of a ≡ ask (apply_all (map change_of changes.now) w) (question_of question.now)) }
+{
+    match question {
+        Question::Slot(object, name) => slot_answer_after(alloc, *object, name, home, changes),
+        _ => copied(alloc, home),
+    }
+}
+
+/// The same where the answer before them is one's own, and may be the one that is given.
+pub(crate) fn own_answer_after(
+    alloc: Global,
     question: &Question,
     home: Answer,
     changes: &[Change],
@@ -34,38 +51,47 @@ pub(crate) fn answer_after(
     ensures { IfOk result (λ a. (w : Plain) → answer_of home ≡ ask w (question_of question.now) → answer_of a ≡ ask (apply_all (map change_of changes.now) w) (question_of question.now)) }
 {
     match question {
-        Question::Slot(object, name) => slot_answer_after(*object, name, home, changes),
+        Question::Slot(object, name) => slot_answer_after(alloc, *object, name, &home, changes),
         _ => Ok(home),
     }
 }
 
 // The same of a slot.
-#[inline(always)]
 fn slot_answer_after(
+    alloc: Global,
     object: i32,
     name: &Text,
-    home: Answer,
+    home: &Answer,
     changes: &[Change],
 ) -> Result<Answer, AllocError>
     requires { AllLight (map change_of changes.now) }
-    ensures { IfOk result (λ a. (w : Plain) → answer_of home ≡ the_slot (slot_on w object name.now) → answer_of a ≡ the_slot (slot_on (apply_all (map change_of changes.now) w) object name.now)) }
+    ensures { IfOk result (λ a. (w : Plain) → answer_of home.now ≡ the_slot (slot_on w object name.now) → answer_of a ≡ the_slot (slot_on (apply_all (map change_of changes.now) w) object name.now)) }
 {
-    match home {
-        Answer::Slot(Some(Some(slot))) => {
+    match slot_told(home) {
+        Some(slot) => {
             let slot = slot_after(object, name, slot, changes)?;
             Ok(Answer::Slot(Some(Some(slot))))
         }
-        other => Ok(other),
+        None => copied(alloc, home),
+    }
+}
+
+// The slot that an answer tells, if it is there.
+fn slot_told(answer: &Answer) -> Option<&Slot>
+    ensures { option_map (λ s. s.now) result ≡ slot_of_answer (answer_of answer.now) }
+{
+    match answer {
+        Answer::Slot(Some(Some(slot))) => Some(slot),
+        _ => None,
     }
 }
 
 // A slot that is there, after light changes.
-#[inline(always)]
-fn slot_after(object: i32, name: &Text, home: Slot, changes: &[Change]) -> Result<Slot, AllocError>
+fn slot_after(object: i32, name: &Text, home: &Slot, changes: &[Change]) -> Result<Slot, AllocError>
     requires { AllLight (map change_of changes.now) }
-    ensures { IfOk result (λ s. (w : Plain) → slot_on w object name.now ≡ Some (Some home) → slot_on (apply_all (map change_of changes.now) w) object name.now ≡ Some (Some s)) }
+    ensures { IfOk result (λ s. (w : Plain) → slot_on w object name.now ≡ Some (Some home.now) → slot_on (apply_all (map change_of changes.now) w) object name.now ≡ Some (Some s)) }
 {
-    let mut slot = home;
+    let mut slot = home.clone()?;
     for change in changes {
         refill(&mut slot, object, name, change)?;
     }

@@ -10,7 +10,7 @@ ghost use Rattle.world.specs.Trace.{AnswersAlike};
 
 use crate::answers::copied;
 use crate::draft::Draft;
-use crate::late::{answer_after, is_light};
+use crate::late::{answer_after, is_light, own_answer_after};
 use std::alloc::{AllocError, Global};
 use std::marker::Model;
 use view::change::Change;
@@ -98,7 +98,12 @@ impl<'h> Overlay<'h> {
         }
         match &self.fork {
             Some(draft) => draft.ask(question),
-            None => answer_after(question, self.home.ask(question)?, self.changes.as_slice()),
+            None => own_answer_after(
+                self.alloc,
+                question,
+                self.home.ask(question)?,
+                self.changes.as_slice(),
+            ),
         }
     }
 
@@ -113,7 +118,7 @@ impl<'h> Overlay<'h> {
         }
         match &self.fork {
             Some(draft) => draft.ask(question),
-            None => answer_after(question, copied(self.alloc, home)?, self.changes.as_slice()),
+            None => answer_after(self.alloc, question, home, self.changes.as_slice()),
         }
     }
 

@@ -17,7 +17,7 @@ pub returns : goal.returns
 returns c =
     let number : to_z w32 (of_z w32 c.args.object) ≡ c.args.object = search rules in
     subst
-    (λ (n : ℤ). (w : World) → slot_on w n c.args.name.now ≡ Some (Some c.args.home)
+    (λ (n : ℤ). (w : World) → slot_on w n c.args.name.now ≡ Some (Some c.args.home.now)
     → slot_on (apply_all (map change_of c.args.changes.now) w) n c.args.name.now ≡ Some (Some c.loop-change.slot))
     number
     (λ w is. ap (λ (v : World). slot_on v (to_z w32 (of_z w32 c.args.object)) c.args.name.now) (sym (all_taken c.args.changes.now c.loop-change.change-index w (omega arith))) ∙ c.loop-change.invariant w is)

@@ -6,4 +6,4 @@ use Rattle.world.proofs.late.slot_after.Given as goal
 
 abbrev pub invariant-loop-change : goal.invariant-loop-change
 invariant-loop-change l =
-    (w : World) → slot_on w l.object l.name ≡ Some (Some l.initial.slot) → slot_on (apply_all (map change_of (take l.change-index l.changes)) w) l.object l.name ≡ Some (Some l.slot)
+    (w : World) → slot_on w l.object l.name ≡ Some (Some l.home) → slot_on (apply_all (map change_of (take l.change-index l.changes)) w) l.object l.name ≡ Some (Some l.slot)

@@ -251,9 +251,9 @@ fn verb_on<V: View>(
     Ok(Some((entered, program)))
 }
 
-// Whether a value is a list of arguments that does not weigh too much.
+/// Whether a value is a list of arguments that does not weigh too much.
 #[inline(always)]
-fn are_arguments(arguments: &Value) -> bool
+pub fn are_arguments(arguments: &Value) -> bool
     ensures { IsTrue result → AreArguments None arguments.now }
 {
     match arguments.shown() {

@@ -13,7 +13,6 @@ pub mod Around
 pub mod Passing
 pub mod Asked
 pub mod Calls
-pub mod Valued
 pub mod Handlers
 pub mod Oks
 pub mod Out

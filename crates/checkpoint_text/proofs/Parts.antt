@@ -10,7 +10,7 @@ use Rattle.checkpoint_text.specs.Each.{of_each, of_all}
 use Rattle.checkpoint_text.proofs.Each.{each_is_all}
 use Rattle.checkpoint_text.proofs.Joined.{lines_more}
 use Rattle.checkpoint_text.specs.CheckpointObjectsLines.{link_line}
-use Rattle.checkpoint_text.specs.Parts.{head_lines, state_lines, link_part, object_part, task_part}
+use Rattle.checkpoint_text.specs.Parts.{head_lines, state_lines, link_part, object_part, task_part, front, back}
 
 pub all_links : (es : Numbered Link) → of_all link_line es ≡ link_lines es
 all_links [] = refl
@@ -34,12 +34,16 @@ part_written {X} f word m ks js lines n old counts new sorted keys again count a
     lines_more old counts new (counted word n ∷ []) (of_each f m js) counting writing
     ∙ (λ i. old ++ with_line_ends (counted word (number i) ∷ written i))
 
-pub whole_written : (w : World) (p1 p2 p3 p4 p5 p6 : Text) → p1 ≡ [] ++ with_line_ends (head_lines w) → p2 ≡ p1 ++ with_line_ends (state_lines w)
-    → p3 ≡ p2 ++ with_line_ends (link_part w) → p4 ≡ p3 ++ with_line_ends (object_part w) → p5 ≡ p4 ++ with_line_ends (task_part w)
-    → p6 ≡ p5 ++ with_line_ends (codes "end" ∷ []) → p6 ≡ checkpoint_text w
+pub front_written : (w : World) (p0 p1 p2 p3 : Text) → p1 ≡ p0 ++ with_line_ends (head_lines w) → p2 ≡ p1 ++ with_line_ends (state_lines w)
+    → p3 ≡ p2 ++ with_line_ends (link_part w) → p3 ≡ p0 ++ with_line_ends (front w)
+front_written w p0 p1 p2 p3 e1 e2 e3 = lines_more p0 p1 p3 (head_lines w) (state_lines w ++ link_part w) e1 (lines_more p1 p2 p3 (state_lines w) (link_part w) e2 e3)
+
+pub back_written : (w : World) (p0 p1 p2 : Text) → p1 ≡ p0 ++ with_line_ends (task_part w) → p2 ≡ p1 ++ with_line_ends (codes "end" ∷ []) → p2 ≡ p0 ++ with_line_ends (back w)
+back_written w p0 p1 p2 e1 e2 = lines_more p0 p1 p2 (task_part w) (codes "end" ∷ []) e1 e2
+
+pub whole_written : (w : World) (p0 p1 p2 p3 : Text) → p0 ≡ [] → p1 ≡ p0 ++ with_line_ends (front w) → p2 ≡ p1 ++ with_line_ends (object_part w)
+    → p3 ≡ p2 ++ with_line_ends (back w) → p3 ≡ checkpoint_text w
 unfolding checkpoint_text
-whole_written w p1 p2 p3 p4 p5 p6 e1 e2 e3 e4 e5 e6 =
-    lines_more [] p1 p6 (head_lines w) (state_lines w ++ (link_part w ++ (object_part w ++ (task_part w ++ codes "end" ∷ [])))) e1
-    (lines_more p1 p2 p6 (state_lines w) (link_part w ++ (object_part w ++ (task_part w ++ codes "end" ∷ []))) e2
-    (lines_more p2 p3 p6 (link_part w) (object_part w ++ (task_part w ++ codes "end" ∷ [])) e3
-    (lines_more p3 p4 p6 (object_part w) (task_part w ++ codes "end" ∷ []) e4 (lines_more p4 p5 p6 (task_part w) (codes "end" ∷ []) e5 e6))))
+whole_written w p0 p1 p2 p3 e0 e1 e2 e3 =
+    lines_more p0 p1 p3 (front w) (object_part w ++ back w) e1 (lines_more p1 p2 p3 (object_part w) (back w) e2 e3)
+    ∙ ap (λ t. t ++ with_line_ends (front w ++ (object_part w ++ back w))) e0

@@ -2,7 +2,7 @@
 ghost use Rattle.std.specs.Prelude.{◌≡◌, ◌++◌, OnOk, IfOk, IsTrue, string_bytes};
 ghost use Rattle.spec_value.specs.Table.{is_numbered};
 ghost use Rattle.spec_world.specs.Checkpoint.{checkpoint_text, with_line_ends};
-ghost use Rattle.checkpoint_text.specs.Parts.{head_lines, link_part, object_part, state_lines, task_part};
+ghost use Rattle.checkpoint_text.specs.Parts.{back, front, head_lines, link_part, object_part, state_lines, task_part};
 
 use crate::checkpoint_fields::page::Page;
 use crate::checkpoint_objects::link::put_links;
@@ -20,13 +20,31 @@ pub fn encode(alloc: Global, draft: &Draft) -> Result<String, AllocError>
     ensures { IfOk result (λ text. string_bytes text ≡ checkpoint_text draft.now) }
 {
     let mut page = Page::new(alloc);
-    put_head(&mut page, draft)?;
-    put_state(&mut page, draft)?;
-    put_link_part(&mut page, draft)?;
+    put_front(&mut page, draft)?;
     put_object_part(&mut page, alloc, draft)?;
-    put_task_part(&mut page, alloc, draft)?;
-    page.put("end\n")?;
+    put_back(&mut page, alloc, draft)?;
     Ok(page.into_string())
+}
+
+/// Writes what stands before the objects.
+pub(crate) fn put_front(page: &mut Page, draft: &Draft) -> Result<(), AllocError>
+    requires { IsTrue (is_numbered draft.now.links) }
+    ensures { OnOk result (page.new ≡ page.old ++ with_line_ends (front draft.now)) }
+{
+    put_head(page, draft)?;
+    put_state(page, draft)?;
+    put_link_part(page, draft)?;
+    Ok(())
+}
+
+/// Writes what stands behind the objects.
+pub(crate) fn put_back(page: &mut Page, alloc: Global, draft: &Draft) -> Result<(), AllocError>
+    requires { IsTrue (is_numbered draft.now.tasks) }
+    ensures { OnOk result (page.new ≡ page.old ++ with_line_ends (back draft.now)) }
+{
+    put_task_part(page, alloc, draft)?;
+    page.put("end\n")?;
+    Ok(())
 }
 
 fn put_head(page: &mut Page, draft: &Draft) -> Result<(), AllocError>

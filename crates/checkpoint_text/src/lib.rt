@@ -1,6 +1,7 @@
 //! The text of a world.
 #![tactic(auto)]
 
+pub mod by_threads;
 pub mod checkpoint_fields;
 pub mod checkpoint_frames;
 pub mod checkpoint_objects;

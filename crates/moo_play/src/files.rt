@@ -1,11 +1,12 @@
 //! What the words name: files, and the standard input.
 use checkpoint::world_files::reading::read_world_file;
-use checkpoint_beside::encoder::{Encoder, Plain};
+use checkpoint_text::by_threads::encode_by_threads;
 use moo_server::command_line::cannot_read;
 use moo_server::fixture::fixture;
 use std::alloc::AllocError;
 use std::io::Read;
 use std::rt::Files;
+use std::thread::Threads;
 use std::{fs, io};
 use whole_files::writing::write_file;
 use world::worlds::World;
@@ -22,10 +23,14 @@ pub fn read_world<R: AllocGlobal + Files>(
 }
 
 /// Writes the text of a world into a file.
-pub fn write_world<R: AllocGlobal + Files>(rt: &R, name: &str, world: &World) -> io::Result<()> {
+pub fn write_world<R: AllocGlobal + Files + Threads + Sync>(
+    rt: &R,
+    name: &str,
+    world: &World,
+) -> io::Result<()> {
     let snapshot = world.snapshot()?;
-    let text = Plain.encode(rt.alloc(), &snapshot)?;
-    write_file(rt, name, text.as_slice())
+    let text = encode_by_threads(rt, rt.alloc(), &snapshot)?;
+    write_file(rt, name, text.as_str().as_bytes())
 }
 
 /// All bytes of a script, from a file or, at the word `stdin`, the standard input. A script that cannot be read gives the line of that fault.

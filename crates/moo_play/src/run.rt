@@ -68,7 +68,12 @@ fn run_options<R: Print + Input + AllocGlobal + Files + Threads + Wait + Sync, E
 }
 
 // Writes the world at the end.
-fn save<R: AllocGlobal + Files, E: Write>(rt: &R, name: &str, world: &World, errors: &mut E) -> u8 {
+fn save<R: AllocGlobal + Files + Threads + Sync, E: Write>(
+    rt: &R,
+    name: &str,
+    world: &World,
+    errors: &mut E,
+) -> u8 {
     if write_world(rt, name, world).is_ok() {
         return DONE;
     }

@@ -1,6 +1,7 @@
 //! The checkpoints of a server.
 use checkpoint_beside::beside::Beside;
 use checkpoint_beside::encoder::{Encoder, Plain};
+use checkpoint_text::by_threads::encode_by_threads;
 use std::alloc::{AllocError, Global};
 use std::io;
 use std::io::Write;
@@ -106,7 +107,7 @@ impl Saver {
     }
 
     /// Waits for what is on its way, and writes the last world. Gives whether that went well.
-    pub fn end<R: AllocGlobal + WholeFiles + Threads, E: Write>(
+    pub fn end<R: AllocGlobal + WholeFiles + Threads + Sync, E: Write>(
         mut self,
         rt: &R,
         world: &World,
@@ -119,10 +120,14 @@ impl Saver {
     }
 }
 
-fn write_world<R: AllocGlobal + WholeFiles>(rt: &R, file: &str, world: &World) -> io::Result<()> {
+fn write_world<R: AllocGlobal + WholeFiles + Threads + Sync>(
+    rt: &R,
+    file: &str,
+    world: &World,
+) -> io::Result<()> {
     let snapshot = world.snapshot()?;
-    let text = Plain.encode(rt.alloc(), &snapshot)?;
-    rt.write_whole(file, text.as_slice())
+    let text = encode_by_threads(rt, rt.alloc(), &snapshot)?;
+    rt.write_whole(file, text.as_str().as_bytes())
 }
 
 // Says how the writing of a file went.

@@ -1,14 +1,13 @@
 //! Text that is being written.
-ghost use Rattle.std.specs.Prelude.{◌≡◌, ◌<◌, ◌++◌, ◌∷◌, [], OnOk, IsTrue, string_bytes};
+ghost use Rattle.std.specs.Prelude.{◌≡◌, ◌<◌, ◌++◌, ◌∷◌, [], IfOk, OnOk, MatchOption, IsTrue, string_bytes};
 ghost use Rattle.std.specs.Fmt.{decimal, signed_decimal};
-ghost use Rattle.spec_value.specs.Datum.{text as text_of, is_text};
+ghost use Rattle.spec_value.specs.Datum.{list, of_list, text as text_of, is_text};
 ghost use Rattle.spec_value.specs.Literal.{literal, escape, escaped};
 ghost use Rattle.spec_world.specs.Checkpoint.{flag, object_text, letter_if};
 
 use itoa::Buffer;
 use moo_value::text::Text;
 use moo_value::value::{Shown, Value};
-use moo_value::write::Literal;
 use std::alloc::{AllocError, Global};
 use std::marker::Model;
 
@@ -16,6 +15,7 @@ use std::marker::Model;
 #[derive(Drop)]
 pub struct Page {
     text: String,
+    pub(crate) alloc: Global,
 }
 
 impl Model for Page {
@@ -33,6 +33,7 @@ impl Page {
     {
         Page {
             text: String::new(alloc),
+            alloc,
         }
     }
 
@@ -99,9 +100,10 @@ impl Page {
     pub fn put_value(&mut self, value: &Value) -> Result<(), AllocError>
         ensures { OnOk result (self.new ≡ self.old ++ literal value.now) }
     {
-        match value.shown() {
-            Shown::List(items) => self.put_values(items),
-            _ => self.put_item(value),
+        let items = self.put_unless_list(value)?;
+        match items {
+            Some(items) => self.put_values(items),
+            None => Ok(()),
         }
     }
 
@@ -109,21 +111,29 @@ impl Page {
     pub fn put_item(&mut self, value: &Value) -> Result<(), AllocError>
         ensures { OnOk result (self.new ≡ self.old ++ literal value.now) }
     {
-        value.know();
-        match value.shown() {
-            Shown::Integer(number) => self.put_signed(number),
-            Shown::Object(number) => self.put_object(number),
-            Shown::Text(text) => self.put_quoted(text),
-            _ => self.put_literal(value),
+        let items = self.put_unless_list(value)?;
+        match items {
+            Some(items) => self.put_nested(items),
+            None => Ok(()),
         }
     }
 
-    // A list in a list too, however deep.
-    fn put_literal(&mut self, value: &Value) -> Result<(), AllocError>
-        ensures { OnOk result (self.new ≡ self.old ++ literal value.now) }
+    /// Writes a value as a program would write it, unless it is a list. Gives the items of a list.
+    pub(crate) fn put_unless_list<'v>(
+        &mut self,
+        value: &'v Value,
+    ) -> Result<Option<&'v [Value]>, AllocError>
+        ensures { IfOk result (λ o. MatchOption o (self.new ≡ self.old ++ literal value.now) (λ items. (self.new ≡ self.old) × (value.now ≡ list (of_list items.now)))) }
     {
-        let literal = Literal(value);
-        write!(self.text, "{literal}")
+        value.know();
+        match value.shown() {
+            Shown::Integer(number) => self.put_signed(number)?,
+            Shown::Object(number) => self.put_object(number)?,
+            Shown::Text(text) => self.put_quoted(text)?,
+            Shown::Error(error) => self.put(error.name())?,
+            Shown::List(items) => return Ok(Some(items)),
+        }
+        Ok(None)
     }
 
     /// Writes a text as a program would write it.

@@ -1,0 +1,105 @@
+//! Worlds as text, made by several threads.
+ghost use Rattle.std.specs.Prelude.{◌≡◌, ◌++◌, OnOk, IfOk, IsTrue, string_bytes};
+ghost use Rattle.std.specs.List.{flat_map};
+ghost use Rattle.spec_value.specs.Table.{is_numbered};
+ghost use Rattle.spec_world.specs.Checkpoint.{checkpoint_text, with_line_ends};
+ghost use Rattle.checkpoint_text.specs.Parts.{object_part, objects_text};
+ghost use Rattle.checkpoint_text.specs.Shortcuts.{ArePassed};
+
+use crate::checkpoint_fields::page::Page;
+use crate::checkpoint_objects::object::put_objects;
+use crate::checkpoint_objects::shortcut::{Shortcut, shortcuts};
+use crate::encode::{put_back, put_front};
+use rayon::prelude::*;
+use std::alloc::{AllocError, Global};
+use std::thread::Threads;
+use world::draft::Draft;
+use world::worlds::Snapshot;
+
+// So many objects at most are written as one piece.
+const PIECE: usize = 128;
+
+/// The text of a snapshot's world. The lines of its objects are made by as many threads as there are processors, and stand in the objects' order.
+pub fn encode_by_threads<R: Threads + Sync>(
+    rt: &R,
+    alloc: Global,
+    snapshot: &Snapshot,
+) -> Result<String, AllocError>
+    ensures { IfOk result (λ text. string_bytes text ≡ checkpoint_text snapshot.now) }
+{
+    snapshot.know();
+    let draft = snapshot.share()?;
+    let mut page = Page::new(alloc);
+    put_front(&mut page, &draft)?;
+    put_object_part(rt, &mut page, alloc, &draft, snapshot)?;
+    put_back(&mut page, alloc, &draft)?;
+    Ok(page.into_string())
+}
+
+fn put_object_part<R: Threads + Sync>(
+    rt: &R,
+    page: &mut Page,
+    alloc: Global,
+    draft: &Draft,
+    snapshot: &Snapshot,
+) -> Result<(), AllocError>
+    requires same { draft.now ≡ snapshot.now }
+    requires objects { IsTrue (is_numbered draft.now.objects) }
+    ensures { OnOk result (page.new ≡ page.old ++ with_line_ends (object_part draft.now)) }
+{
+    let numbers = draft.object_numbers()?;
+    let shortcuts = shortcuts(alloc, draft, numbers.as_slice())?;
+    page.put_count("objects", numbers.as_slice().len())?;
+    let pieces = pieces(rt, alloc, snapshot, &shortcuts, numbers.as_slice())?;
+    put_pieces(page, &pieces)?;
+    Ok(())
+}
+
+// The lines of the objects of these numbers, in pieces.
+fn pieces<R: Threads + Sync>(
+    rt: &R,
+    alloc: Global,
+    snapshot: &Snapshot,
+    shortcuts: &[Shortcut],
+    numbers: &[i32],
+) -> Result<Vec<String>, AllocError>
+    requires { ArePassed snapshot.now shortcuts.now }
+    ensures { IfOk result (λ v. flat_map (λ t. string_bytes t) v.items ≡ objects_text snapshot.now numbers.now) }
+{
+    numbers
+        .par_chunks(PIECE)
+        .map(
+            |piece: &[i32]| -> Result<String, AllocError>
+                requires { ArePassed snapshot.now shortcuts.now }
+                ensures { IfOk result (λ t. string_bytes t ≡ objects_text snapshot.entry.now piece.now) }
+            { piece_of(alloc, snapshot, shortcuts, piece) },
+        )
+        .collect::<Result<Vec<String>, AllocError>>(rt, alloc)?
+}
+
+// The lines of the objects of these numbers.
+#[tactic(auto, unfolding(crate::specs::Parts::objects_text))]
+fn piece_of(
+    alloc: Global,
+    snapshot: &Snapshot,
+    shortcuts: &[Shortcut],
+    numbers: &[i32],
+) -> Result<String, AllocError>
+    requires { ArePassed snapshot.now shortcuts.now }
+    ensures { IfOk result (λ t. string_bytes t ≡ objects_text snapshot.now numbers.now) }
+{
+    let draft = snapshot.share()?;
+    let mut page = Page::new(alloc);
+    put_objects(&mut page, alloc, &draft, shortcuts, numbers)?;
+    Ok(page.into_string())
+}
+
+// Writes pieces one behind the other.
+fn put_pieces(page: &mut Page, pieces: &[String]) -> Result<(), AllocError>
+    ensures { OnOk result (page.new ≡ page.old ++ flat_map (λ t. string_bytes t) pieces.now) }
+{
+    for piece in pieces {
+        page.put(piece.as_str())?;
+    }
+    Ok(())
+}

@@ -3,6 +3,8 @@ from runs import Figure, beyond, play, sized, values_of
 from worlds import Thing, World, loop
 
 STEPS = sized(100, 1)
+# Rust takes many times as many.
+STEPS_FOR_RUST = sized(20, 1)
 TURNS = sized(2400, 10)
 MANY = sized(10000, 200)
 # The first object of a line of ancestors.
@@ -37,12 +39,15 @@ def trying(level, call):
     return [*loop(TURNS, 10 * [f"o{call};"], [f"o = #{TOP + level};"]), f"return {TURNS};"]
 
 
+# Lua and Python know no names with stars.
+RUST_ALONE = {"starred"}
+
 LOOKS = [
     ("o.p of the parent", 1, ".p", "inherit1"),
     ("o.p, 4 ancestors up", 4, ".p", "inherit4"),
     ("o.p, 16 ancestors up", 16, ".p", "inherit16"),
     (f"o:last(), the last of its {VERBS} verbs", 0, ":last()", "find1"),
-    ("o:long(), of lo*ngest, the last but one of them", 0, ":long()", None),
+    ("o:long(), of lo*ngest, the last but one of them", 0, ":long()", "starred"),
     ("o:last(), 8 ancestors up", 8, ":last()", "find8"),
 ]
 
@@ -59,11 +64,16 @@ def looks(peers):
     for what, level, call, name in LOOKS:
         played = play(filled(trying(level, call)), tries)
         values_of(played)
-        taken = {}
-        if name:
-            given = "7" if "inherit" in name else str(TURNS)
-            taken = peers.loop(name, STEPS, TURNS, given, without=("Rust",))
-        yield Figure(what, "ns", beyond(played, idle) / count, {who: seconds / count for who, seconds in taken.items()})
+        yield Figure(what, "ns", beyond(played, idle) / count, dict(beside(peers, name)))
+
+
+def beside(peers, name):
+    """Each peer with its seconds for one look."""
+    given = "7" if "inherit" in name else str(TURNS)
+    others = [who for who in peers.here if who != "Rust"]
+    for steps, without in ((STEPS_FOR_RUST, others), (STEPS, ["Rust", *others] if name in RUST_ALONE else ["Rust"])):
+        for who, seconds in peers.loop(name, steps, TURNS, given, without=without).items():
+            yield who, seconds / (10 * TURNS * steps)
 
 
 def above_many(lines):

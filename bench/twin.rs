@@ -2,6 +2,9 @@
 //!
 //! `twin NAME STEPS TURNS` runs a loop, so many turns of it in each step, and prints what the last step gave; `nothing` does nothing. `twin serve PORT`
 //! answers lines as the server's fixture does.
+mod family;
+
+use family::{find, inherit};
 use std::collections::BTreeMap;
 use std::hint::black_box;
 use std::io::{BufRead, BufReader, Write};
@@ -35,6 +38,12 @@ fn run(name: &str, steps: usize, turns: usize) {
         "call" => call,
         "fib" => |n| fib(n as i64),
         "length" => length,
+        "inherit1" => |turns| inherit(1, turns),
+        "inherit4" => |turns| inherit(4, turns),
+        "inherit16" => |turns| inherit(16, turns),
+        "find1" => |turns| find(0, "last", turns),
+        "starred" => |turns| find(0, "long", turns),
+        "find8" => |turns| find(8, "last", turns),
         _ => refuse(),
     };
     let mut given = 0;

@@ -1,3 +1,4 @@
 pub mod Fitting
 pub mod InTurn
+pub mod Names
 pub mod Rows

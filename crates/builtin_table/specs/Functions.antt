@@ -1,6 +1,6 @@
 -- The built-in functions of the world: each by its name, with its row.
-use Rattle.std.specs.Prelude.{◌≡◌, List, [], ◌∷◌, ◌++◌, Result, Ok, Err, Option, Some, None, codes}
-use Rattle.spec_value.specs.Datum.{Datum, Text, invalid_argument}
+use Rattle.std.specs.Prelude.{◌≡◌, List, [], ◌∷◌, ◌++◌, Result, Ok, Err, Option, Some, None, codes, if◌then◌else◌}
+use Rattle.spec_value.specs.Datum.{Datum, Text, same_text, invalid_argument}
 use Rattle.spec_value.specs.PureBuiltins.{call_value}
 use Rattle.spec_moo.specs.Scene.{Scene}
 use Rattle.spec_moo.specs.NativeEffect.{Caller, NativeEffect, answers, refuses}
@@ -70,6 +70,38 @@ row_of_function ConnectedPlayers = taking [] [] connected_players_row
 row_of_function BootPlayer = taking (an_object ∷ []) [] boot_player_row
 row_of_function DumpDatabase = taking [] [] dump_database_row
 row_of_function Shutdown = taking [] [] shutdown_row
+
+-- ---- what programs call them, in lower case, group by group
+
+abbrev pub object_names : List (Text × WorldFunction)
+object_names =
+    (codes "valid", Valid) ∷ (codes "is_player", IsPlayer) ∷ (codes "parent", Parent) ∷ (codes "children", Children) ∷ (codes "max_object", MaxObject)
+    ∷ (codes "players", Players) ∷ (codes "create", Create) ∷ (codes "recycle", Recycle) ∷ (codes "chparent", Chparent) ∷ (codes "move", Move)
+    ∷ (codes "set_player_flag", SetPlayerFlag) ∷ []
+
+abbrev pub property_names : List (Text × WorldFunction)
+property_names =
+    (codes "properties", Properties) ∷ (codes "property_info", PropertyInfo) ∷ (codes "set_property_info", SetPropertyInfo)
+    ∷ (codes "add_property", AddProperty) ∷ (codes "delete_property", DeleteProperty) ∷ (codes "is_clear_property", IsClearProperty)
+    ∷ (codes "clear_property", ClearProperty) ∷ []
+
+abbrev pub verb_names : List (Text × WorldFunction)
+verb_names =
+    (codes "verbs", Verbs) ∷ (codes "verb_info", VerbInfo) ∷ (codes "set_verb_info", SetVerbInfo) ∷ (codes "verb_args", VerbArgs)
+    ∷ (codes "set_verb_args", SetVerbArgs) ∷ (codes "add_verb", AddVerb) ∷ (codes "delete_verb", DeleteVerb) ∷ (codes "verb_code", VerbCode)
+    ∷ (codes "set_verb_code", SetVerbCode) ∷ (codes "eval", Eval) ∷ []
+
+abbrev pub task_names : List (Text × WorldFunction)
+task_names =
+    (codes "notify", Notify) ∷ (codes "read", Read) ∷ (codes "suspend", Suspend) ∷ (codes "resume", Resume) ∷ (codes "kill_task", KillTask)
+    ∷ (codes "queued_tasks", QueuedTasks) ∷ (codes "task_id", TaskId) ∷ (codes "ticks_left", TicksLeft) ∷ (codes "raise", Raise)
+    ∷ (codes "set_task_perms", SetTaskPerms) ∷ (codes "caller_perms", CallerPerms) ∷ (codes "random", Random) ∷ (codes "time", Time)
+    ∷ (codes "connected_players", ConnectedPlayers) ∷ (codes "boot_player", BootPlayer) ∷ (codes "dump_database", DumpDatabase)
+    ∷ (codes "shutdown", Shutdown) ∷ []
+
+abbrev pub function_in : Text → List (Text × WorldFunction) → Option WorldFunction
+function_in t [] = None
+function_in t (n ∷ ns) = if same_text t n.0 then Some n.1 else function_in t ns
 
 -- ---- what a call of a function does; one of no name raises E_INVARG
 

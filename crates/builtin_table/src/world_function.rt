@@ -1,7 +1,7 @@
 //! The built-in functions of the world by their names.
 ghost use Rattle.std.specs.Prelude.{◌≡◌, ◌++◌, length, map, option_map};
 ghost use Rattle.spec_moo.specs.Properties.{row_of};
-ghost use Rattle.builtin_table.specs.Functions.{row_of_function, world_rows};
+ghost use Rattle.builtin_table.specs.Functions.{row_of_function, world_rows, function_in, object_names, property_names, verb_names, task_names};
 ghost use Rattle.builtin_table.specs.Sorts.{sort_of};
 
 use crate::sort::Sort;
@@ -101,61 +101,22 @@ pub enum WorldFunction {
     Shutdown,
 }
 
-/// The functions by their names.
-static ROWS: [(&str, WorldFunction); 45] = [
-    ("valid", WorldFunction::Valid),
-    ("is_player", WorldFunction::IsPlayer),
-    ("parent", WorldFunction::Parent),
-    ("children", WorldFunction::Children),
-    ("max_object", WorldFunction::MaxObject),
-    ("players", WorldFunction::Players),
-    ("create", WorldFunction::Create),
-    ("recycle", WorldFunction::Recycle),
-    ("chparent", WorldFunction::Chparent),
-    ("move", WorldFunction::Move),
-    ("set_player_flag", WorldFunction::SetPlayerFlag),
-    ("properties", WorldFunction::Properties),
-    ("property_info", WorldFunction::PropertyInfo),
-    ("set_property_info", WorldFunction::SetPropertyInfo),
-    ("add_property", WorldFunction::AddProperty),
-    ("delete_property", WorldFunction::DeleteProperty),
-    ("is_clear_property", WorldFunction::IsClearProperty),
-    ("clear_property", WorldFunction::ClearProperty),
-    ("verbs", WorldFunction::Verbs),
-    ("verb_info", WorldFunction::VerbInfo),
-    ("set_verb_info", WorldFunction::SetVerbInfo),
-    ("verb_args", WorldFunction::VerbArgs),
-    ("set_verb_args", WorldFunction::SetVerbArgs),
-    ("add_verb", WorldFunction::AddVerb),
-    ("delete_verb", WorldFunction::DeleteVerb),
-    ("verb_code", WorldFunction::VerbCode),
-    ("set_verb_code", WorldFunction::SetVerbCode),
-    ("eval", WorldFunction::Eval),
-    ("notify", WorldFunction::Notify),
-    ("read", WorldFunction::Read),
-    ("suspend", WorldFunction::Suspend),
-    ("resume", WorldFunction::Resume),
-    ("kill_task", WorldFunction::KillTask),
-    ("queued_tasks", WorldFunction::QueuedTasks),
-    ("task_id", WorldFunction::TaskId),
-    ("ticks_left", WorldFunction::TicksLeft),
-    ("raise", WorldFunction::Raise),
-    ("set_task_perms", WorldFunction::SetTaskPerms),
-    ("caller_perms", WorldFunction::CallerPerms),
-    ("random", WorldFunction::Random),
-    ("time", WorldFunction::Time),
-    ("connected_players", WorldFunction::ConnectedPlayers),
-    ("boot_player", WorldFunction::BootPlayer),
-    ("dump_database", WorldFunction::DumpDatabase),
-    ("shutdown", WorldFunction::Shutdown),
-];
-
 impl WorldFunction {
     /// The function of a name in lower case.
+    #[tactic(auto, using(crate::proofs::Names::of_objects, crate::proofs::Names::of_properties, crate::proofs::Names::of_verbs, crate::proofs::Names::of_tasks))]
     pub fn from_name(name: &str) -> Option<WorldFunction>
         ensures { option_map row_of_function result ≡ row_of world_rows name.now }
     {
-        named_in(&ROWS, name)
+        if let Some(function) = of_objects(name) {
+            return Some(function);
+        }
+        if let Some(function) = of_properties(name) {
+            return Some(function);
+        }
+        if let Some(function) = of_verbs(name) {
+            return Some(function);
+        }
+        of_tasks(name)
     }
 
     /// What its arguments are to be: those that it wants, and then those that it takes besides.
@@ -271,15 +232,83 @@ impl WorldFunction {
     }
 }
 
-// The first of several rows with a name.
-#[tactic(auto, unfolding(spec_moo::specs::Properties::row_of))]
-fn named_in(rows: &[(&str, WorldFunction)], name: &str) -> Option<WorldFunction>
-    ensures { option_map row_of_function result ≡ row_of (map (λ r. (r.0.now, row_of_function r.1)) rows.now) name.now }
+// The function of a name among those of objects.
+fn of_objects(name: &str) -> Option<WorldFunction>
+    ensures { result ≡ function_in name.now object_names }
 {
-    for (word, function) in rows {
-        if *word == name {
-            return Some(*function);
-        }
+    match name {
+        "valid" => Some(WorldFunction::Valid),
+        "is_player" => Some(WorldFunction::IsPlayer),
+        "parent" => Some(WorldFunction::Parent),
+        "children" => Some(WorldFunction::Children),
+        "max_object" => Some(WorldFunction::MaxObject),
+        "players" => Some(WorldFunction::Players),
+        "create" => Some(WorldFunction::Create),
+        "recycle" => Some(WorldFunction::Recycle),
+        "chparent" => Some(WorldFunction::Chparent),
+        "move" => Some(WorldFunction::Move),
+        "set_player_flag" => Some(WorldFunction::SetPlayerFlag),
+        _ => None,
     }
-    None
+}
+
+// The function of a name among those of properties.
+fn of_properties(name: &str) -> Option<WorldFunction>
+    ensures { result ≡ function_in name.now property_names }
+{
+    match name {
+        "properties" => Some(WorldFunction::Properties),
+        "property_info" => Some(WorldFunction::PropertyInfo),
+        "set_property_info" => Some(WorldFunction::SetPropertyInfo),
+        "add_property" => Some(WorldFunction::AddProperty),
+        "delete_property" => Some(WorldFunction::DeleteProperty),
+        "is_clear_property" => Some(WorldFunction::IsClearProperty),
+        "clear_property" => Some(WorldFunction::ClearProperty),
+        _ => None,
+    }
+}
+
+// The function of a name among those of verbs.
+fn of_verbs(name: &str) -> Option<WorldFunction>
+    ensures { result ≡ function_in name.now verb_names }
+{
+    match name {
+        "verbs" => Some(WorldFunction::Verbs),
+        "verb_info" => Some(WorldFunction::VerbInfo),
+        "set_verb_info" => Some(WorldFunction::SetVerbInfo),
+        "verb_args" => Some(WorldFunction::VerbArgs),
+        "set_verb_args" => Some(WorldFunction::SetVerbArgs),
+        "add_verb" => Some(WorldFunction::AddVerb),
+        "delete_verb" => Some(WorldFunction::DeleteVerb),
+        "verb_code" => Some(WorldFunction::VerbCode),
+        "set_verb_code" => Some(WorldFunction::SetVerbCode),
+        "eval" => Some(WorldFunction::Eval),
+        _ => None,
+    }
+}
+
+// The function of a name among those of tasks, links and the server.
+fn of_tasks(name: &str) -> Option<WorldFunction>
+    ensures { result ≡ function_in name.now task_names }
+{
+    match name {
+        "notify" => Some(WorldFunction::Notify),
+        "read" => Some(WorldFunction::Read),
+        "suspend" => Some(WorldFunction::Suspend),
+        "resume" => Some(WorldFunction::Resume),
+        "kill_task" => Some(WorldFunction::KillTask),
+        "queued_tasks" => Some(WorldFunction::QueuedTasks),
+        "task_id" => Some(WorldFunction::TaskId),
+        "ticks_left" => Some(WorldFunction::TicksLeft),
+        "raise" => Some(WorldFunction::Raise),
+        "set_task_perms" => Some(WorldFunction::SetTaskPerms),
+        "caller_perms" => Some(WorldFunction::CallerPerms),
+        "random" => Some(WorldFunction::Random),
+        "time" => Some(WorldFunction::Time),
+        "connected_players" => Some(WorldFunction::ConnectedPlayers),
+        "boot_player" => Some(WorldFunction::BootPlayer),
+        "dump_database" => Some(WorldFunction::DumpDatabase),
+        "shutdown" => Some(WorldFunction::Shutdown),
+        _ => None,
+    }
 }

@@ -1,12 +1,12 @@
 //! The functions by their names.
-ghost use Rattle.std.specs.Prelude.{◌≡◌, length, IfOk, IsTrue};
-ghost use Rattle.spec_value.specs.Answer.{limited_answer as limited_answer_of};
+ghost use Rattle.std.specs.Prelude.{◌≡◌, length, IfOk, IfSome, IsTrue};
+ghost use Rattle.spec_value.specs.Answer.{gives, limited as limited_of, limited_answer as limited_answer_of};
 ghost use Rattle.spec_value.specs.PureBuiltins.{takes as takes_of, row as row_of, call_value};
 ghost use Rattle.builtins_value.specs.Functions.{function_of};
 ghost use Rattle.moo_value.specs.Answers.{answer_of};
 
 use crate::{lists, numbers, texts, values};
-use moo_value::answer::{Answer, limited};
+use moo_value::answer::{Answer, WEIGHT_LIMIT, limited};
 use moo_value::error::MooError;
 use moo_value::value::Value;
 use std::alloc::{AllocError, Global};
@@ -170,5 +170,69 @@ fn row(alloc: Global, function: PureFunction, arguments: Vec<Value>) -> Result<A
         PureFunction::Abs => Ok(numbers::abs(&arguments)),
         PureFunction::Min => Ok(numbers::min(&arguments)),
         PureFunction::Max => Ok(numbers::max(&arguments)),
+    }
+}
+
+/// The value of a call of a function whose arguments are lent, if it has one. The functions that make another list of one that they are given have none
+/// here: `call` does it in place.
+pub fn lent(
+    alloc: Global,
+    function: PureFunction,
+    arguments: &[Value],
+) -> Result<Option<Value>, AllocError>
+    ensures answer { IfOk result (λ o. IfSome o (λ v. call_value (function_of function) arguments.now ≡ gives v)) }
+    ensures light { IfOk result (λ o. IfSome o (λ v. limited_of v ≡ gives v)) }
+{
+    if !function.takes(arguments.len()) {
+        return Ok(None);
+    }
+    lent_row(alloc, function, arguments)
+}
+
+// The value of an answer, if it has one that does not weigh too much.
+fn given(answer: Answer) -> Option<Value>
+    ensures answer { IfSome result (λ v. limited_answer_of (answer_of answer) ≡ gives v) }
+    ensures light { IfSome result (λ v. limited_of v ≡ gives v) }
+{
+    let Ok(value) = answer else {
+        return None;
+    };
+    if value.weight() > WEIGHT_LIMIT {
+        return None;
+    }
+    Some(value)
+}
+
+fn lent_row(
+    alloc: Global,
+    function: PureFunction,
+    arguments: &[Value],
+) -> Result<Option<Value>, AllocError>
+    requires { IsTrue (takes_of (function_of function) (length arguments.now)) }
+    ensures answer { IfOk result (λ o. IfSome o (λ v. limited_answer_of (row_of (function_of function) arguments.now) ≡ gives v)) }
+    ensures light { IfOk result (λ o. IfSome o (λ v. limited_of v ≡ gives v)) }
+{
+    match function {
+        PureFunction::Typeof => Ok(given(values::typeof_value(arguments))),
+        PureFunction::Tostr => Ok(given(values::tostr(alloc, arguments)?)),
+        PureFunction::Toliteral => Ok(given(values::toliteral(alloc, arguments)?)),
+        PureFunction::Toint => Ok(given(numbers::toint(arguments))),
+        PureFunction::Toobj => Ok(given(numbers::toobj(arguments))),
+        PureFunction::Equal => Ok(given(values::equal(arguments))),
+        PureFunction::Length => Ok(given(values::length(arguments))),
+        PureFunction::IsMember => Ok(given(lists::is_member(arguments))),
+        PureFunction::Index => Ok(given(texts::index(arguments))),
+        PureFunction::Rindex => Ok(given(texts::rindex(arguments))),
+        PureFunction::Strcmp => Ok(given(texts::strcmp(arguments))),
+        PureFunction::Strsub => Ok(given(texts::strsub(alloc, arguments)?)),
+        PureFunction::Abs => Ok(given(numbers::abs(arguments))),
+        PureFunction::Min => Ok(given(numbers::min(arguments))),
+        PureFunction::Max => Ok(given(numbers::max(arguments))),
+        PureFunction::Listappend
+        | PureFunction::Listinsert
+        | PureFunction::Listdelete
+        | PureFunction::Listset
+        | PureFunction::Setadd
+        | PureFunction::Setremove => Ok(None),
     }
 }

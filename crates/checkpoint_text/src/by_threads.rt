@@ -17,9 +17,10 @@ use world::draft::Draft;
 use world::worlds::Snapshot;
 
 // So many objects at most are written as one piece.
-const PIECE: usize = 128;
+const PIECE: usize = 32;
 
-/// The text of a snapshot's world. The lines of its objects are made by as many threads as there are processors, and stand in the objects' order.
+/// The text of a snapshot's world. The lines of its objects are made by several threads where there are 64 objects or more, by two at most for each
+/// processor, and stand in the objects' order.
 pub fn encode_by_threads<R: Threads + Sync>(
     rt: &R,
     alloc: Global,
@@ -68,6 +69,7 @@ fn pieces<R: Threads + Sync>(
 {
     numbers
         .par_chunks(PIECE)
+        .with_min_len(1)
         .map(
             |piece: &[i32]| -> Result<String, AllocError>
                 requires { ArePassed snapshot.now shortcuts.now }

@@ -1,5 +1,5 @@
 -- Numbers are spelled without needless zeros.
-use Rattle.std.proofs.Common.{◌≡◌, ℕ, zero, suc, ◌+◌, ◌<◌, ◌%◌, ◌^◌, pos, negsuc, ℤ, [], ◌∷◌, ◌++◌, IsTrue, Bool, true, false, ◌==◌, ◌&&◌, if◌then◌else◌, refl, ap, subst, ◌∙◌, arith}
+use Rattle.std.proofs.Common.{◌≡◌, ℕ, zero, suc, ◌+◌, ◌<◌, ◌/◌, ◌%◌, ◌^◌, pos, negsuc, ℤ, [], ◌∷◌, ◌++◌, sym, IsTrue, Bool, true, false, ◌==◌, ◌&&◌, if◌then◌else◌, refl, ap, subst, ◌∙◌, arith}
 use Rattle.std.proofs.lemmas.Bool.Decides.{nat_tests}
 use Rattle.std.specs.Fmt.{decimal, signed_decimal, digits}
 use Rattle.std.proofs.lemmas.Fmt.{decimal_by_steps}
@@ -7,7 +7,7 @@ use Rattle.spec_value.specs.Datum.{Text, in_number_range}
 use Rattle.spec_checkpoint.proofs.Numbers.{are_digits, decimal_digits, small}
 use Rattle.spec_value.proofs.Entries.{second_holds}
 use Rattle.spec_program.specs.Names.{is_digit}
-use Rattle.line_fields.specs.Numbers.{is_over, leads, is_plain_number, behind_sign}
+use Rattle.line_fields.specs.Numbers.{is_over, leads, is_plain_number, is_signed, behind_sign, one_digit_more, magnitude_behind}
 
 abbrev pub leading : Text → Bool
 leading [] = false
@@ -55,3 +55,24 @@ no_minus_zero (negsuc n) h e =
     let d : decimal (suc n) ≡ 48 ∷ [] = cc in
     let k : IsTrue (leading (48 ∷ [])) = subst (λ t. IsTrue (leading t)) d (decimal_leads (suc n) (small_below n h) (omega arith)) in
     cc
+
+-- ---- the number that digits spell
+
+pub unsigned_of : (z : ℤ) (t : Text) → is_signed t ≡ false → t ≡ signed_decimal z → (n : ℕ) × (z ≡ pos n) × (t ≡ decimal n)
+unsigned_of (pos n) t h e = (n, refl, e)
+unsigned_of (negsuc n) t h e = let k : is_signed (45 ∷ decimal (suc n)) ≡ false = subst (λ u. is_signed u ≡ false) e h in absurd (cc)
+
+magnitude_more : (m : ℕ) (ds : Text) (c : ℕ) → magnitude_behind m (ds ++ c ∷ []) ≡ one_digit_more (magnitude_behind m ds) c
+magnitude_more m [] c = refl
+magnitude_more m (d ∷ ds) c = magnitude_more (one_digit_more m d) ds c
+
+one_more : (n : ℕ) → n < 2 ^ 64 → one_digit_more (n / 10) (48 + n % 10) ≡ n
+one_more n h = omega arith
+
+first_digit : (n : ℕ) → n < 10 → one_digit_more 0 (48 + n) ≡ n
+first_digit n h = omega arith
+
+pub magnitude_is : (n : ℕ) → n < 2 ^ 64 → magnitude_behind 0 (decimal n) ≡ n
+magnitude_is n h =
+    decimal_by_steps (λ n ds. n < 2 ^ 64 → magnitude_behind 0 ds ≡ n) (λ n l h. first_digit n l)
+    (λ n ds le before h. magnitude_more 0 ds (48 + n % 10) ∙ ap (λ m. one_digit_more m (48 + n % 10)) (before (omega arith)) ∙ one_more n h) n h h

@@ -1,10 +1,12 @@
 -- Texts in quotes: what stands behind the characters that a literal has as they are.
-use Rattle.std.proofs.Common.{◌≡◌, ℕ, suc, List, [], ◌∷◌, ◌++◌, take, drop, IsTrue, Bool, true, false, ◌==◌, ◌||◌, not, if◌then◌else◌, Option, Some, None, refl, ap, sym, subst, ◌∙◌, append_assoc}
+use Rattle.std.proofs.Common.{◌≡◌, ℕ, suc, ◌+◌, cond, ◌&&◌, List, [], ◌∷◌, ◌++◌, take, drop, IsTrue, Bool, true, false, ◌==◌, ◌||◌, not, if◌then◌else◌, Option, Some, None, refl, ap, sym, subst, ◌∙◌, arith, append_assoc}
 use Rattle.std.proofs.lemmas.List.{append-nil}
 use Rattle.spec_value.specs.Datum.{is_text, is_character}
 use Rattle.spec_value.specs.Literal.{escape, escaped}
 use Rattle.spec_value.proofs.Entries.{first_holds, second_holds, both_hold}
 use Rattle.moo_value.proofs.EscapedTexts.{first_same, second_same}
+use Rattle.std.specs.List.{position_or_len}
+use Rattle.memchr.specs.Find.{is_byte2}
 use Rattle.line_fields.specs.Quoted.{is_ordinary, ordinary_run, quote_mark}
 
 abbrev pub is_mark : ℕ → Bool
@@ -31,6 +33,13 @@ plain_escape c t e = rw e refl
 
 ordinary_on : (c : ℕ) (t : List ℕ) → is_mark c ≡ false → IsTrue (is_character c) → ordinary_run (c ∷ t) ≡ suc (ordinary_run t)
 ordinary_on c t e h = let k : is_character c ≡ true = h in rw (e, k) refl
+
+never : (b : Bool) → (b && false) ≡ false
+never true = refl
+never false = refl
+
+marked_run : (c : ℕ) (t : List ℕ) → is_mark c ≡ true → ordinary_run (c ∷ t) ≡ 0
+marked_run c t e = rw (e, never (is_character c)) refl
 
 pub past_run : (s r : List ℕ) → IsTrue (is_text s) → Past s r (escaped s ++ 34 ∷ r) (ordinary_run (escaped s ++ 34 ∷ r))
 past_run [] r h = record { left = []; is = refl; back = refl; text = refl; marked = refl }
@@ -68,6 +77,21 @@ run_text (c ∷ t) = go (run_text t) (is_ordinary c) refl
     go : IsTrue (is_text (take (ordinary_run t) t)) → (b : Bool) → is_ordinary c ≡ b → IsTrue (is_text (take (if b then suc (ordinary_run t) else 0) (c ∷ t)))
     go more true e = both_hold (is_character c) (is_text (take (ordinary_run t) t)) (first_holds (is_character c) (not (is_mark c)) e) more
     go more false e = refl
+
+-- where all characters before the first mark are a text's
+pub run_through : (t : List ℕ) → IsTrue (is_text (take (position_or_len (is_byte2 34 92) t) t)) → position_or_len (is_byte2 34 92) t ≡ ordinary_run t
+run_through [] h = refl
+run_through (c ∷ t) h = go (run_through t) (is_mark c) refl h
+  where
+    n : ℕ
+    n = position_or_len (is_byte2 34 92) t
+
+    go : (IsTrue (is_text (take n t)) → n ≡ ordinary_run t) → (b : Bool) → is_mark c ≡ b → IsTrue (is_text (take (cond (not b) (1 + n) 0) (c ∷ t))) → cond (not b) (1 + n) 0 ≡ ordinary_run (c ∷ t)
+    go more true e k = sym (marked_run c t e)
+    go more false e k =
+        let one : 1 + n ≡ suc n = omega arith in
+        let l : IsTrue (is_text (take (suc n) (c ∷ t))) = subst (λ m. IsTrue (is_text (take m (c ∷ t)))) one k in
+        one ∙ ap suc (more (second_holds (is_character c) (is_text (take n t)) l)) ∙ sym (ordinary_on c t e (first_holds (is_character c) (is_text (take n t)) l))
 
 -- what a text has behind its ordinary characters: its end, or a character behind a backslash
 marked_on : (c : ℕ) (t : List ℕ) → IsTrue (is_mark c) → quote_mark (92 ∷ c ∷ t) ≡ Some (Some c, t)

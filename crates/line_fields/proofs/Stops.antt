@@ -1,7 +1,9 @@
 -- Where a character stands first.
-use Rattle.std.proofs.Common.{◌≡◌, ℕ, suc, ◌+◌, ◌<◌, [], ◌∷◌, ◌++◌, length, IsTrue, Bool, true, not, ◌==◌, nat_lt, cond, Option, Some, None, refl, ◌∙◌, eq-eqb, arith, length-append}
+use Rattle.std.proofs.Common.{◌≡◌, ℕ, suc, ◌+◌, ◌<◌, [], ◌∷◌, ◌++◌, length, get_or, false, ap, IsTrue, Bool, true, not, ◌==◌, nat_lt, cond, Option, Some, None, refl, sym, ◌∙◌, eq-eqb, arith, length-append}
 use Rattle.std.proofs.lemmas.Bool.Decides.{nat_tests}
+use Rattle.std.proofs.lemmas.List.Sums.{position_or_len_is}
 use Rattle.std.specs.List.{list_all, position, position_or_len}
+use Rattle.memchr.specs.Find.{IsFirstByte, is_byte}
 use Rattle.spec_value.specs.Datum.{Text}
 use Rattle.spec_value.proofs.Entries.{first_holds, second_holds}
 
@@ -38,3 +40,20 @@ module _ (stop : ℕ) where
 
   pub no_stop : (t : Text) → IsTrue (without t) → position (λ c. c == stop) t ≡ None
   no_stop t h = rw (not_found t h) (none_at (length t))
+
+-- ---- a search
+
+false_unless : (b : Bool) → (b ≡ true → ⊥) → b ≡ false
+false_unless true h = absurd (h refl)
+false_unless false h = refl
+
+module _ (test : ℕ → Bool) where
+  pub found_first : (t : Text) (k : ℕ) → IsFirstByte test t (Some k) → position_or_len test t ≡ k
+  found_first t k h = position_or_len_is test t k 0 (omega (arith, h.0.high)) (λ j l. false_unless (test (get_or t j 0)) (h.0.before j (omega arith) l)) (λ l. h.1)
+
+  pub found_none : (t : Text) → IsFirstByte test t None → position_or_len test t ≡ length t
+  found_none t h = position_or_len_is test t (length t) 0 (omega arith) (λ k l. false_unless (test (get_or t k 0)) (h k (omega arith) l)) (λ l. absurd (omega (arith, l)))
+
+pub is_position : (stop : ℕ) (t : Text) (r : Option ℕ) → IsFirstByte (is_byte stop) t r → r ≡ position (λ c. c == stop) t
+is_position stop t None h = rw (found_none (is_byte stop) t h) (sym (none_at stop (length t)))
+is_position stop t (Some k) h = rw (found_first (is_byte stop) t k h) (sym (some_at stop k (length t) h.0.high))

@@ -3,6 +3,8 @@ ghost use Rattle.std.specs.Prelude.{◌≡◌, ◌==◌, ◌<◌, ◌∷◌, ◌
 ghost use Rattle.std.specs.List.{list_all};
 ghost use Rattle.spec_value.specs.Datum.{Text};
 
+use memchr::memchr;
+
 /// What stands before the first such byte, and what behind it.
 pub fn cut_at(text: &[u8], stop: u8) -> Option<(&[u8], &[u8])>
     ensures shorter { IfSome result (λ p. length p.1.now < length text.now) }
@@ -20,5 +22,5 @@ fn place_of(text: &[u8], stop: u8) -> Option<usize>
     ensures within { IfSome result (λ i. i < length text.now) }
     ensures value { result ≡ position (λ c. c == stop) text.now }
 {
-    text.iter().position(|byte| *byte == stop)
+    memchr(stop, text)
 }

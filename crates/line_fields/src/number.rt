@@ -1,5 +1,5 @@
 //! Numbers and objects as fields write them: no needless zeros, and a minus sign only before what is below zero.
-ghost use Rattle.std.specs.Prelude.{◌≡◌, ◌↔◌, ◌≤◌, ◌≤ℤ◌, ℕ, ℤ, List, [], ◌∷◌, map, length, Some, IsTrue, IfOk, MatchOption};
+ghost use Rattle.std.specs.Prelude.{◌≡◌, ◌↔◌, ◌≤◌, ◌≤ℤ◌, ℕ, ℤ, pos, List, [], ◌∷◌, map, length, Some, IsTrue, IfOk, MatchOption};
 ghost use Rattle.std.specs.List.{list_all};
 ghost use Rattle.std.specs.Fmt.{decimal, signed_decimal};
 ghost use Rattle.spec_value.specs.Datum.{in_number_range};
@@ -7,7 +7,7 @@ ghost use Rattle.spec_world.specs.Checkpoint as text_of;
 ghost use Rattle.moo_value.specs.Read.{digit_run, numeral_length, IsNoLonger, FindsNumber};
 ghost use Rattle.spec_program.specs.Names.{is_digit};
 ghost use Rattle.line_fields.specs.Values.{are_places};
-ghost use Rattle.line_fields.specs.Numbers.{is_plain_number, behind_sign};
+ghost use Rattle.line_fields.specs.Numbers.{is_plain_number, is_signed, behind_sign, magnitude_behind};
 
 use crate::cut::cut_at;
 use std::alloc::{AllocError, Global};
@@ -34,6 +34,56 @@ pub fn natural(text: &[u8], least: u64, most: u64) -> Option<u64>
 
 /// The integer of 32 bits that is spelled so.
 pub fn integer(text: &[u8]) -> Option<i32>
+    ensures reads { (z : ℤ) → IsTrue (in_number_range z) → text.now ≡ signed_decimal z → result ≡ Some z }
+{
+    if has_sign(text) {
+        signed(text)
+    } else {
+        unsigned(text)
+    }
+}
+
+fn has_sign(text: &[u8]) -> bool
+    ensures { result ≡ is_signed text.now }
+{
+    match text {
+        [b'-', ..] => true,
+        _ => false,
+    }
+}
+
+fn unsigned(text: &[u8]) -> Option<i32>
+    ensures reads { (n : ℕ) → IsTrue (in_number_range (pos n)) → text.now ≡ decimal n → result ≡ Some (pos n) }
+{
+    if !is_plain(text) {
+        return None;
+    }
+    positive(magnitude(text))
+}
+
+fn positive(number: u64) -> Option<i32>
+    ensures { IsTrue (in_number_range (pos number)) → result ≡ Some (pos number) }
+{
+    if number < 2_147_483_648 {
+        Some(number as i32)
+    } else {
+        None
+    }
+}
+
+// The number that digits spell, or the greatest of 64 bits where that is less.
+fn magnitude(digits: &[u8]) -> u64
+    ensures { result ≡ magnitude_behind 0 digits.now }
+{
+    let mut number: u64 = 0;
+    for digit in digits {
+        let more = u64::from(digit.saturating_sub(b'0'));
+        number = number.saturating_mul(10).saturating_add(more);
+    }
+    number
+}
+
+fn signed(text: &[u8]) -> Option<i32>
     ensures reads { (z : ℤ) → IsTrue (in_number_range z) → text.now ≡ signed_decimal z → result ≡ Some z }
 {
     if !is_plain(digits_behind_sign(text)) {

@@ -1,9 +1,12 @@
 //! Texts from what stands between their quotes.
 ghost use Rattle.std.specs.Prelude.{◌≡◌, ◌<◌, ◌≤◌, length, Some, IfOk, IfSome, IsTrue};
-ghost use Rattle.spec_value.specs.Datum.{is_text};
+ghost use Rattle.std.specs.List.{position_or_len};
+ghost use Rattle.spec_value.specs.Datum.{is_text, is_character};
+ghost use Rattle.memchr.specs.Find.{is_byte2};
 ghost use Rattle.moo_value.specs.Read.{found, IsNoLonger, FindsText};
 ghost use Rattle.line_fields.specs.Quoted.{is_ordinary, ordinary_run, quote_mark};
 
+use memchr::memchr2;
 use moo_value::text::Text;
 use std::alloc::{AllocError, Global};
 use std::str;
@@ -83,6 +86,46 @@ fn ordinary_end(bytes: &[u8]) -> usize
     ensures within { result ≤ length bytes.now }
     ensures value { result ≡ ordinary_run bytes.now }
 {
+    let end = mark_end(bytes);
+    if are_characters(&bytes[..end]) {
+        end
+    } else {
+        run_end(bytes)
+    }
+}
+
+// Where a quote or a backslash stands first, or the end.
+fn mark_end(bytes: &[u8]) -> usize
+    ensures within { result ≤ length bytes.now }
+    ensures value { result ≡ position_or_len (is_byte2 34 92) bytes.now }
+{
+    match memchr2(b'"', b'\\', bytes) {
+        Some(end) => end,
+        None => bytes.len(),
+    }
+}
+
+fn are_characters(bytes: &[u8]) -> bool
+    ensures { result ≡ is_text bytes.now }
+{
+    let mut all = true;
+    // All bytes are looked at, which is less work than to stop at one.
+    for byte in bytes {
+        all = all && is_character_byte(*byte);
+    }
+    all
+}
+
+fn is_character_byte(byte: u8) -> bool
+    ensures { result ≡ is_character byte }
+{
+    byte == b'\t' || (b' ' <= byte && byte <= b'~')
+}
+
+fn run_end(bytes: &[u8]) -> usize
+    ensures within { result ≤ length bytes.now }
+    ensures value { result ≡ ordinary_run bytes.now }
+{
     let mut count = 0;
     for byte in bytes {
         if !is_ordinary_byte(*byte) {
@@ -96,7 +139,7 @@ fn ordinary_end(bytes: &[u8]) -> usize
 fn is_ordinary_byte(byte: u8) -> bool
     ensures { result ≡ is_ordinary byte }
 {
-    (byte == b'\t' || (b' ' <= byte && byte <= b'~')) && !(byte == b'"' || byte == b'\\')
+    is_character_byte(byte) && !(byte == b'"' || byte == b'\\')
 }
 
 fn plain_text(alloc: Global, characters: &[u8]) -> Result<Text, AllocError>

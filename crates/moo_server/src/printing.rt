@@ -2,11 +2,14 @@
 ghost use Rattle.std.specs.Prelude.{◌≡◌, ◌≤◌, ◌∷◌, ◌++◌, [], length, OnOk};
 ghost use Rattle.std.specs.List.{flat_map};
 ghost use Rattle.std.specs.Io.KnownBytes.{Appends};
+ghost use Rattle.std.specs.Fmt.{decimal, signed_decimal};
+ghost use Rattle.spec_value.specs.Literal.{literal};
 ghost use Rattle.spec_world.specs.Outcome.{value_of};
 ghost use Rattle.task_step.specs.OutcomeView.{result_of, lines_of, due_of, queued_of, closed_of};
 ghost use Rattle.moo_server.specs.Printed.{result_text, step_line, ended_line, told_line, due_text, queued_line, closed_line, outcome_lines, printed};
 
-use moo_value::value::Value;
+use itoa::Buffer;
+use moo_value::value::{Shown, Value};
 use moo_value::write::Literal;
 use std::io;
 use std::io::Write;
@@ -49,8 +52,48 @@ fn print_result<W: Write>(out: &mut W, number: u32, outcome: &Outcome) -> io::Re
 fn print_value<W: Write>(out: &mut W, number: u32, value: &Value, ticks: u32) -> io::Result<()>
     ensures { OnOk result (Appends (W.contents out.old) (W.contents out.new) (ended_line number (value_of value.now) ticks)) }
 {
+    out.write_all(b"step ")?;
+    print_number(out, number)?;
+    out.write_all(b" value ")?;
+    print_literal(out, value)?;
+    out.write_all(b" ticks ")?;
+    print_number(out, ticks)?;
+    out.write_all(b"\n")
+}
+
+// A number in digits.
+#[inline(always)]
+fn print_number<W: Write>(out: &mut W, number: u32) -> io::Result<()>
+    ensures { OnOk result (Appends (W.contents out.old) (W.contents out.new) (decimal number)) }
+{
+    let mut digits = Buffer::new();
+    out.write_all(digits.format(number).as_bytes())
+}
+
+// A value as a program would write it.
+fn print_literal<W: Write>(out: &mut W, value: &Value) -> io::Result<()>
+    ensures { OnOk result (Appends (W.contents out.old) (W.contents out.new) (literal value.now)) }
+{
+    match value.shown() {
+        Shown::Integer(number) => print_integer(out, number),
+        _ => print_any(out, value),
+    }
+}
+
+#[inline(always)]
+fn print_integer<W: Write>(out: &mut W, number: i32) -> io::Result<()>
+    ensures { OnOk result (Appends (W.contents out.old) (W.contents out.new) (signed_decimal number)) }
+{
+    let mut digits = Buffer::new();
+    out.write_all(digits.format(number).as_bytes())
+}
+
+#[inline(never)]
+fn print_any<W: Write>(out: &mut W, value: &Value) -> io::Result<()>
+    ensures { OnOk result (Appends (W.contents out.old) (W.contents out.new) (literal value.now)) }
+{
     let literal = Literal(value);
-    writeln!(out, "step {number} value {literal} ticks {ticks}")
+    write!(out, "{literal}")
 }
 
 // The line of a step, however it ended.

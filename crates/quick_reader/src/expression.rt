@@ -1,217 +1,222 @@
 //! Expressions.
-use crate::cursor::Cursor;
-use crate::found::{
-    Found, assignment, binary, both, call, caught, caught_instead, conditional, either, index,
-    list, named, property, range, scatter, unary, verb_call,
-};
-use crate::infix::{Infix, right_level, take_infix};
+use crate::infix::{Infix, right_level};
 use crate::limits::GREATEST_HEIGHT;
-use crate::several::{Arguments, FoundCodes, Items, Mark, take_mark};
-use crate::start::{Start, system, take_start};
-use crate::step::{Step, take_step};
-use crate::stop::Stop;
-use crate::word::expect_word;
-use moo_tree::expression::Codes;
+use crate::pair::Pair;
+use crate::reader::Reader;
+use crate::several::{CodesRead, Several};
+use crate::start::Start;
+use crate::step::Step;
 
 /// Reads an expression that binds as tightly as is wanted, with room for so many others one within the other.
 #[cycle(read)]
-pub fn read_expression(cursor: &mut Cursor<'_>, wanted: u8, room: usize) -> Result<Found, Stop> {
+pub fn read_expression(reader: &mut Reader<'_>, wanted: u8, room: usize) {
     if room == 0 {
-        return Err(Stop::Unlike);
+        return reader.refuse();
     }
-    let mut found = read_operand(cursor, room - 1)?;
+    read_operand(reader, room - 1);
     for _ in 0..GREATEST_HEIGHT {
-        match take_infix(cursor, wanted) {
-            Some(infix) => found = read_behind(cursor, found, infix, room - 1)?,
-            None => return Ok(found),
+        match reader.take_infix(wanted) {
+            Some(infix) => read_behind(reader, infix, room - 1),
+            None => return,
         }
     }
-    Err(Stop::Unlike)
+    reader.refuse();
 }
 
 // What stands behind the sign that follows an expression.
 #[cycle(read)]
-fn read_behind(
-    cursor: &mut Cursor<'_>,
-    left: Found,
-    infix: Infix,
-    room: usize,
-) -> Result<Found, Stop> {
+fn read_behind(reader: &mut Reader<'_>, infix: Infix, room: usize) {
     match infix {
-        Infix::Operator(operator) => {
-            let right = read_expression(cursor, right_level(operator), room)?;
-            binary(cursor.alloc, operator, left, right)
+        Infix::Pair(pair) => {
+            read_expression(reader, right_level(pair), room);
+            reader.pair(pair);
         }
-        Infix::Both => {
-            let right = read_expression(cursor, 3, room)?;
-            both(cursor.alloc, left, right)
-        }
-        Infix::Either => {
-            let right = read_expression(cursor, 3, room)?;
-            either(cursor.alloc, left, right)
-        }
-        Infix::Conditional => {
-            let value = read_expression(cursor, 0, room)?;
-            cursor.expect_alone(b'|', b'|')?;
-            let other = read_expression(cursor, 1, room)?;
-            conditional(cursor.alloc, left, value, other)
-        }
+        Infix::Conditional => read_values(reader, room),
         Infix::Assignment => {
-            let value = read_expression(cursor, 0, room)?;
-            assignment(cursor.alloc, left, value)
+            read_expression(reader, 0, room);
+            reader.assignment();
         }
     }
 }
 
+// The two values behind a condition.
 #[cycle(read)]
-fn read_operand(cursor: &mut Cursor<'_>, room: usize) -> Result<Found, Stop> {
-    let mut found = read_start(cursor, room)?;
+fn read_values(reader: &mut Reader<'_>, room: usize) {
+    read_expression(reader, 0, room);
+    reader.expect_alone(b'|', b'|');
+    read_expression(reader, 1, room);
+    reader.conditional();
+}
+
+#[cycle(read)]
+fn read_operand(reader: &mut Reader<'_>, room: usize) {
+    read_start(reader, room);
     for _ in 0..GREATEST_HEIGHT {
-        match take_step(cursor) {
-            Some(step) => found = read_step(cursor, found, step, room)?,
-            None => return Ok(found),
+        match reader.take_step() {
+            Some(step) => read_step(reader, step, room),
+            None => return,
         }
     }
-    Err(Stop::Unlike)
+    reader.refuse();
 }
 
 #[cycle(read)]
-fn read_start(cursor: &mut Cursor<'_>, room: usize) -> Result<Found, Stop> {
-    let start = take_start(cursor)?;
+fn read_start(reader: &mut Reader<'_>, room: usize) {
+    let start = reader.take_start();
     match start {
-        Start::Whole(found) => Ok(found),
+        Start::Whole => {}
         Start::Unary(operator) => {
-            let operand = read_expression(cursor, 7, room)?;
-            unary(cursor.alloc, operator, operand)
+            read_expression(reader, 7, room);
+            reader.unary(operator);
         }
-        Start::Group => {
-            let inner = read_expression(cursor, 0, room)?;
-            cursor.expect_byte(b')')?;
-            Ok(inner)
+        Start::Group => read_group(reader, room),
+        Start::List => {
+            let items = read_arguments(reader, b'}', room);
+            reader.list(items);
         }
-        Start::List => list(read_arguments(cursor, b'}', room)?),
-        Start::Scatter => read_scatter(cursor, room),
-        Start::Catch => read_catch(cursor, room),
-        Start::Call(function) => call(function, read_arguments(cursor, b')', room)?),
-        Start::SystemVerb(name) => {
-            let arguments = read_arguments(cursor, b')', room)?;
-            verb_call(cursor.alloc, system(), named(name), arguments)
+        Start::Scatter => read_scatter(reader, room),
+        Start::Catch => read_catch(reader, room),
+        Start::Call(function) => {
+            let arguments = read_arguments(reader, b')', room);
+            reader.call(function, arguments);
         }
+        Start::SystemVerb => read_call(reader, room),
     }
 }
 
+// An expression whose parenthesis was opened.
 #[cycle(read)]
-fn read_step(cursor: &mut Cursor<'_>, base: Found, step: Step, room: usize) -> Result<Found, Stop> {
+fn read_group(reader: &mut Reader<'_>, room: usize) {
+    read_expression(reader, 0, room);
+    reader.expect_byte(b')');
+}
+
+// The arguments of a verb whose parenthesis was opened.
+#[cycle(read)]
+fn read_call(reader: &mut Reader<'_>, room: usize) {
+    let arguments = read_arguments(reader, b')', room);
+    reader.verb_call(arguments);
+}
+
+#[cycle(read)]
+fn read_step(reader: &mut Reader<'_>, step: Step, room: usize) {
     match step {
         Step::Property => {
-            let name = read_name(cursor, room)?;
-            property(cursor.alloc, base, name)
+            read_name(reader, room);
+            reader.pair(Pair::Property);
         }
         Step::Verb => {
-            let name = read_name(cursor, room)?;
-            cursor.expect_byte(b'(')?;
-            let arguments = read_arguments(cursor, b')', room)?;
-            verb_call(cursor.alloc, base, name, arguments)
+            read_name(reader, room);
+            reader.expect_byte(b'(');
+            read_call(reader, room);
         }
-        Step::Bracket => {
-            let first = read_expression(cursor, 0, room)?;
-            if cursor.take_byte(b']') {
-                return index(cursor.alloc, base, first);
-            }
-            cursor.expect_two(b'.', b'.')?;
-            let last = read_expression(cursor, 0, room)?;
-            cursor.expect_byte(b']')?;
-            range(cursor.alloc, base, first, last)
-        }
+        Step::Bracket => read_bracket(reader, room),
     }
+}
+
+// An index, or the first and the last one.
+#[cycle(read)]
+fn read_bracket(reader: &mut Reader<'_>, room: usize) {
+    read_expression(reader, 0, room);
+    if reader.take_byte(b']') {
+        return reader.pair(Pair::Index);
+    }
+    reader.expect_two(b'.', b'.');
+    read_expression(reader, 0, room);
+    reader.expect_byte(b']');
+    reader.range();
 }
 
 // A name behind a `.` or a `:`, or an expression in parentheses.
 #[cycle(read)]
-fn read_name(cursor: &mut Cursor<'_>, room: usize) -> Result<Found, Stop> {
-    if cursor.take_byte(b'(') {
-        let name = read_expression(cursor, 0, room)?;
-        cursor.expect_byte(b')')?;
-        Ok(name)
-    } else {
-        Ok(named(expect_word(cursor)?))
+fn read_name(reader: &mut Reader<'_>, room: usize) {
+    if reader.take_byte(b'(') {
+        return read_group(reader, room);
     }
+    let name = reader.expect_word();
+    reader.name(name);
 }
 
 // Arguments up to the sign that closes them.
 #[cycle(read)]
-fn read_arguments(cursor: &mut Cursor<'_>, close: u8, room: usize) -> Result<Arguments, Stop> {
-    if cursor.take_byte(close) {
-        return Ok(Arguments::new(cursor.alloc));
+fn read_arguments(reader: &mut Reader<'_>, close: u8, room: usize) -> Several {
+    if reader.take_byte(close) {
+        return Several::new();
     }
-    let arguments = read_several(cursor, room)?;
-    cursor.expect_byte(close)?;
-    Ok(arguments)
+    let arguments = read_several(reader, room);
+    reader.expect_byte(close);
+    arguments
 }
 
 // One argument or more.
 #[cycle(read)]
-fn read_several(cursor: &mut Cursor<'_>, room: usize) -> Result<Arguments, Stop> {
-    let mut arguments = Arguments::new(cursor.alloc);
-    for _ in 0..cursor.rest.len() {
-        let splices = cursor.take_byte(b'@');
-        let found = read_expression(cursor, 0, room)?;
-        arguments.put(splices, found)?;
-        if !cursor.take_byte(b',') {
-            return Ok(arguments);
+fn read_several(reader: &mut Reader<'_>, room: usize) -> Several {
+    let mut several = Several::new();
+    for _ in 0..reader.rest.len() {
+        let is_spliced = reader.take_byte(b'@');
+        read_expression(reader, 0, room);
+        several = reader.argument(several, is_spliced);
+        if !reader.take_byte(b',') {
+            return several;
         }
     }
-    Err(Stop::Unlike)
+    reader.refuse();
+    several
 }
 
 /// Reads the codes that a handler takes.
 #[cycle(read)]
-pub fn read_codes(cursor: &mut Cursor<'_>, room: usize) -> Result<FoundCodes, Stop> {
-    if cursor.take_keyword(b"any".as_slice()) {
-        return Ok(FoundCodes {
-            codes: Codes::Any,
-            height: 0,
-        });
+pub fn read_codes(reader: &mut Reader<'_>, room: usize) -> CodesRead {
+    if reader.take_keyword(b"any".as_slice()) {
+        return CodesRead::Any;
     }
-    let Arguments { arguments, height } = read_several(cursor, room)?;
-    Ok(FoundCodes {
-        codes: Codes::Listed(arguments),
-        height,
-    })
+    CodesRead::Listed(read_several(reader, room))
 }
 
 #[cycle(read)]
-fn read_catch(cursor: &mut Cursor<'_>, room: usize) -> Result<Found, Stop> {
-    let body = read_expression(cursor, 0, room)?;
-    cursor.expect_alone(b'!', b'=')?;
-    let codes = read_codes(cursor, room)?;
-    if cursor.take_byte(b'\'') {
-        return caught(cursor.alloc, body, codes);
+fn read_catch(reader: &mut Reader<'_>, room: usize) {
+    read_expression(reader, 0, room);
+    reader.expect_alone(b'!', b'=');
+    let codes = read_codes(reader, room);
+    if reader.take_byte(b'\'') {
+        return reader.caught(codes);
     }
-    cursor.expect_two(b'=', b'>')?;
-    let value = read_expression(cursor, 0, room)?;
-    cursor.expect_byte(b'\'')?;
-    caught_instead(cursor.alloc, body, codes, value)
+    reader.expect_two(b'=', b'>');
+    read_expression(reader, 0, room);
+    reader.expect_byte(b'\'');
+    reader.caught_instead(codes);
 }
 
 #[cycle(read)]
-fn read_scatter(cursor: &mut Cursor<'_>, room: usize) -> Result<Found, Stop> {
-    let mut items = Items::new(cursor.alloc);
-    for _ in 0..cursor.rest.len() {
-        let mark = take_mark(cursor);
-        let name = expect_word(cursor)?;
-        if mark == Mark::Optional && cursor.take_alone(b'=', b'=') {
-            let value = read_expression(cursor, 0, room)?;
-            items.put_default(name, value)?;
-        } else {
-            items.put(mark, name)?;
-        }
-        if !cursor.take_byte(b',') {
-            break;
+fn read_scatter(reader: &mut Reader<'_>, room: usize) {
+    let items = read_items(reader, room);
+    reader.expect_byte(b'}');
+    reader.expect_alone(b'=', b'=');
+    read_expression(reader, 0, room);
+    reader.scatter(items);
+}
+
+// The variables of a scatter.
+#[cycle(read)]
+fn read_items(reader: &mut Reader<'_>, room: usize) -> Several {
+    let mut items = Several::new();
+    for _ in 0..reader.rest.len() {
+        items = read_item(reader, items, room);
+        if !reader.take_byte(b',') {
+            return items;
         }
     }
-    cursor.expect_byte(b'}')?;
-    cursor.expect_alone(b'=', b'=')?;
-    let value = read_expression(cursor, 0, room)?;
-    scatter(cursor.alloc, items, value)
+    reader.refuse();
+    items
+}
+
+#[cycle(read)]
+fn read_item(reader: &mut Reader<'_>, others: Several, room: usize) -> Several {
+    let mark = reader.take_mark();
+    let name = reader.expect_word();
+    if reader.takes_value(mark) {
+        read_expression(reader, 0, room);
+        return reader.item_with_value(others, name);
+    }
+    reader.item(others, mark, name)
 }

@@ -1,7 +1,6 @@
 //! From a text to a tree that it may spell.
-use crate::cursor::Cursor;
+use crate::reader::Reader;
 use crate::statement::read_block;
-use crate::stop::Stop;
 use moo_tree::statement::Tree;
 use std::alloc::{AllocError, Global};
 
@@ -9,19 +8,14 @@ use std::alloc::{AllocError, Global};
 ///
 /// An `Err` says that memory ran out.
 pub fn guess(alloc: Global, text: &[u8]) -> Result<Option<Tree>, AllocError> {
-    match read_program(alloc, text) {
-        Ok(tree) => Ok(Some(tree)),
-        Err(Stop::Unlike) => Ok(None),
-        Err(Stop::Memory(error)) => Err(error),
+    let mut reader = Reader::new(alloc, text);
+    let count = read_block(&mut reader, 0);
+    let statements = reader.block(count);
+    if reader.lacks_memory {
+        return Err(AllocError);
     }
-}
-
-fn read_program(alloc: Global, text: &[u8]) -> Result<Tree, Stop> {
-    let mut cursor = Cursor { alloc, rest: text };
-    let statements = read_block(&mut cursor, 0)?;
-    if cursor.rest.is_empty() {
-        Ok(Tree::new(statements))
-    } else {
-        Err(Stop::Unlike)
+    if reader.is_refused || !reader.rest.is_empty() {
+        return Ok(None);
     }
+    Ok(Some(Tree::new(statements)))
 }

@@ -1,14 +1,13 @@
 //! What stands between two expressions.
-use crate::cursor::Cursor;
+use crate::pair::Pair;
+use crate::reader::Reader;
 use moo_value::operator::BinaryOperator;
-use tokens_ahead::front::continues_word;
+use tokens_ahead::front::is_word_character;
 
 /// What stands between an expression and what goes on behind it.
-#[derive(Clone, Copy, Debug, PartialEq, Eq)]
+#[derive(Clone, Copy)]
 pub enum Infix {
-    Operator(BinaryOperator),
-    Both,
-    Either,
+    Pair(Pair),
     /// `?`
     Conditional,
     /// `=`
@@ -16,18 +15,18 @@ pub enum Infix {
 }
 
 impl Infix {
-    /// How tightly it binds: the greater, the tighter.
-    pub fn level(self) -> u8 {
+    // How tightly it binds: the greater, the tighter.
+    fn level(self) -> u8 {
         match self {
-            Infix::Operator(operator) => operator_level(operator),
-            Infix::Both | Infix::Either => 2,
+            Infix::Pair(Pair::Operator(operator)) => level(operator),
+            Infix::Pair(_) => 2,
             Infix::Conditional => 1,
             Infix::Assignment => 0,
         }
     }
 }
 
-fn operator_level(operator: BinaryOperator) -> u8 {
+fn level(operator: BinaryOperator) -> u8 {
     match operator {
         BinaryOperator::ToThe => 6,
         BinaryOperator::Times | BinaryOperator::DividedBy | BinaryOperator::RemainderBy => 5,
@@ -36,67 +35,90 @@ fn operator_level(operator: BinaryOperator) -> u8 {
     }
 }
 
-/// The level that an operator's right operand has.
-pub fn right_level(operator: BinaryOperator) -> u8 {
-    match operator {
-        BinaryOperator::ToThe => 6,
-        BinaryOperator::Times | BinaryOperator::DividedBy | BinaryOperator::RemainderBy => 6,
-        BinaryOperator::Plus | BinaryOperator::Minus => 5,
-        _ => 4,
+/// The level that the right one of two has.
+pub fn right_level(pair: Pair) -> u8 {
+    match pair {
+        Pair::Operator(BinaryOperator::ToThe) => 6,
+        Pair::Operator(operator) => level(operator).saturating_add(1),
+        _ => 3,
     }
 }
 
-/// Takes what stands between two expressions, if it is next and binds as tightly as is wanted.
-pub fn take_infix(cursor: &mut Cursor<'_>, wanted: u8) -> Option<Infix> {
-    cursor.skip_blanks();
-    let (infix, behind) = infix_at(cursor.rest)?;
-    if infix.level() < wanted {
-        return None;
+impl Reader<'_> {
+    /// Takes what stands between two expressions, if it is next and binds as tightly as is wanted.
+    pub fn take_infix(&mut self, wanted: u8) -> Option<Infix> {
+        self.skip_blanks();
+        let Some((infix, length)) = self.infix() else {
+            return None;
+        };
+        if infix.level() < wanted {
+            return None;
+        }
+        self.take_front(length);
+        Some(infix)
     }
-    cursor.rest = behind;
-    Some(infix)
-}
 
-fn infix_at(rest: &[u8]) -> Option<(Infix, &[u8])> {
-    match rest {
-        [b'=', b'=', behind @ ..] => operator(BinaryOperator::Equals, behind),
-        [b'=', b'>', ..] => None,
-        [b'=', behind @ ..] => Some((Infix::Assignment, behind)),
-        [b'?', behind @ ..] => Some((Infix::Conditional, behind)),
-        [b'&', b'&', behind @ ..] => Some((Infix::Both, behind)),
-        [b'|', b'|', behind @ ..] => Some((Infix::Either, behind)),
-        [b'!', b'=', behind @ ..] => operator(BinaryOperator::Differs, behind),
-        [b'<', b'=', behind @ ..] => operator(BinaryOperator::LessOrEqual, behind),
-        [b'>', b'=', behind @ ..] => operator(BinaryOperator::GreaterOrEqual, behind),
-        [b'i' | b'I', b'n' | b'N', behind @ ..] => membership(behind),
-        [sign, behind @ ..] => operator(short_operator(*sign)?, behind),
-        [] => None,
-    }
-}
-
-fn operator(operator: BinaryOperator, behind: &[u8]) -> Option<(Infix, &[u8])> {
-    Some((Infix::Operator(operator), behind))
-}
-
-// `in`, if no longer word begins with it.
-fn membership(behind: &[u8]) -> Option<(Infix, &[u8])> {
-    if continues_word(behind) {
-        None
-    } else {
-        operator(BinaryOperator::IsIn, behind)
+    // What stands between two expressions, and how many bytes it has.
+    fn infix(&self) -> Option<(Infix, usize)> {
+        let sign = self.byte(0);
+        let second = self.byte(1);
+        if let Some(pair) = of_two(sign, second, self.byte(2)) {
+            return Some((Infix::Pair(pair), 2));
+        }
+        match of_one(sign, second) {
+            Some(infix) => Some((infix, 1)),
+            None => None,
+        }
     }
 }
 
-fn short_operator(sign: u8) -> Option<BinaryOperator> {
-    match sign {
-        b'+' => Some(BinaryOperator::Plus),
-        b'-' => Some(BinaryOperator::Minus),
-        b'*' => Some(BinaryOperator::Times),
-        b'/' => Some(BinaryOperator::DividedBy),
-        b'%' => Some(BinaryOperator::RemainderBy),
-        b'^' => Some(BinaryOperator::ToThe),
-        b'<' => Some(BinaryOperator::Less),
-        b'>' => Some(BinaryOperator::Greater),
+// Of two bytes. `in` is none where a longer word begins with it.
+fn of_two(first: u8, second: u8, third: u8) -> Option<Pair> {
+    match second {
+        b'=' => comparison(first),
+        b'&' if first == b'&' => Some(Pair::Both),
+        b'|' if first == b'|' => Some(Pair::Either),
+        b'n' | b'N' if (first == b'i' || first == b'I') && !is_word_character(third) => {
+            Some(Pair::Operator(BinaryOperator::IsIn))
+        }
         _ => None,
     }
+}
+
+// With `=` behind it.
+fn comparison(first: u8) -> Option<Pair> {
+    match first {
+        b'=' => Some(Pair::Operator(BinaryOperator::Equals)),
+        b'!' => Some(Pair::Operator(BinaryOperator::Differs)),
+        b'<' => Some(Pair::Operator(BinaryOperator::LessOrEqual)),
+        b'>' => Some(Pair::Operator(BinaryOperator::GreaterOrEqual)),
+        _ => None,
+    }
+}
+
+// Of one byte: `=>` is none.
+fn of_one(sign: u8, second: u8) -> Option<Infix> {
+    match sign {
+        b'=' if second != b'>' => Some(Infix::Assignment),
+        b'?' => Some(Infix::Conditional),
+        _ => operator(sign),
+    }
+}
+
+fn operator(sign: u8) -> Option<Infix> {
+    match sign {
+        b'+' => between(BinaryOperator::Plus),
+        b'-' => between(BinaryOperator::Minus),
+        b'*' => between(BinaryOperator::Times),
+        b'/' => between(BinaryOperator::DividedBy),
+        b'%' => between(BinaryOperator::RemainderBy),
+        b'^' => between(BinaryOperator::ToThe),
+        b'<' => between(BinaryOperator::Less),
+        b'>' => between(BinaryOperator::Greater),
+        _ => None,
+    }
+}
+
+fn between(operator: BinaryOperator) -> Option<Infix> {
+    Some(Infix::Pair(Pair::Operator(operator)))
 }

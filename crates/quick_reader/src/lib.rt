@@ -4,19 +4,22 @@
 //! uses the tree looks first whether it is one of the grammar and whether its canonical spelling has the tokens of the text.
 #![tactic(auto)]
 
-mod cursor;
+mod beginning;
 mod expression;
-mod found;
+mod expressions;
 pub mod guess;
-mod head;
 mod infix;
-mod keyword;
 mod limits;
 mod literal;
+mod pair;
+mod reader;
+mod scatter;
 mod several;
+mod sign;
 mod start;
 mod statement;
+mod statements;
 mod step;
-mod stop;
 mod target;
+mod within;
 mod word;

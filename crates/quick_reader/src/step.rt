@@ -1,8 +1,8 @@
 //! What stands right behind an operand.
-use crate::cursor::Cursor;
+use crate::reader::Reader;
 
 /// What goes on right behind an operand.
-#[derive(Clone, Copy, Debug, PartialEq, Eq)]
+#[derive(Clone, Copy)]
 pub enum Step {
     /// `.`
     Property,
@@ -12,23 +12,23 @@ pub enum Step {
     Bracket,
 }
 
-/// Takes the sign of what goes on right behind an operand, if one is next.
-pub fn take_step(cursor: &mut Cursor<'_>) -> Option<Step> {
-    cursor.skip_blanks();
-    match cursor.rest {
-        [b'.', b'.', ..] => None,
-        [b'.', behind @ ..] => {
-            cursor.rest = behind;
-            Some(Step::Property)
+impl Reader<'_> {
+    /// Takes the sign of what goes on right behind an operand, if one is next.
+    pub fn take_step(&mut self) -> Option<Step> {
+        self.skip_blanks();
+        let step = step_of(self.byte(0), self.byte(1));
+        if step.is_some() {
+            self.take_front(1);
         }
-        [b':', behind @ ..] => {
-            cursor.rest = behind;
-            Some(Step::Verb)
-        }
-        [b'[', behind @ ..] => {
-            cursor.rest = behind;
-            Some(Step::Bracket)
-        }
+        step
+    }
+}
+
+fn step_of(sign: u8, second: u8) -> Option<Step> {
+    match sign {
+        b'.' if second != b'.' => Some(Step::Property),
+        b':' => Some(Step::Verb),
+        b'[' => Some(Step::Bracket),
         _ => None,
     }
 }

@@ -2,10 +2,8 @@
 ghost use Rattle.std.specs.Prelude.{◌≡◌};
 ghost use Rattle.spec_value.specs.Datum.{is_text, is_character as is_character_of};
 
-use crate::cursor::Cursor;
-use crate::stop::Stop;
+use crate::reader::Reader;
 use moo_value::text::Text;
-use std::alloc::Global;
 use std::str;
 use tokens_ahead::front::is_word_character;
 
@@ -27,17 +25,6 @@ fn are_characters(bytes: &[u8]) -> bool
     true
 }
 
-/// The text of these characters.
-pub fn text_of(alloc: Global, characters: &[u8]) -> Result<Text, Stop> {
-    if !are_characters(characters) {
-        return Err(Stop::Unlike);
-    }
-    match str::from_utf8(characters) {
-        Ok(characters) => Ok(Text::from_str(alloc, characters)?),
-        Err(_) => Err(Stop::Unlike),
-    }
-}
-
 // How many letters and digits are next.
 fn word_end(rest: &[u8]) -> usize {
     for i in 0..rest.len() {
@@ -50,25 +37,48 @@ fn word_end(rest: &[u8]) -> usize {
 
 /// The letters and digits that are next.
 pub fn next_word<'a>(rest: &'a [u8]) -> &'a [u8] {
-    let end = word_end(rest);
-    match rest.get(..end) {
+    match rest.get(..word_end(rest)) {
         Some(word) => word,
         None => &[],
     }
 }
 
-/// Takes the letters and digits that are next.
-pub fn take_word<'a>(cursor: &mut Cursor<'a>) -> &'a [u8] {
-    let end = word_end(cursor.rest);
-    cursor.take_front(end)
-}
-
-/// Takes the word that is next, behind blanks.
-pub fn expect_word(cursor: &mut Cursor<'_>) -> Result<Text, Stop> {
-    cursor.skip_blanks();
-    let word = take_word(cursor);
-    if word.is_empty() {
-        return Err(Stop::Unlike);
+impl<'a> Reader<'a> {
+    /// The text of these characters.
+    pub fn text(&mut self, characters: &[u8]) -> Option<Text> {
+        if are_characters(characters) {
+            if let Ok(characters) = str::from_utf8(characters) {
+                let text = Text::from_str(self.alloc, characters);
+                return self.kept(text);
+            }
+        }
+        self.refuse();
+        None
     }
-    text_of(cursor.alloc, word)
+
+    /// Takes the letters and digits that are next.
+    pub fn take_word(&mut self) -> &'a [u8] {
+        let end = word_end(self.rest);
+        self.take_front(end)
+    }
+
+    /// Takes the word that is next, behind blanks.
+    pub fn expect_word(&mut self) -> &'a [u8] {
+        self.skip_blanks();
+        let word = self.take_word();
+        if word.is_empty() {
+            self.refuse();
+        }
+        word
+    }
+
+    /// Takes the name before a sign, if there is one, and the sign.
+    pub fn take_name_before(&mut self, sign: u8) -> Option<&'a [u8]> {
+        if self.take_byte(sign) {
+            return None;
+        }
+        let name = self.expect_word();
+        self.expect_byte(sign);
+        Some(name)
+    }
 }

@@ -1,16 +1,5 @@
 pub mod Worlds
 pub mod Called
-pub mod Targets
-pub mod Giving
-pub mod Putting
 pub mod Parts
-pub mod Taking
-pub mod Offers
 pub mod Asking
 pub mod Calls
-pub mod Scenes
-pub mod Steps
-pub mod Stopping
-pub mod Closing
-pub mod Onward
-pub mod Appending

@@ -7,10 +7,11 @@ use Rattle.std.proofs.lemmas.Int.{ints}
 use Rattle.std.specs.Fmt.{decimal}
 use Rattle.std.specs.Ordering.{int_eq}
 use Rattle.spec_value.specs.Datum.{Datum, integer, object, text, error, list, Data, no_data, item, of_list, Text, ErrorCode, same_text, is_true, weight, data_weight, invalid_argument, property_not_found, verb_not_found, limit_exceeded}
-use Rattle.spec_value.specs.Answer.{is_allowed}
+use Rattle.spec_value.specs.Answer.{weight_limit, is_allowed}
 use Rattle.spec_value.specs.Literal.{to_text}
 use Rattle.spec_value.specs.Table.{at}
 use Rattle.spec_value.specs.PureBuiltins.{PureFunction, call_value}
+use Rattle.spec_value.proofs.Entries.{both_hold}
 use Rattle.spec_program.specs.Tree.{Program}
 use Rattle.spec_program.specs.Spelling.{canonical_lines}
 use Rattle.spec_program.specs.ReadPrograms.{Fault, Parsed, program, faulty, parsed, parsed_lines, joined_lines, fault_name, fault_text}
@@ -39,10 +40,11 @@ use Rattle.spec_moo.specs.Natives.Objects.{valid_row, is_player_row, parent_row,
 use Rattle.spec_moo.specs.Natives.Properties.{are_bits, letter_if, slot_bits, with_slot_bits, as_texts, properties_row, property_info_row, set_property_info_row, is_clear_property_row, defines_it, clear_property_row, is_new_name, slot_with, add_property_row, delete_property_row, property_rows, properties}
 use Rattle.spec_moo.specs.Natives.Verbs.{verb_place, if_verb, verb_names, verbs_row, verb_bits, with_info, info_fits, verb_info_row, set_verb_info_row, object_part_text, between_slashes, set_text, preposition_text, object_part, has_member, set_with, preposition_part, Specifier, all_three, specifier, with_specifier, verb_args_row, set_verb_args_row, new_verb, add_verb_row, delete_verb_row, verb_code_row, texts_of, fault_value, programmed, set_verb_code_row, evaluated, eval_row, verb_rows, verbs}
 use Rattle.spec_moo.specs.Natives.Tasks.{notify_row, waits_with_id, reads_on, read_row, suspend_row, innermost, first_of, programmer_of, task_programmer, is_suspended, resumes, resume_row, is_own_id, kills, kill_task_row, due_value, task_value, listed_tasks, queued_tasks_row, task_id_row, ticks_left_row, time_row, raise_row, set_task_perms_row, caller_perms_row, random_word, random_up_to, random_row, connected_among, connected_players_row, boot_player_row, dump_database_row, shutdown_row, task_rows, tasks}
-use Rattle.spec_values_kept.specs.Values.{InRange, IsPrinted, IsValue, AreData, Each, AreValues, IfThere}
+use Rattle.spec_values_kept.specs.Values.{nests_within, is_short, InRange, IsPrinted, IsValue, AreData, Each, AreValues, IsKept, AreKept, IfThere}
 use Rattle.spec_values_kept.specs.Nodes.{program_nodes}
-use Rattle.spec_values_kept.specs.WorldValues.{IsNumber, ProgramHolds, SlotHolds, PrepositionHolds, VerbHolds, ObjectHolds, CallHolds, EntryHolds, NativeHolds, WaitingHolds, TaskHolds, NumberedHolds}
+use Rattle.spec_values_kept.specs.WorldValues.{IsNumber, ProgramHolds, SlotHolds, PrepositionHolds, VerbHolds, ObjectHolds, CallHolds, EntriesHold, NativeHolds, WaitingHolds, TaskHolds, NumberedHolds}
 use Rattle.spec_values_kept.specs.UnderWay.{SceneHolds, CallerHolds, NativeGives, NativesHold, StagesHold}
+use Rattle.spec_values_kept.proofs.Nesting.{nests_by_weight, light_kept, kept_value, kept_short, kept_values, answer_value, list_kept}
 use Rattle.spec_values_kept.proofs.Numbers.{fits_range, below_in_range, small_number, small_negative}
 use Rattle.spec_values_kept.proofs.Texts.{text_then, decimal_text, text_of}
 use Rattle.spec_values_kept.proofs.ValuesGiven.{truth_value, onto_data, first_datum, later_data, data_of, calls_give}
@@ -73,7 +75,7 @@ scene_if false s t h k = k
 -- ---- rows
 
 abbrev MayCall : Caller → List Datum → Type 0
-MayCall c args = CallerHolds c × (AreValues args × IsTrue (is_allowed (list (of_list args))))
+MayCall c args = CallerHolds c × (AreKept args × IsTrue (is_allowed (list (of_list args))))
 
 abbrev RowHolds : Row → Type 0
 RowHolds r = (s : Scene) (c : Caller) (args : List Datum) → SceneHolds s → MayCall c args → NativeGives (r.act s c args)
@@ -114,7 +116,7 @@ pub called_holds : (c : Call) (o : ℤ) (word : Text) (f : Sought) → CallHolds
 called_holds c o word f h i j k = (i, (h.0, (k.0, (k.1.1.0, j))))
 
 calls_hold : (s : Scene) (c : Caller) (n : Native) (o : ℤ) (word : Text) (args : Data) (e : NativeEffect) → SceneHolds s → CallerHolds c → NativeHolds n → InRange o
-    → IsPrinted word → AreData args → NativeGives e → NativeGives (calls_if_there s c n o word args e)
+    → IsPrinted word → IsKept (list args) → NativeGives e → NativeGives (calls_if_there s c n o word args e)
 calls_hold s c n o word args e h k i j l m more = go (find_verb s.world o word) (verb_sought s.world o word h.0)
   where
     go : (f : Option Sought) → IfThere SoughtHolds f → NativeGives (calls_found s c n o word args e f)
@@ -208,7 +210,7 @@ chparent_holds s c _ h k = (h, tt)
 three_objects : (what place before : ℤ) → InRange what → InRange place → InRange before → AreValues (object what ∷ object place ∷ object before ∷ [])
 three_objects what place before i j k = (i, (j, (k, tt)))
 
-one_object : (o : ℤ) → InRange o → AreData (item (object o) no_data)
+one_object : (o : ℤ) → InRange o → IsKept (list (item (object o) no_data))
 one_object o i = onto_data (object o) no_data i refl
 
 told_holds : (s : Scene) (c : Caller) (what place before : ℤ) → SceneHolds s → CallerHolds c → InRange what → InRange place → InRange before
@@ -633,7 +635,7 @@ suspend_holds s c (integer (pos n) ∷ []) h k =
 suspend_holds s c (integer (negsuc n) ∷ []) h k = (h, tt)
 suspend_holds s c _ h k = (h, tt)
 
-resumes_hold : (s : Scene) (c : Caller) (i : ℤ) (v : Datum) → SceneHolds s → IsValue v → NativeGives (resumes s c i v)
+resumes_hold : (s : Scene) (c : Caller) (i : ℤ) (v : Datum) → SceneHolds s → IsKept v → NativeGives (resumes s c i v)
 resumes_hold s c i v h l =
     there s invalid_argument (at s.world.tasks i) _ h (λ t e.
     tested (may s.world c.call.programmer (control_task (task_programmer t))) _ _ (h, tt) (tested (is_suspended t.waiting) _ _ (h, tt)
@@ -654,7 +656,7 @@ kill_task_holds : (s : Scene) (c : Caller) (args : List Datum) → SceneHolds s 
 kill_task_holds s c (integer i ∷ []) h k = tested (is_own_id i s.task) _ _ (kills_hold s c i h) h
 kill_task_holds s c _ h k = (h, tt)
 
-innermost_holds : (es : List Entry) → Each EntryHolds es → IfThere CallHolds (innermost es)
+innermost_holds : (es : List Entry) → EntriesHold es → IfThere CallHolds (innermost es)
 innermost_holds [] h = tt
 innermost_holds (frame_entry f ∷ es) h = (h.0).0
 innermost_holds (native_entry n ∷ es) h = innermost_holds es h.1
@@ -693,13 +695,30 @@ time_holds : (s : Scene) (c : Caller) (args : List Datum) → SceneHolds s → M
 time_holds s c args h k = (h, ((h.1).1).0)
 
 -- an error with its code, its message and its value, where it is raised
-pub raised_holds : (v : Datum) (m : Text) (x : Datum) → IsValue v → IsPrinted m → IsValue x → IsValue (list (of_list (v ∷ text m ∷ x ∷ list no_data ∷ [])))
-raised_holds v m x h k l = data_of (v ∷ text m ∷ x ∷ list no_data ∷ []) (h, (k, (l, (refl, tt))))
+pub raised_holds : (v : Datum) (m : Text) (x : Datum) → IsTrue (nests_within (weight_limit - 1) v) → IsTrue (nests_within (weight_limit - 1) x) → IsKept v → IsPrinted m → IsKept x
+    → IsKept (list (of_list (v ∷ text m ∷ x ∷ list no_data ∷ [])))
+raised_holds v m x i j h k l =
+    list_kept (of_list (v ∷ text m ∷ x ∷ list no_data ∷ []))
+    (both_hold (nests_within (weight_limit - 1) v) (nests_within (weight_limit - 1) x && true) i (both_hold (nests_within (weight_limit - 1) x) true j refl)) (omega arith)
+    (both_hold (is_short v) (is_short x && true) (kept_short v h) (both_hold (is_short x) true (kept_short x l) refl))
+    (data_of (v ∷ text m ∷ x ∷ list no_data ∷ []) (kept_value v h, (k, (kept_value x l, (refl, tt)))))
 
 raise_holds : (s : Scene) (c : Caller) (args : List Datum) → SceneHolds s → MayCall c args → NativeGives (raise_row s c args)
-raise_holds s c (v ∷ []) h k = (h, raised_holds v (to_text v) zero_value ((k.1).0).0 (text_of v ((k.1).0).0) refl)
-raise_holds s c (v ∷ text m ∷ []) h k = (h, raised_holds v m zero_value ((k.1).0).0 (((k.1).0).1).0 refl)
-raise_holds s c (v ∷ text m ∷ x ∷ []) h k = (h, raised_holds v m x ((k.1).0).0 (((k.1).0).1).0 ((((k.1).0).1).1).0)
+raise_holds s c (v ∷ []) h k =
+    let w : weight (list (of_list (v ∷ []))) ≤ 65536 = allowed_weighs (list (of_list (v ∷ []))) (k.1).1 in
+    (h, (raised_holds v (to_text v) zero_value (nests_by_weight (weight_limit - 1) v (omega (arith, w))) refl ((k.1).0).0 (text_of v (kept_value v ((k.1).0).0)) refl, refl))
+raise_holds s c (v ∷ text m ∷ []) h k =
+    let w : weight (list (of_list (v ∷ text m ∷ []))) ≤ 65536 = allowed_weighs (list (of_list (v ∷ text m ∷ []))) (k.1).1 in
+    (h, (raised_holds v m zero_value (nests_by_weight (weight_limit - 1) v (omega (arith, w))) refl ((k.1).0).0 (((k.1).0).1).0 refl, refl))
+raise_holds s c (v ∷ text m ∷ x ∷ []) h k =
+    let w : weight (list (of_list (v ∷ text m ∷ x ∷ []))) ≤ 65536 = allowed_weighs (list (of_list (v ∷ text m ∷ x ∷ []))) (k.1).1 in (
+      h,
+      (
+        raised_holds v m x (nests_by_weight (weight_limit - 1) v (omega (arith, w))) (nests_by_weight (weight_limit - 1) x (omega (arith, w))) ((k.1).0).0 (((k.1).0).1).0
+            ((((k.1).0).1).1).0,
+        refl,
+      ),
+    )
 raise_holds s c _ h k = (h, tt)
 
 perms_hold : (s : Scene) (c : Caller) (args : List Datum) → SceneHolds s → MayCall c args → NativeGives (set_task_perms_row s c args)
@@ -759,16 +778,22 @@ values_hold s c name args h k = go (row_of value_rows name)
   where
     go : (m : Option PureFunction) → IfThere NativeGives (option_map (λ f. answers s (call_value f args)) m)
     go None = tt
-    go (Some f) = (h, calls_give f args (k.1).0)
+    go (Some f) = (h, answer_value (call_value f args) (calls_give f args (kept_values args (k.1).0)))
 
 later_holds : (o : Option NativeEffect) (later : Text → NativeEffect) (name : Text) → IfThere NativeGives o → NativeGives (later name) → NativeGives (or_later o later name)
 later_holds None later name h k = k
 later_holds (Some e) later name h k = h
 
+-- arguments weigh no more than the list of them
+each_kept : (vs : List Datum) → data_weight (of_list vs) ≤ weight_limit → AreValues vs → AreKept vs
+each_kept [] l h = tt
+each_kept (v ∷ vs) l h = (light_kept v (omega (arith, l)) h.0, each_kept vs (omega (arith, l)) h.1)
+
 pub natives_hold : NativesHold
 unfolding native
 natives_hold s c name args h i j l =
-    let k : MayCall c args = (i, (j, l)) in
+    let w : weight (list (of_list args)) ≤ 65536 = allowed_weighs (list (of_list args)) l in
+    let k : MayCall c args = (i, (each_kept args (omega (arith, w)) j, l)) in
     later_holds (values s c name args) _ name (values_hold s c name args h k) (later_holds (objects s c name args) _ name (objects_hold s c name args h k)
     (later_holds (properties s c name args) _ name (properties_group s c name args h k) (later_holds (verbs s c name args) _ name (verbs_group s c name args h k)
     (later_holds (tasks s c name args) _ name (tasks_group s c name args h k) (h, tt)))))

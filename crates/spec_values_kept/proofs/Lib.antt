@@ -1,5 +1,6 @@
 pub mod Texts
 pub mod Numbers
+pub mod Nesting
 pub mod ValuesGiven
 pub mod CodePrinted
 pub mod Tables
@@ -13,7 +14,10 @@ pub mod ParsedFew
 pub mod BuiltinsHold
 pub mod EffectsHold
 pub mod TurnsHold
+pub mod Contents
 pub mod SegmentsHold
 pub mod LinesPrinted
 pub mod StepsHold
+pub mod Leavings
 pub mod WholeWorlds
+pub mod WorldsNest

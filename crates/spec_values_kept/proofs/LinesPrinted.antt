@@ -1,7 +1,8 @@
 -- What is read in a player's line has printed characters alone, and the objects that it names have numbers in their range.
-use Rattle.std.proofs.Common.{◌≡◌, ℕ, zero, suc, ◌+◌, ◌==◌, ℤ, Bool, true, false, List, [], ◌∷◌, ◌++◌, filter, take, drop, Option, Some, None, option_map, IsTrue, refl, if◌then◌else◌, codes, is_some}
-use Rattle.spec_value.specs.Datum.{text, of_list, Text, fold_case, same_text, is_character}
+use Rattle.std.proofs.Common.{◌≡◌, ◌≤◌, ◌<◌, ◌^◌, ℕ, zero, suc, ◌+◌, ◌==◌, length, sym, ap, subst, arith, ℤ, Bool, true, false, List, [], ◌∷◌, ◌++◌, filter, take, drop, Option, Some, None, option_map, IsTrue, refl, if◌then◌else◌, codes, is_some}
+use Rattle.spec_value.specs.Datum.{text, list, of_list, Text, fold_case, same_text, is_character}
 use Rattle.spec_world.specs.World.{World, Object, object_at}
+use Rattle.spec_world.specs.WellFormed.{count}
 use Rattle.spec_world.specs.Naming.{contents_of, location_of, within_reach, one_of, by_sets, is_named, begins_a_name, by_name, by_words, by_number, object_number, name_object}
 use Rattle.spec_world.specs.Words.{Sign, space, quote, backslash, other, sign, Reading, onto, as_words, Readings, taken, read_sign, readings, words, without_spaces, Remainders, leaving, leave_sign, remainders, after_first, expanded_front, expanded}
 use Rattle.spec_world.specs.Prepositions.{Preposition, find_preposition}
@@ -10,9 +11,10 @@ use Rattle.spec_world.specs.CommandLines as line
 use Rattle.spec_world.specs.CommandLines.{Parts, parts_at, parts_of_words, line_parts, named_by, Meant, meant_on, or_then, verb_meant, cut_at_colon, Command, nothing_said, programming, calls_verb, calls_huh, not_understood, huh_or_not, verb_or_huh, asks_to_program, command_or_program, command_said}
 use Rattle.spec_moo.specs.Natives.Properties.{as_texts}
 use Rattle.spec_moo.specs.Steps.Events.{words_value}
-use Rattle.spec_values_kept.specs.Values.{InRange, IsPrinted, AreData, Each, IfThere}
+use Rattle.spec_values_kept.specs.Values.{InRange, IsPrinted, AreData, IsKept, Each, IfThere}
 use Rattle.spec_values_kept.specs.WorldValues.{ObjectHolds, WorldHolds}
 use Rattle.spec_values_kept.proofs.Texts.{text_onto, text_then, first_character, later_text}
+use Rattle.spec_values_kept.proofs.Nesting.{Shallow, ShortItems, list_kept}
 use Rattle.spec_values_kept.proofs.ValuesGiven.{onto_data}
 use Rattle.spec_values_kept.proofs.Tables.{each_together, each_filtered}
 use Rattle.spec_values_kept.proofs.WorldChanges.{object_there, objects_there, place_in_range, SoughtHolds, sought_on, verb_sought}
@@ -100,17 +102,98 @@ expanded_printed t h = front (without_spaces t) (spaceless t h)
     front [] k = refl
     front (c ∷ u) k = spelled c u k (c == 34) (c == 58) (c == 59)
 
-pub listed_words : (ts : List Text) → Each IsPrinted ts → AreData (of_list (as_texts ts))
-listed_words [] h = refl
-listed_words (t ∷ ts) h = onto_data (text t) (of_list (as_texts ts)) h.0 (listed_words ts h.1)
+texts_listed : (ts : List Text) → Each IsPrinted ts → AreData (of_list (as_texts ts))
+texts_listed [] h = refl
+texts_listed (t ∷ ts) h = onto_data (text t) (of_list (as_texts ts)) h.0 (texts_listed ts h.1)
 
-pub words_are_values : (t : Text) → IsPrinted t → AreData (words_value t)
-words_are_values t h = listed_words (words (expanded t)) (words_printed (expanded t) (expanded_printed t h))
+texts_nest : (ts : List Text) → Shallow (of_list (as_texts ts))
+texts_nest [] = refl
+texts_nest (t ∷ ts) = texts_nest ts
+
+texts_are_short : (ts : List Text) → ShortItems (of_list (as_texts ts))
+texts_are_short [] = refl
+texts_are_short (t ∷ ts) = texts_are_short ts
+
+texts_counted : (ts : List Text) → count (of_list (as_texts ts)) ≡ length ts
+texts_counted [] = refl
+texts_counted (t ∷ ts) = ap suc (texts_counted ts)
+
+-- fewer words than there are numbers
+abbrev pub WordsHold : List Text → Type 0
+WordsHold ts = Each IsPrinted ts × (length ts < 2 ^ 31)
+
+pub listed_words : (ts : List Text) → WordsHold ts → IsKept (list (of_list (as_texts ts)))
+listed_words ts h =
+    list_kept (of_list (as_texts ts)) (texts_nest ts) (subst (λ n. n < 2 ^ 31) (sym (texts_counted ts)) h.1) (texts_are_short ts) (texts_listed ts h.0)
+
+-- a line has no more words than characters
+
+record FewWords (r : Readings) (n : ℕ) : Type 0 where
+  between : length r.between ≤ n
+  bare : length (r.bare).1 ≤ n
+  quoted : length (r.quoted).1 ≤ n
+  between_escaped : length r.between_escaped ≤ n
+  bare_escaped : length (r.bare_escaped).1 ≤ n
+  quoted_escaped : length (r.quoted_escaped).1 ≤ n
+
+few_read : (g : Sign) (c n : ℕ) (r : Readings) → FewWords r n → FewWords (read_sign g c r) (suc n)
+few_read space c n r f =
+    let a = f.between in let b = f.bare in let q = f.quoted in
+    record { between = omega (arith, a); bare = omega (arith, a); quoted = omega (arith, q); between_escaped = omega (arith, b); bare_escaped = omega (arith, b); quoted_escaped = omega (arith, q) }
+few_read quote c n r f =
+    let b = f.bare in let q = f.quoted in
+    record { between = omega (arith, q); bare = omega (arith, q); quoted = omega (arith, b); between_escaped = omega (arith, b); bare_escaped = omega (arith, b); quoted_escaped = omega (arith, q) }
+few_read backslash c n r f =
+    let b = f.bare in let q = f.quoted in let x = f.between_escaped in let y = f.bare_escaped in let z = f.quoted_escaped in
+    record { between = omega (arith, x); bare = omega (arith, y); quoted = omega (arith, z); between_escaped = omega (arith, b); bare_escaped = omega (arith, b); quoted_escaped = omega (arith, q) }
+few_read other c n r f =
+    let b = f.bare in let q = f.quoted in
+    record { between = omega (arith, b); bare = omega (arith, b); quoted = omega (arith, q); between_escaped = omega (arith, b); bare_escaped = omega (arith, b); quoted_escaped = omega (arith, q) }
+
+few_readings : (t : Text) → FewWords (readings t) (length t)
+few_readings [] = record { between = omega arith; bare = omega arith; quoted = omega arith; between_escaped = omega arith; bare_escaped = omega arith; quoted_escaped = omega arith }
+few_readings (c ∷ t) = few_read (sign c) c (length t) (readings t) (few_readings t)
+
+words_few : (t : Text) → length (words t) ≤ length t
+unfolding words
+words_few t = (few_readings t).between
+
+without_fewer : (t : Text) → length (without_spaces t) ≤ length t
+unfolding without_spaces
+without_fewer [] = omega arith
+without_fewer (c ∷ t) = go (c == 32) (without_fewer t)
+  where
+    go : (b : Bool) → length (without_spaces t) ≤ length t → length (if b then without_spaces t else c ∷ t) ≤ suc (length t)
+    go true l = omega (arith, l)
+    go false l = omega arith
+
+expanded_short : (t : Text) → length (expanded t) ≤ length t + 5
+unfolding expanded
+expanded_short t = front (without_spaces t) (without_fewer t)
+  where
+    spelled : (c : ℕ) (u : Text) → suc (length u) ≤ length t → (a b d : Bool)
+        → length (if a then codes "say " ++ u else if b then codes "emote " ++ u else if d then codes "eval " ++ u else c ∷ u) ≤ length t + 5
+    spelled c u l true b d = omega (arith, l)
+    spelled c u l false true d = omega (arith, l)
+    spelled c u l false false true = omega (arith, l)
+    spelled c u l false false false = omega (arith, l)
+
+    front : (u : Text) → length u ≤ length t → length (expanded_front u) ≤ length t + 5
+    front [] l = omega arith
+    front (c ∷ u) l = spelled c u l (c == 34) (c == 58) (c == 59)
+
+line_words : (t : Text) → IsPrinted t → length t ≤ 4096 → WordsHold (words (expanded t))
+line_words t h l =
+    let few : length (words (expanded t)) ≤ length (expanded t) = words_few (expanded t) in let short : length (expanded t) ≤ length t + 5 = expanded_short t in
+    (words_printed (expanded t) (expanded_printed t h), omega (arith, l, few, short))
+
+pub words_are_values : (t : Text) → IsPrinted t → length t ≤ 4096 → IsKept (list (words_value t))
+words_are_values t h l = listed_words (words (expanded t)) (line_words t h l)
 
 -- ---- the parts of a line
 
 abbrev pub PartsHold : Parts → Type 0
-PartsHold p = IsPrinted p.verb × (Each IsPrinted p.args × (IsPrinted p.argstr × (IsPrinted p.dobjstr × (IsPrinted p.prepstr × IsPrinted p.iobjstr))))
+PartsHold p = IsPrinted p.verb × (WordsHold p.args × (IsPrinted p.argstr × (IsPrinted p.dobjstr × (IsPrinted p.prepstr × IsPrinted p.iobjstr))))
 
 taken_words : (n : ℕ) (ts : List Text) → Each IsPrinted ts → Each IsPrinted (take n ts)
 taken_words zero ts h = tt
@@ -122,9 +205,9 @@ dropped_words zero ts h = h
 dropped_words (suc n) [] h = tt
 dropped_words (suc n) (t ∷ ts) h = dropped_words n ts h.1
 
-parts_at_hold : (verb : Text) (args : List Text) (argstr : Text) (m : Option Preposition) → IsPrinted verb → Each IsPrinted args → IsPrinted argstr
+parts_at_hold : (verb : Text) (args : List Text) (argstr : Text) (m : Option Preposition) → IsPrinted verb → WordsHold args → IsPrinted argstr
     → PartsHold (parts_at verb args argstr m)
-parts_at_hold verb args argstr None h k l = (h, (k, (l, (spaced_printed args k, (refl, refl)))))
+parts_at_hold verb args argstr None h k l = (h, (k, (l, (spaced_printed args k.0, (refl, refl)))))
 parts_at_hold verb args argstr (Some p) h k l = (
   h,
   (
@@ -132,20 +215,22 @@ parts_at_hold verb args argstr (Some p) h k l = (
     (
       l,
       (
-        spaced_printed (take p.start args) (taken_words p.start args k),
-        (spaced_printed (take p.size (drop p.start args)) (taken_words p.size (drop p.start args) (dropped_words p.start args k)), spaced_printed (drop (p.start + p.size) args) (dropped_words (p.start + p.size) args k)),
+        spaced_printed (take p.start args) (taken_words p.start args k.0),
+        (spaced_printed (take p.size (drop p.start args)) (taken_words p.size (drop p.start args) (dropped_words p.start args k.0)), spaced_printed (drop (p.start + p.size) args) (dropped_words (p.start + p.size) args k.0)),
       ),
     ),
   ),
 )
 
-line_parts_hold : (t : Text) → IsPrinted t → IfThere PartsHold (line_parts t)
+line_parts_hold : (t : Text) → IsPrinted t → length t ≤ 4096 → IfThere PartsHold (line_parts t)
 unfolding line_parts
-line_parts_hold t h = go (words (expanded t)) (words_printed (expanded t) (expanded_printed t h))
+line_parts_hold t h l = go (words (expanded t)) (line_words t h l)
   where
-    go : (ts : List Text) → Each IsPrinted ts → IfThere PartsHold (parts_of_words (expanded t) ts)
+    go : (ts : List Text) → WordsHold ts → IfThere PartsHold (parts_of_words (expanded t) ts)
     go [] k = tt
-    go (u ∷ us) k = parts_at_hold u us (after_first (expanded t)) (find_preposition us) k.0 k.1 (after_printed (expanded t) (expanded_printed t h))
+    go (u ∷ us) k =
+        let n : suc (length us) < 2 ^ 31 = k.1 in
+        parts_at_hold u us (after_first (expanded t)) (find_preposition us) (k.0).0 ((k.0).1, omega (arith, n)) (after_printed (expanded t) (expanded_printed t h))
 
 -- ---- objects that are named
 
@@ -245,9 +330,9 @@ CommandHolds (calls_verb p n m) = PartsHold p × (NamedHolds n × MeantHolds m)
 CommandHolds (calls_huh p n f) = PartsHold p × (NamedHolds n × SoughtHolds f)
 CommandHolds not_understood = Unit {0}
 
-pub command_holds : (w : World) (who : ℤ) (t : Text) → InRange who → IsPrinted t → WorldHolds w → CommandHolds (command_said w who t)
+pub command_holds : (w : World) (who : ℤ) (t : Text) → InRange who → IsPrinted t → length t ≤ 4096 → WorldHolds w → CommandHolds (command_said w who t)
 unfolding command_said
-command_holds w who t i j h = go (line_parts t) (line_parts_hold t j)
+command_holds w who t i j l h = go (line_parts t) (line_parts_hold t j l)
   where
     huh : (p : Parts) (n : Named) (f : Option Sought) → PartsHold p → NamedHolds n → IfThere SoughtHolds f → CommandHolds (huh_or_not p n f)
     huh p n None a b k = tt
@@ -263,7 +348,7 @@ command_holds w who t i j h = go (line_parts t) (line_parts_hold t j)
         (one_meant _ _ (meant_holds w word n n.direct b.0 h) (meant_holds w word n n.indirect b.1 h)))
 
     asks : (p : Parts) (b : Bool) → PartsHold p → CommandHolds (if b then programming (line.request_of p.args) else verb_or_huh w who p (named_by w who p) (verb_meant w who p.verb (named_by w who p)))
-    asks p true a = request_holds p.args (a.1).0
+    asks p true a = request_holds p.args ((a.1).0).0
     asks p false a =
         let n = named_holds w who p i h in verb p (named_by w who p) (verb_meant w who p.verb (named_by w who p)) a n (meant p.verb (named_by w who p) n)
 

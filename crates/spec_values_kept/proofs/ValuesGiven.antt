@@ -1,5 +1,5 @@
--- What operators and functions answer for values is a value.
-use Rattle.std.proofs.Common.{ℕ, zero, suc, ◌-◌, ◌%◌, ◌==◌, ◌^◌, min, ℤ, pos, negsuc, neg_ℤ, ◌+ℤ◌, ◌-ℤ◌, ◌*ℤ◌, Bool, true, false, not, List, [], ◌∷◌, ◌++◌, length, take, drop, slice_get, slice_set, Option, Some, None, IsTrue, refl, if◌then◌else◌, arith, int_div, int_rem}
+-- What operators and functions answer for values is a value, and one that nests no deeper than it may.
+use Rattle.std.proofs.Common.{◌≡◌, ℕ, zero, suc, ◌-◌, ◌%◌, ◌==◌, ◌^◌, min, ℤ, pos, negsuc, neg_ℤ, ◌+ℤ◌, ◌-ℤ◌, ◌*ℤ◌, Bool, true, false, not, List, [], ◌∷◌, ◌++◌, length, take, drop, slice_get, slice_set, Option, Some, None, IsTrue, refl, if◌then◌else◌, arith, int_div, int_rem}
 use Rattle.std.specs.Int.{w32, int_min, int_max, int_wrapping_div, cast_unsigned}
 use Rattle.std.specs.Ordering.{int_eq, nat_cmp}
 use Rattle.std.specs.Cmp.Lexicographic.{slice_cmp}
@@ -15,8 +15,9 @@ use Rattle.spec_value.specs.Scatter.{TargetKind, required_target, optional_targe
 use Rattle.spec_value.specs.TextSearch.{first_at, last_at}
 use Rattle.spec_value.specs.PureBuiltins.{kind_of, without_spaces, numeral, positive, negative, signed_number, after_mark, to_number, to_object, length_of, is_member, listappend, listinsert, deleted, listdelete, set_at, listset, added, setadd, removed, setremove, case_counts, index, rindex, compared_number, strcmp, replaced_text, strsub, absolute, chosen, best, PureFunction, typeof_row, tostr_row, toliteral_row, toint_row, toobj_row, equal_row, length_row, is_member_row, listappend_row, listinsert_row, listdelete_row, listset_row, setadd_row, setremove_row, index_row, rindex_row, strcmp_row, strsub_row, abs_row, min_row, max_row, takes, of_one, of_two, of_three, row}
 use Rattle.spec_value.proofs.Entries.{first_holds, second_holds, both_hold}
-use Rattle.spec_values_kept.specs.Values.{IsValue, AreValues, AnswerHolds, UnaryGives, BinaryGives, IndexesGive, RangesGive, ItemsPut, RangesPut, Each, IfThere, AreData, ScatteringHolds, ScattersGive, CallsGive}
+use Rattle.spec_values_kept.specs.Values.{IsValue, AreValues, AnswerHolds, IsKept, AnswerKept, UnaryGives, BinaryGives, IndexesGive, IndexesKeep, RangesGive, RangesKeep, ItemsPut, RangesPut, Each, IfThere, AreData, ScatteringHolds, ScattersGive, ScatteringKept, ScattersKeep, CallsGive}
 use Rattle.spec_values_kept.proofs.Texts.{text_then, text_onto, text_take, text_drop, CharacterHolds, text_at, text_with as text_put, literal_text, texts_joined, text_replaced}
+use Rattle.spec_values_kept.proofs.Nesting.{kept_value, answer_value, allowed_kept, first_kept, kept_item, first_ones_kept, later_ones_kept}
 use Rattle.spec_values_kept.proofs.Numbers.{wrapped_in_range, cast_in_range, below_in_range, remainder_in_range, min_in_range, max_in_range, or_zero_in_range}
 
 -- ---- lists of values
@@ -78,14 +79,14 @@ later_ones (suc n) (item x xs) h = later_ones n xs (later_data x xs h)
 
 -- ---- answers
 
-pub limit_gives : (v : Datum) → IsValue v → AnswerHolds (limited v)
-limit_gives v h = go (is_allowed v)
+pub limit_gives : (v : Datum) → IsValue v → AnswerKept (limited v)
+limit_gives v h = go (is_allowed v) refl
   where
-    go : (b : Bool) → AnswerHolds (if b then gives v else raises limit_exceeded)
-    go true = h
-    go false = tt
+    go : (b : Bool) → is_allowed v ≡ b → AnswerKept (if b then gives v else raises limit_exceeded)
+    go true e = allowed_kept v e h
+    go false e = tt
 
-pub limited_gives : (a : Answer) → AnswerHolds a → AnswerHolds (limited_answer a)
+pub limited_gives : (a : Answer) → AnswerHolds a → AnswerKept (limited_answer a)
 limited_gives (gives v) h = limit_gives v h
 limited_gives (raises e) h = tt
 
@@ -96,27 +97,27 @@ truth_value false = refl
 pub count_value : (n : ℕ) → IsValue (count n)
 count_value n = below_in_range (min n (2 ^ 31 - 1)) (omega arith)
 
-counted_value : (o : Option ℕ) → IsValue (counted o)
+counted_value : (o : Option ℕ) → IsKept (counted o)
 counted_value None = count_value 0
 counted_value (Some n) = count_value (suc n)
 
 -- ---- operators
 
-quotient_gives : (m n : ℤ) → AnswerHolds (quotient m n)
+quotient_gives : (m n : ℤ) → AnswerKept (quotient m n)
 quotient_gives m n = go (int_eq n (pos 0))
   where
-    go : (b : Bool) → AnswerHolds (if b then raises zero_division else gives (integer (int_wrapping_div w32 m n)))
+    go : (b : Bool) → AnswerKept (if b then raises zero_division else gives (integer (int_wrapping_div w32 m n)))
     go true = tt
     go false = cast_in_range (cast_unsigned w32 (int_div m n))
 
-remainder_gives : (m n : ℤ) → IsTrue (in_number_range m) → AnswerHolds (remainder m n)
+remainder_gives : (m n : ℤ) → IsTrue (in_number_range m) → AnswerKept (remainder m n)
 remainder_gives m n h = go (int_eq n (pos 0))
   where
-    go : (b : Bool) → AnswerHolds (if b then raises zero_division else gives (integer (int_rem m n)))
+    go : (b : Bool) → AnswerKept (if b then raises zero_division else gives (integer (int_rem m n)))
     go true = tt
     go false = remainder_in_range m n h
 
-inverse_gives : (m : ℤ) (n : ℕ) → AnswerHolds (inverse_power m n)
+inverse_gives : (m : ℤ) (n : ℕ) → AnswerKept (inverse_power m n)
 inverse_gives (pos zero) n = tt
 inverse_gives (pos (suc zero)) n = refl
 inverse_gives (pos (suc (suc m))) n = refl
@@ -127,25 +128,25 @@ inverse_gives (negsuc zero) n = go ((n % 2) == 0)
     go false = refl
 inverse_gives (negsuc (suc m)) n = refl
 
-power_gives : (m n : ℤ) → AnswerHolds (power m n)
+power_gives : (m n : ℤ) → AnswerKept (power m n)
 power_gives m (pos n) = cast_in_range ((cast_unsigned w32 m ^ n) % 2 ^ 32)
 power_gives m (negsuc n) = inverse_gives m n
 
-sum_gives : (a b : Datum) → IsValue a → IsValue b → AnswerHolds (sum a b)
+sum_gives : (a b : Datum) → IsValue a → IsValue b → AnswerKept (sum a b)
 sum_gives (integer m) (integer n) h k = wrapped_in_range (m +ℤ n)
 sum_gives (text s) (text t) h k = limit_gives (text (s ++ t)) (text_then s t h k)
 sum_gives _ _ h k = tt
 
 of_integers_gives : (f : ℤ → ℤ → Answer) (a b : Datum) → IsValue a → IsValue b
-    → ((m n : ℤ) → IsTrue (in_number_range m) → IsTrue (in_number_range n) → AnswerHolds (f m n)) → AnswerHolds (of_integers f a b)
+    → ((m n : ℤ) → IsTrue (in_number_range m) → IsTrue (in_number_range n) → AnswerKept (f m n)) → AnswerKept (of_integers f a b)
 of_integers_gives f (integer m) (integer n) h k more = more m n h k
 of_integers_gives f _ _ h k more = tt
 
-compared_gives : (test : Ordering → Bool) (o : Option Ordering) → AnswerHolds (compared test o)
+compared_gives : (test : Ordering → Bool) (o : Option Ordering) → AnswerKept (compared test o)
 compared_gives test None = tt
 compared_gives test (Some o) = truth_value (test o)
 
-membership_gives : (a b : Datum) → AnswerHolds (membership a b)
+membership_gives : (a b : Datum) → AnswerKept (membership a b)
 membership_gives a (list xs) = counted_value (first_place (alike a) xs)
 membership_gives a _ = tt
 
@@ -205,7 +206,45 @@ ranges_give (list xs) (integer a) (integer b) h = go (part_of (item_count xs) a 
     go (Some p) = first_ones (p.1 - p.0) (later_items p.0 xs) (later_ones p.0 xs h)
 ranges_give _ _ _ h = tt
 
-text_with_gives : (t : Text) (o : Option ℕ) (u : Text) → IsTrue (is_text t) → IsTrue (is_text u) → AnswerHolds (text_with t o u)
+-- parts of values that are kept are kept
+
+given_keeps : (o : Option Datum) → IfThere IsKept o → AnswerKept (given o)
+given_keeps None h = tt
+given_keeps (Some v) h = h
+
+character_keeps : (o : Option ℕ) → CharacterHolds o → AnswerKept (character o)
+character_keeps None h = tt
+character_keeps (Some c) h = text_onto c [] h refl
+
+pub indexes_keep : IndexesKeep
+indexes_keep (text t) (integer i) h = go (place_in (length t) i)
+  where
+    go : (o : Option ℕ) → AnswerKept (text_index t o)
+    go None = tt
+    go (Some n) = character_keeps (slice_get t n) (text_at t n h)
+indexes_keep (list xs) (integer i) h = go (place_in (item_count xs) i)
+  where
+    go : (o : Option ℕ) → AnswerKept (list_index xs o)
+    go None = tt
+    go (Some n) = given_keeps (item_at xs n) (kept_item xs n h)
+indexes_keep _ _ h = tt
+
+pub ranges_keep : RangesKeep
+ranges_keep (text t) (integer a) (integer b) h = go (part_of (length t) a b)
+  where
+    go : (o : Option (ℕ × ℕ)) → AnswerKept (text_part t o)
+    go None = tt
+    go (Some p) = text_take (p.1 - p.0) (drop p.0 t) (text_drop p.0 t h)
+ranges_keep (list xs) (integer a) (integer b) h = go (part_of (item_count xs) a b)
+  where
+    go : (o : Option (ℕ × ℕ)) → AnswerKept (list_part xs o)
+    go None = tt
+    go (Some p) = first_ones_kept (p.1 - p.0) (later_items p.0 xs) (later_ones_kept p.0 xs h)
+ranges_keep _ _ _ h = tt
+
+-- with a part replaced, they are limited
+
+text_with_gives : (t : Text) (o : Option ℕ) (u : Text) → IsTrue (is_text t) → IsTrue (is_text u) → AnswerKept (text_with t o u)
 text_with_gives t None u h k = tt
 text_with_gives t (Some i) [] h k = tt
 text_with_gives t (Some i) (c ∷ []) h k = limit_gives (text (slice_set t i c)) (text_put t i c h (first_holds (is_character c) true k))
@@ -215,7 +254,7 @@ pub items_put : ItemsPut
 items_put (text t) (integer i) (text u) h k = text_with_gives t (place_in (length t) i) u h k
 items_put (list xs) (integer i) v h k = go (place_in (item_count xs) i)
   where
-    go : (o : Option ℕ) → AnswerHolds (list_with_item xs o v)
+    go : (o : Option ℕ) → AnswerKept (list_with_item xs o v)
     go None = tt
     go (Some n) = limit_gives (list (with_item xs n v)) (item_put xs n v h k)
 items_put _ _ _ h k = tt
@@ -223,12 +262,12 @@ items_put _ _ _ h k = tt
 pub ranges_put : RangesPut
 ranges_put (text t) (integer a) (integer b) (text u) h k = go (cut_of (length t) a b)
   where
-    go : (o : Option (ℕ × ℕ)) → AnswerHolds (text_with_part t o u)
+    go : (o : Option (ℕ × ℕ)) → AnswerKept (text_with_part t o u)
     go None = tt
     go (Some p) = limit_gives (text (take p.0 t ++ (u ++ drop p.1 t))) (text_then (take p.0 t) (u ++ drop p.1 t) (text_take p.0 t h) (text_then u (drop p.1 t) k (text_drop p.1 t h)))
 ranges_put (list xs) (integer a) (integer b) (list ys) h k = go (cut_of (item_count xs) a b)
   where
-    go : (o : Option (ℕ × ℕ)) → AnswerHolds (list_with_part xs o ys)
+    go : (o : Option (ℕ × ℕ)) → AnswerKept (list_with_part xs o ys)
     go None = tt
     go (Some p) =
         limit_gives (list (joined (first_items p.0 xs) (joined ys (later_items p.1 xs))))
@@ -256,6 +295,26 @@ scatters_give ks (list xs) h = go (goes_to ks (item_count xs))
     go true = shares_hold ks _ _ xs h
     go false = tt
 scatters_give ks _ h = tt
+
+first_kept_share : (xs : Data) → IsKept (list xs) → IfThere IsKept (first_of xs)
+first_kept_share no_data h = tt
+first_kept_share (item x xs) h = first_kept x xs h
+
+shares_kept : (ks : List TargetKind) (filled left : ℕ) (xs : Data) → IsKept (list xs) → Each (IfThere IsKept) (shares ks filled left xs)
+shares_kept [] filled left xs h = tt
+shares_kept (required_target ∷ ks) filled left xs h = (first_kept_share xs h, shares_kept ks filled left (later_items 1 xs) (later_ones_kept 1 xs h))
+shares_kept (optional_target ∷ ks) zero left xs h = (tt, shares_kept ks zero left xs h)
+shares_kept (optional_target ∷ ks) (suc filled) left xs h = (first_kept_share xs h, shares_kept ks filled left (later_items 1 xs) (later_ones_kept 1 xs h))
+shares_kept (rest_target ∷ ks) filled left xs h = (first_ones_kept left xs h, shares_kept ks filled left (later_items left xs) (later_ones_kept left xs h))
+
+pub scatters_keep : ScattersKeep
+scatters_keep ks (list xs) h = go (goes_to ks (item_count xs))
+  where
+    go : (b : Bool)
+        → ScatteringKept (if b then gets (shares ks (filled_count ks (item_count xs)) (item_count xs - required_count ks - filled_count ks (item_count xs)) xs) else refuses wrong_argument_count)
+    go true = shares_kept ks _ _ xs h
+    go false = tt
+scatters_keep ks _ h = tt
 
 -- ---- functions of values
 
@@ -309,7 +368,7 @@ object_gives (text t) h = signed_in_range (after_mark (without_spaces t))
 object_gives (error e) h = error_in_range e
 object_gives (list xs) h = tt
 
-pub length_gives : (v : Datum) → AnswerHolds (length_of v)
+pub length_gives : (v : Datum) → AnswerKept (length_of v)
 length_gives (text t) = count_value (length t)
 length_gives (list xs) = count_value (item_count xs)
 length_gives (integer n) = tt
@@ -317,7 +376,7 @@ length_gives (object n) = tt
 length_gives (error e) = tt
 
 member_gives : (a b : Datum) → AnswerHolds (is_member a b)
-member_gives a (list xs) = counted_value (first_place (same a) xs)
+member_gives a (list xs) = kept_value (counted (first_place (same a) xs)) (counted_value (first_place (same a) xs))
 member_gives a _ = tt
 
 append_gives : (vs : List Datum) → AreValues vs → AnswerHolds (listappend vs)
@@ -363,11 +422,11 @@ remove_gives (list xs) x h = go (first_place (alike x) xs)
 remove_gives _ _ h = tt
 
 index_gives : (vs : List Datum) → AnswerHolds (index vs)
-index_gives (text s ∷ text t ∷ cs) = counted_value (first_at (case_counts cs) s t)
+index_gives (text s ∷ text t ∷ cs) = kept_value (counted (first_at (case_counts cs) s t)) (counted_value (first_at (case_counts cs) s t))
 index_gives _ = tt
 
 rindex_gives : (vs : List Datum) → AnswerHolds (rindex vs)
-rindex_gives (text s ∷ text t ∷ cs) = counted_value (last_at (case_counts cs) s t)
+rindex_gives (text s ∷ text t ∷ cs) = kept_value (counted (last_at (case_counts cs) s t)) (counted_value (last_at (case_counts cs) s t))
 rindex_gives _ = tt
 
 compared_in_range : (o : Ordering) → IsTrue (in_number_range (compared_number o))
@@ -435,7 +494,7 @@ row_gives toliteral_row vs h = one_gives _ vs h (λ v k. literal_text v k)
 row_gives toint_row vs h = one_gives to_number vs h number_gives
 row_gives toobj_row vs h = one_gives to_object vs h object_gives
 row_gives equal_row vs h = two_give _ vs h (λ v u k l. truth_value (same v u))
-row_gives length_row vs h = one_gives length_of vs h (λ v k. length_gives v)
+row_gives length_row vs h = one_gives length_of vs h (λ v k. answer_value (length_of v) (length_gives v))
 row_gives is_member_row vs h = two_give is_member vs h (λ v u k l. member_gives v u)
 row_gives listappend_row vs h = append_gives vs h
 row_gives listinsert_row vs h = insert_gives vs h
@@ -454,6 +513,6 @@ row_gives max_row vs h = best_gives int_max max_in_range vs h
 pub calls_give : CallsGive
 calls_give f vs h = go (takes f (length vs))
   where
-    go : (b : Bool) → AnswerHolds (if b then limited_answer (row f vs) else raises wrong_argument_count)
+    go : (b : Bool) → AnswerKept (if b then limited_answer (row f vs) else raises wrong_argument_count)
     go true = limited_gives (row f vs) (row_gives f vs h)
     go false = tt

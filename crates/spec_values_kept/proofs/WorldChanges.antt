@@ -1,5 +1,5 @@
 -- Changes of a world of values by values leave a world of values.
-use Rattle.std.proofs.Common.{◌≡◌, ℕ, zero, suc, ℤ, Bool, true, false, List, [], ◌∷◌, ◌++◌, Option, Some, None, refl, if◌then◌else◌}
+use Rattle.std.proofs.Common.{◌≡◌, ◌<◌, ◌^◌, ℕ, zero, suc, length, ap, sym, subst, ℤ, Bool, true, false, List, [], ◌∷◌, ◌++◌, Option, Some, None, IsTrue, refl, if◌then◌else◌}
 use Rattle.std.specs.Ordering.{int_eq, nat_cmp}
 use Rattle.std.specs.Cmp.Lexicographic.{slice_cmp}
 use Rattle.spec_value.specs.Datum.{Datum, object, text, Text, fold_case, ErrorCode, of_list}
@@ -9,7 +9,7 @@ use Rattle.spec_world.specs.World.{World, Object, Slot, Verb, Task, Link, object
 use Rattle.spec_world.specs.Naming.{location_of}
 use Rattle.spec_world.specs.Inherit.{ancestors, slot_of, slot_at, content_of, or_else, first_value, property_value, put_slot, with_slot}
 use Rattle.spec_world.specs.Families.{nowhere, change_at, change_object, changed_each, change_each, heir_slot, heir_slots, slots_at, slots_named, added_slot, with_slots, child_of, next_object, add_child, lose_child, created, is_below, parent_of, heir_of, kept_names, with_heirs, reparented, reparented_each, to_nowhere, out_of_place, recycled_object, recycled, leave_out}
-use Rattle.spec_world.specs.WellFormed.{has_name}
+use Rattle.spec_world.specs.WellFormed.{count, has_name}
 use Rattle.spec_world.specs.Whereabouts.{moved}
 use Rattle.spec_world.specs.Members.{with_own_slot, defining, property_added, not_defining, lose_slot, property_deleted, without_verb, with_verb, verb_added, verb_deleted, verb_changed}
 use Rattle.spec_world.specs.Links.{connection_among, connection_of, open_link, close_link}
@@ -17,9 +17,11 @@ use Rattle.spec_world.specs.VerbsSought.{Sought, first_passing, own_first, found
 use Rattle.spec_world.specs.Permissions as act
 use Rattle.spec_world.specs.Permissions.{may}
 use Rattle.spec_moo.specs.Properties.{objects_listed, BuiltInProperty, own_name, own_owner, own_location, own_contents, programmer_flag, wizard_flag, r_bit, w_bit, f_bit, built_in, built_in_value, writing, found, read_slot, read_valid, read_object, read, with_built_in, Written, wrote, refused, write_built_in, write_slot, write_valid, write_object, write}
-use Rattle.spec_values_kept.specs.Values.{InRange, IsPrinted, IsValue, AreData, Each, IfThere, AnswerHolds}
+use Rattle.spec_values_kept.specs.Values.{items_nest_within, items_are_short, InRange, IsPrinted, AreData, IsKept, Each, IfThere, AnswerKept}
 use Rattle.spec_values_kept.specs.WorldValues.{SlotHolds, VerbHolds, ObjectHolds, TaskHolds, LinkHolds, NumberedHolds, WorldHolds}
+use Rattle.spec_values_kept.specs.UnderWay.{ContentsFew}
 use Rattle.spec_values_kept.proofs.Tables.{each_more, each_filtered, each_put, each_found, numbered_put, number_there, numbered_there, numbered_without}
+use Rattle.spec_values_kept.proofs.Nesting.{list_kept}
 use Rattle.spec_values_kept.proofs.ValuesGiven.{truth_value, onto_data}
 
 -- ---- objects
@@ -94,20 +96,20 @@ slot_holds w o p s one h = go (object_at w o) refl
         let k = object_there w o x h e in
         object_put w o (record x { slots = with_name x.slots (fold_case p) s }) k.0 (other_slots x _ (slot_put x.slots (fold_case p) s one (slots_of_object x k.1)) k.1) h
 
-content_there : (m : Option Slot) → IfThere SlotHolds m → IfThere IsValue (content_of m)
+content_there : (m : Option Slot) → IfThere SlotHolds m → IfThere IsKept (content_of m)
 content_there None h = tt
 content_there (Some s) h = h.1
 
-one_there : (a b : Option Datum) → IfThere IsValue a → IfThere IsValue b → IfThere IsValue (or_else a b)
+one_there : (a b : Option Datum) → IfThere IsKept a → IfThere IsKept b → IfThere IsKept (or_else a b)
 one_there None b h k = k
 one_there (Some v) b h k = h
 
-first_there : (w : World) (os : List ℤ) (p : Text) → WorldHolds w → IfThere IsValue (first_value w os p)
+first_there : (w : World) (os : List ℤ) (p : Text) → WorldHolds w → IfThere IsKept (first_value w os p)
 unfolding first_value
 first_there w [] p h = tt
 first_there w (o ∷ os) p h = one_there (content_of (slot_at w o p)) (first_value w os p) (content_there (slot_at w o p) (slot_there w o p h)) (first_there w os p h)
 
-pub property_there : (w : World) (o : ℤ) (p : Text) → WorldHolds w → IfThere IsValue (property_value w o p)
+pub property_there : (w : World) (o : ℤ) (p : Text) → WorldHolds w → IfThere IsKept (property_value w o p)
 unfolding property_value
 property_there w o p h = first_there w (ancestors w o) p h
 
@@ -150,41 +152,55 @@ pub listed_objects : (os : List ℤ) → Each InRange os → AreData (of_list (o
 listed_objects [] h = refl
 listed_objects (o ∷ os) h = onto_data (object o) (of_list (objects_listed os)) h.0 (listed_objects os h.1)
 
-built_in_gives : (x : Object) (b : BuiltInProperty) → ObjectHolds x → IsValue (built_in_value x b)
-built_in_gives x own_name h = (h.0).0
-built_in_gives x own_owner h = ((h.0).1).0
-built_in_gives x own_location h = (((h.0).1).1).1
-built_in_gives x own_contents h = listed_objects x.contents ((h.1).1).0
-built_in_gives x programmer_flag h = truth_value x.header.is_programmer
-built_in_gives x wizard_flag h = truth_value x.header.is_wizard
-built_in_gives x r_bit h = truth_value x.header.readable
-built_in_gives x w_bit h = truth_value x.header.writable
-built_in_gives x f_bit h = truth_value x.header.fertile
+objects_nest : (n : ℕ) (os : List ℤ) → IsTrue (items_nest_within n (of_list (objects_listed os)))
+objects_nest n [] = refl
+objects_nest n (o ∷ os) = objects_nest n os
 
-pub read_gives : (w : World) (who : ℤ) (a b : Datum) → WorldHolds w → AnswerHolds (read w who a b)
+objects_are_short : (os : List ℤ) → IsTrue (items_are_short (of_list (objects_listed os)))
+objects_are_short [] = refl
+objects_are_short (o ∷ os) = objects_are_short os
+
+objects_counted : (os : List ℤ) → count (of_list (objects_listed os)) ≡ length os
+objects_counted [] = refl
+objects_counted (o ∷ os) = ap suc (objects_counted os)
+
+built_in_gives : (x : Object) (b : BuiltInProperty) → ObjectHolds x → length x.contents < 2 ^ 31 → IsKept (built_in_value x b)
+built_in_gives x own_name h l = (h.0).0
+built_in_gives x own_owner h l = ((h.0).1).0
+built_in_gives x own_location h l = (((h.0).1).1).1
+built_in_gives x own_contents h l =
+    list_kept (of_list (objects_listed x.contents)) (objects_nest 65535 x.contents) (subst (λ n. n < 2 ^ 31) (sym (objects_counted x.contents)) l) (objects_are_short x.contents)
+    (listed_objects x.contents ((h.1).1).0)
+built_in_gives x programmer_flag h l = truth_value x.header.is_programmer
+built_in_gives x wizard_flag h l = truth_value x.header.is_wizard
+built_in_gives x r_bit h l = truth_value x.header.readable
+built_in_gives x w_bit h l = truth_value x.header.writable
+built_in_gives x f_bit h l = truth_value x.header.fertile
+
+pub read_gives : (w : World) (who : ℤ) (a b : Datum) → WorldHolds w → ContentsFew w → AnswerKept (read w who a b)
 unfolding read
-read_gives w who (object o) (text p) h = go (object_at w o) (objects_there w o h)
+read_gives w who (object o) (text p) h few = go (object_at w o) refl (objects_there w o h)
   where
-    there : (m : Option Datum) → IfThere IsValue m → AnswerHolds (found m)
+    there : (m : Option Datum) → IfThere IsKept m → AnswerKept (found m)
     there None k = tt
     there (Some v) k = k
 
-    allowed_if : (b : Bool) (a : Answer) (e : ErrorCode) → AnswerHolds a → AnswerHolds (if b then a else raises e)
+    allowed_if : (b : Bool) (a : Answer) (e : ErrorCode) → AnswerKept a → AnswerKept (if b then a else raises e)
     allowed_if true a e k = k
     allowed_if false a e k = tt
 
-    slot : (m : Option Slot) → AnswerHolds (read_slot w who o p m)
+    slot : (m : Option Slot) → AnswerKept (read_slot w who o p m)
     slot None = tt
     slot (Some s) = allowed_if (may w who (act.read_slot o p)) _ _ (there (property_value w o p) (property_there w o p h))
 
-    own : (x : Object) (m : Option BuiltInProperty) → ObjectHolds x → AnswerHolds (read_valid w who o p x m)
-    own x (Some b) k = built_in_gives x b k
-    own x None k = slot (slot_at w o p)
+    own : (x : Object) (m : Option BuiltInProperty) → ObjectHolds x → length x.contents < 2 ^ 31 → AnswerKept (read_valid w who o p x m)
+    own x (Some b) k l = built_in_gives x b k l
+    own x None k l = slot (slot_at w o p)
 
-    go : (m : Option Object) → IfThere ObjectHolds m → AnswerHolds (read_object w who o p m)
-    go None k = tt
-    go (Some x) k = own x (built_in p) k
-read_gives w who a b h = tt
+    go : (m : Option Object) → object_at w o ≡ m → IfThere ObjectHolds m → AnswerKept (read_object w who o p m)
+    go None e k = tt
+    go (Some x) e k = own x (built_in p) k (few o x e)
+read_gives w who a b h few = tt
 
 -- ---- properties that are written
 
@@ -192,7 +208,7 @@ abbrev pub WrittenHolds : Written → Type 0
 WrittenHolds (wrote u) = WorldHolds u
 WrittenHolds (refused e) = Unit {0}
 
-written_own : (x : Object) (b : BuiltInProperty) (v : Datum) → IsValue v → ObjectHolds x → IfThere ObjectHolds (with_built_in x b v)
+written_own : (x : Object) (b : BuiltInProperty) (v : Datum) → IsKept v → ObjectHolds x → IfThere ObjectHolds (with_built_in x b v)
 written_own x own_name (text t) k h = ((k, (h.0).1), h.1)
 written_own x own_name v k h = tt
 written_own x own_owner (object o) k h = (((h.0).0, (k, ((h.0).1).1)), h.1)
@@ -204,7 +220,7 @@ written_own x w_bit v k h = h
 written_own x f_bit v k h = h
 written_own x b v k h = h
 
-pub write_holds : (w : World) (who : ℤ) (a b v : Datum) → IsValue v → WorldHolds w → WrittenHolds (write w who a b v)
+pub write_holds : (w : World) (who : ℤ) (a b v : Datum) → IsKept v → WorldHolds w → WrittenHolds (write w who a b v)
 unfolding write
 write_holds w who (object o) (text p) v i h = go (object_at w o) refl
   where
@@ -411,8 +427,8 @@ task_there w i t h e = number_there TaskHolds w.tasks i t (h.1).0 e
 pub task_gone : (w : World) (i : ℤ) → WorldHolds w → WorldHolds (record w { tasks = without w.tasks i })
 task_gone w i h = (h.0, (numbered_without TaskHolds w.tasks i (h.1).0, (h.1).1))
 
-pub link_put : (w : World) (c : ℤ) (k : Link) → InRange c → LinkHolds k → WorldHolds w → WorldHolds (open_link w c k)
-link_put w c k i one h = (h.0, ((h.1).0, (numbered_put LinkHolds w.links c k i one ((h.1).1).0, ((h.1).1).1)))
+pub link_put_holds : (w : World) (c : ℤ) (k : Link) → InRange c → LinkHolds k → WorldHolds w → WorldHolds (open_link w c k)
+link_put_holds w c k i one h = (h.0, ((h.1).0, (numbered_put LinkHolds w.links c k i one ((h.1).1).0, ((h.1).1).1)))
 
 pub link_there : (w : World) (c : ℤ) (k : Link) → WorldHolds w → at w.links c ≡ Some k → InRange c × LinkHolds k
 link_there w c k h e = number_there LinkHolds w.links c k ((h.1).1).0 e

@@ -1,24 +1,25 @@
 -- What a task of a world of values holds that is under way, and what its steps, built-in functions and turns lead to: values again.
-use Rattle.std.specs.Prelude.{◌≤◌, ℕ, ◌+◌, List, IsTrue, nat_le}
+use Rattle.std.specs.Prelude.{◌≡◌, ◌≤◌, ◌<◌, ℕ, ◌+◌, ◌^◌, ℤ, length, List, [], Some, None, IsTrue, nat_le}
 use Rattle.spec_value.specs.Datum.{Datum, list, of_list, Text}
 use Rattle.spec_value.specs.Answer.{is_allowed}
 use Rattle.spec_program.specs.Tree.{Program}
 use Rattle.spec_program.specs.Construct.{Construct, of_expr, of_target, of_default, of_statement, of_program, Piece}
-use Rattle.spec_program.specs.Place.{Linked}
+use Rattle.spec_program.specs.Place.{tree_of, part_at, Linked}
 use Rattle.spec_program.specs.Trees.{is_tree, expr_height, target_height, statement_height, program_height}
 use Rattle.spec_program.specs.Spelling.{canonical_lines}
-use Rattle.spec_world.specs.World.{Native}
-use Rattle.spec_world.specs.WellFormed.{loops}
+use Rattle.spec_world.specs.World.{World, Object, Native, object_at}
+use Rattle.spec_world.specs.WellFormed.{loops, frames}
+use Rattle.spec_world.specs.Agreeing.{ObjectsAgree}
 use Rattle.spec_moo.specs.Scene.{Scene}
-use Rattle.spec_moo.specs.Leaving.{Failure, failure_value, Leaving, leaving_held}
+use Rattle.spec_moo.specs.Leaving.{Failure, failure_value}
 use Rattle.spec_moo.specs.NativeEffect.{Caller, NativeEffect, answers, complains, begins, waits, dies, becomes}
 use Rattle.spec_moo.specs.Natives.{native, native_turn}
 use Rattle.spec_moo.specs.Pending.{Focus, begin, hand, aim, operate, next, leave, Pending, Stop, done, raised, out_of_ticks, waiting, killed, Turned, goes_on, halts}
 use Rattle.spec_moo.specs.Effect.{Effect, hands, errs, takes, ends, leaves, stays, sets, calls, natively}
 use Rattle.spec_moo.specs.Standing.{Stands}
-use Rattle.spec_moo.specs.Turn.{turn}
-use Rattle.spec_values_kept.specs.Values.{InRange, IsPrinted, IsValue, AreData, Each, AreValues, IfThere, AnswerHolds}
-use Rattle.spec_values_kept.specs.WorldValues.{IsNumber, ProgramHolds, CallHolds, HeldBy, FrameHolds, NativeHolds, EntryHolds, WaitingHolds, WorldHolds}
+use Rattle.spec_moo.specs.Turn.{completed, turn}
+use Rattle.spec_values_kept.specs.Values.{InRange, IsPrinted, IsValue, IsKept, AreKept, Each, AreValues, IfThere, AnswerHolds}
+use Rattle.spec_values_kept.specs.WorldValues.{IsNumber, ProgramHolds, CallHolds, LeavingHolds, HeldBy, FrameHolds, NativeHolds, EntriesHold, WaitingHolds, WorldHolds}
 
 -- ---- programs
 
@@ -47,28 +48,26 @@ SceneHolds s = WorldHolds s.world × NumbersHold s
 
 -- ---- a task under way
 
+-- an error where it is raised
 abbrev pub FailureHolds : Failure → Type 0
-FailureHolds f = IsValue (failure_value f)
+FailureHolds f = IsKept (failure_value f) × (f.traceback ≡ [])
 
-abbrev pub LeavingHolds : Leaving → Type 0
-LeavingHolds l = IsValue (leaving_held l)
-
-abbrev pub FocusHolds : Focus → Type 0
-FocusHolds (begin c) = Unit {0}
-FocusHolds (hand v) = IsValue v
-FocusHolds (aim vs) = AreValues vs
-FocusHolds (operate c n vs) = Each (HeldBy c) vs
-FocusHolds next = Unit {0}
-FocusHolds (leave l) = LeavingHolds l
+abbrev pub FocusHolds : ℕ → Focus → Type 0
+FocusHolds around (begin c) = Unit {0}
+FocusHolds around (hand v) = IsKept v
+FocusHolds around (aim vs) = AreKept vs
+FocusHolds around (operate c n vs) = HeldBy around c n vs
+FocusHolds around next = Unit {0}
+FocusHolds around (leave l) = LeavingHolds around l
 
 abbrev pub Holds : Pending → Type 0
-Holds p = InRange p.player × (FocusHolds p.focus × (FrameHolds p.frame × Each EntryHolds p.outer))
+Holds p = InRange p.player × (FocusHolds (frames p.outer) p.focus × (FrameHolds (frames p.outer) p.frame × EntriesHold p.outer))
 
 abbrev pub StopHolds : Stop → Type 0
-StopHolds (done v) = IsValue v
+StopHolds (done v) = IsKept v
 StopHolds (raised f) = Unit {0}
 StopHolds (out_of_ticks ts) = Unit {0}
-StopHolds (waiting why es) = WaitingHolds why × Each EntryHolds es
+StopHolds (waiting why es) = WaitingHolds why × EntriesHold es
 StopHolds killed = Unit {0}
 
 abbrev pub TurnedHolds : Turned → Type 0
@@ -83,22 +82,26 @@ CallerHolds c = InRange c.player × (CallHolds c.call × Each CallHolds c.caller
 abbrev pub NativeGives : NativeEffect → Type 0
 NativeGives (answers s a) = SceneHolds s × AnswerHolds a
 NativeGives (complains s f) = SceneHolds s × FailureHolds f
-NativeGives (begins s n d body args) = SceneHolds s × (NativeHolds n × (CallHolds d × (ProgramHolds body × AreData args)))
+NativeGives (begins s n d body args) = SceneHolds s × (NativeHolds n × (CallHolds d × (ProgramHolds body × IsKept (list args))))
 NativeGives (waits s why) = SceneHolds s × WaitingHolds why
 NativeGives (dies s) = SceneHolds s
 NativeGives (becomes s who) = SceneHolds s × InRange who
 
--- of a construct
-abbrev pub EffectHolds : Construct → Effect → Type 0
-EffectHolds c (hands s v) = SceneHolds s × IsValue v
-EffectHolds c (errs s f) = SceneHolds s × FailureHolds f
-EffectHolds c (takes n vs) = Each (HeldBy c) vs
-EffectHolds c (ends s) = SceneHolds s
-EffectHolds c (leaves l) = LeavingHolds l
-EffectHolds c stays = Unit {0}
-EffectHolds c (sets x v e) = (IsPrinted x × IsValue v) × EffectHolds c e
-EffectHolds c (calls d body args) = CallHolds d × (ProgramHolds body × AreData args)
-EffectHolds c (natively e) = NativeGives e
+-- where no part of that number can be begun, it is done
+abbrev pub TakesHold : ℕ → Construct → ℕ → List Datum → Type 0
+TakesHold around c n vs = HeldBy around c n vs × (tree_of (part_at c n) ≡ None → FocusHolds around (completed c vs))
+
+-- of a construct, with so many verbs waiting outside
+abbrev pub EffectHolds : ℕ → Construct → Effect → Type 0
+EffectHolds around c (hands s v) = SceneHolds s × IsKept v
+EffectHolds around c (errs s f) = SceneHolds s × FailureHolds f
+EffectHolds around c (takes n vs) = TakesHold around c n vs
+EffectHolds around c (ends s) = SceneHolds s
+EffectHolds around c (leaves l) = LeavingHolds around l
+EffectHolds around c stays = Unit {0}
+EffectHolds around c (sets x v e) = (IsPrinted x × IsKept v) × EffectHolds around c e
+EffectHolds around c (calls d body args) = CallHolds d × (ProgramHolds body × IsKept (list args))
+EffectHolds around c (natively e) = NativeGives e
 
 -- ---- laws
 
@@ -111,6 +114,14 @@ NativesHold =
 abbrev pub StagesHold : Type 0
 StagesHold = (s : Scene) (c : Caller) (n : Native) (v : Datum) → SceneHolds s → CallerHolds c → NativeHolds n → IsValue v → NativeGives (native_turn s c n v)
 
--- of each turn of a task that stands in its programs
+-- no object contains as many as there are numbers
+abbrev pub ContentsFew : World → Type 0
+ContentsFew w = (o : ℤ) (x : Object) → object_at w o ≡ Some x → length x.contents < 2 ^ 31
+
+-- as where objects agree
+abbrev pub FewContained : Type 0
+FewContained = (w : World) → ObjectsAgree w → ContentsFew w
+
+-- of each turn of a task that stands in its programs, and for whose innermost verb at most 49 others wait
 abbrev pub TurnsHold : Type 0
-TurnsHold = (s : Scene) (p : Pending) → SceneHolds s → Stands p → Holds p → TurnedHolds (turn s p)
+TurnsHold = (s : Scene) (p : Pending) → SceneHolds s → ContentsFew s.world → frames p.outer ≤ 49 → Stands p → Holds p → TurnedHolds (turn s p)

@@ -1,8 +1,7 @@
 -- A step run over nothing but its reads.
-use Rattle.std.proofs.Common.{◌≡◌, List, [], Option, Some, None, IfSome, sym, ap, subst, ◌∙◌}
-use Rattle.std.specs.Option.{unwrap_or}
+use Rattle.std.proofs.Common.{◌≡◌, List, [], sym, ap, subst, ◌∙◌}
 use Rattle.spec_world.specs.World.{World}
-use Rattle.spec_world.specs.Questions.{Read, Change, Agrees, apply_all}
+use Rattle.spec_world.specs.Questions.{Read, Change, Agrees}
 use Rattle.spec_world.specs.Step.{Step}
 use Rattle.spec_world.specs.Outcome.{Outcome}
 use Rattle.spec_moo.specs.Steps.{play1}
@@ -38,9 +37,3 @@ same_home now before old new empty home is = is ∙ sym (home ∙ ap (λ (t : Tr
 -- which agrees with what was read
 pub home_agrees : (before : World) (t : Trace) (rs : List Read) → before ≡ t.home → rs ≡ t.reads → Agrees t.home t.reads → Agrees before rs
 home_agrees before t rs home reads agrees = rw (home, reads) agrees
-
--- and becomes what came of it, where records have that
-pub records_at : (before : World) (t : Trace) (cs : List Change) (fork : Option World) → before ≡ t.home → cs ≡ t.changes
-    → unwrap_or fork (apply_all t.changes t.home) ≡ apply_all t.changes t.home → IfSome fork (λ d. d ≡ apply_all cs before)
-records_at before t cs None home changes is = tt
-records_at before t cs (Some d) home changes is = rw (home, changes) is

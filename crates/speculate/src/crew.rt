@@ -263,11 +263,10 @@ fn guess_batch<G: Gate>(
     }
 }
 
-// Keeps a guess for a position, without its records, if there is memory for it.
+// Keeps a guess for a position, if there is memory for it.
 fn note(found: &mut Vec<(usize, Guess)>, at: usize, guess: Guess)
     ensures { (w : Plain) → guess.before ≡ w → All (λ f. f.1.before ≡ w) found.old.items → All (λ f. f.1.before ≡ w) found.new.items }
 {
-    let guess = guess.without_records();
     if found.reserve(1).is_ok() {
         found.push_reserved((at, guess));
     }

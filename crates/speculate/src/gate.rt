@@ -21,6 +21,13 @@ pub trait Gate: Sync {
     ) -> Result<Guess, AllocError>
         requires { IsTrue (in_range step.now) }
         ensures { IfOk result (λ g. g.before ≡ snapshot.now) };
+
+    /// Whether it does nothing but guess, so that nobody misses a guess that is not asked for: one worker then tries each step on the world itself. Any other
+    /// gate is asked for each guess.
+    #[inline(always)]
+    fn is_free(&self) -> bool {
+        false
+    }
 }
 
 /// The gate that only guesses.
@@ -36,6 +43,11 @@ impl Gate for Free {
         step: &Step,
     ) -> Result<Guess, AllocError> {
         guess(alloc, snapshot, step)
+    }
+
+    #[inline(always)]
+    fn is_free(&self) -> bool {
+        true
     }
 }
 

@@ -1,7 +1,7 @@
 //! Guesses.
 ghost use Rattle.std.specs.Prelude.{◌≡◌, ◌↔◌, ◌+◌, map, IsTrue, IfOk, IfErr, MatchOption};
 ghost use Rattle.spec_world.specs.World.{World as Plain};
-ghost use Rattle.spec_world.specs.Questions.{Agrees, apply_all};
+ghost use Rattle.spec_world.specs.Questions.{Agrees};
 ghost use Rattle.view.specs.Sound.{IsSound};
 ghost use Rattle.view.specs.Meanings.{change_of};
 ghost use Rattle.speculate.specs.Right.{IsRight, after_guess};
@@ -14,7 +14,6 @@ use task_step::step::Step;
 use view::change::Change;
 use view::part::Part;
 use view::reads::{Changes, Reads};
-use world::draft::Draft;
 use world::live::Live;
 use world::worlds::{Snapshot, World};
 
@@ -25,9 +24,8 @@ pub struct Guess {
     pub(crate) reads: Reads,
     pub(crate) changes: Changes,
     pub(crate) outcome: Outcome,
-    // The world on which it was found, and its records with the changes, if they are kept.
+    // The world on which it was found.
     pub(crate) before: Remembered<Snapshot>,
-    pub(crate) after: Option<Draft>,
 }
 
 /// What is left of a guess that is committed, to be let go where nobody waits for it.
@@ -39,8 +37,7 @@ pub(crate) struct Spent {
 }
 
 impl Model for Guess {
-    ghost use Rattle.std.specs.Prelude.{◌≡◌, IfSome};
-    ghost use Rattle.spec_world.specs.Questions.{Agrees, apply_all};
+    ghost use Rattle.spec_world.specs.Questions.{Agrees};
     ghost use Rattle.speculate.specs.Right.{Guessed, guessed_code, IsRight};
 
     ghost Value = { Guessed };
@@ -50,7 +47,7 @@ impl Model for Guess {
     ghost view = { λ g. record { step = g.step; reads = g.reads; changes = g.changes; outcome = g.outcome; before = g.before.value } };
 
     ghost invariant = { λ g. IsRight record { step = g.step; reads = g.reads; changes = g.changes; outcome = g.outcome; before = g.before.value }
-        × Agrees g.before.value g.reads × IfSome g.after (λ d. d ≡ apply_all g.changes g.before.value) };
+        × Agrees g.before.value g.reads };
 }
 
 impl Guess {
@@ -60,16 +57,6 @@ impl Guess {
         ensures agrees { Agrees self.now.before self.now.reads }
     {
         let _step = &self.step;
-    }
-
-    /// The same guess without the records that came on its snapshot.
-    pub(crate) fn without_records(self) -> Guess
-        ensures { result ≡ self }
-    {
-        Guess {
-            after: None,
-            ..self
-        }
     }
 
     /// Whether it is a guess for this step.
@@ -124,7 +111,6 @@ impl Guess {
             changes,
             outcome,
             before: _,
-            after: _,
         } = self;
         let spent = Spent {
             step,
@@ -146,7 +132,6 @@ impl Guess {
             changes,
             outcome,
             before: _,
-            after: _,
         } = self;
         let mut live = Live::open(world);
         live.put_all(&changes).ok()?;
@@ -162,7 +147,6 @@ impl Guess {
             changes,
             outcome: _,
             before: _,
-            after: _,
         } = self;
         Spent {
             step,
@@ -170,35 +154,6 @@ impl Guess {
             changes,
         }
     }
-
-    /// The world, on which the guess was found, becomes what it became there. After want of memory nothing has changed.
-    pub(crate) fn take_over(self, world: &mut World) -> Option<Outcome>
-        requires before { self.before ≡ world.old.plain }
-        requires sound { IsSound (after_guess self world.old.plain) }
-        ensures { MatchOption result (world.new ≡ world.old) (λ o. (world.new ≡ record { plain = after_guess self world.old.plain; opened = world.old.opened }) × (o ≡ self.outcome)) }
-    {
-        let Guess {
-            step: _,
-            reads: _,
-            changes,
-            outcome,
-            before: _,
-            after,
-        } = self;
-        match after {
-            Some(draft) => world.replace(draft),
-            None => change(world, &changes)?,
-        }
-        Some(outcome)
-    }
-}
-
-// The world has these changes. After want of memory nothing has changed.
-fn change(world: &mut World, changes: &Changes) -> Option<()>
-    requires { IsSound (apply_all changes.now world.old.plain) }
-    ensures { MatchOption result (world.new ≡ world.old) (λ _. world.new ≡ record { plain = apply_all changes.now world.old.plain; opened = world.old.opened }) }
-{
-    world.change(changes).ok()
 }
 
 // Whether no change is to verbs.

@@ -22,13 +22,12 @@ pub fn guess(alloc: Global, snapshot: &Snapshot, step: &Step) -> Result<Guess, A
 {
     let mut view = Tracked::over(alloc, snapshot);
     let outcome = run_step(alloc, &mut view, step)?;
-    let (reads, changes, after) = view.finish();
+    let (reads, changes) = view.finish();
     Ok(Guess {
         step: step.clone()?,
         reads,
         changes,
         outcome,
         before: Remembered::of(snapshot),
-        after,
     })
 }

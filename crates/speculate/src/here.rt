@@ -1,7 +1,9 @@
 //! A list on the caller's thread alone, without a board, without a lock and without threads.
-ghost use Rattle.std.specs.Prelude.{◌≡◌, ◌≤◌, ◌+◌, [], ◌∷◌, length, take, vec_len, vec_capacity, IsTrue, IfOk, IfErr, IfSome, OnErr, MatchOption};
+ghost use Rattle.std.specs.Prelude.{◌≡◌, ◌≤◌, ◌+◌, [], ◌∷◌, length, take, vec_len, vec_capacity, IsTrue, IfOk, IfErr, IfSome, OnOk, OnErr, MatchOption};
+ghost use Rattle.spec_world.specs.Questions.{apply_all};
 ghost use Rattle.spec_world.specs.Step.{AllInRange, in_range};
 ghost use Rattle.spec_moo.specs.Steps.{play1, play};
+ghost use Rattle.view.specs.Sound.{IsSound};
 ghost use Rattle.speculate.specs.BoardState.{runs};
 
 use crate::gate::Gate;
@@ -10,12 +12,16 @@ use crate::held::Mark;
 use crate::report::Report;
 use std::alloc::{AllocError, Global};
 use task_run::list::play_step;
+use task_run::step::run_step;
 use task_step::outcome::Outcome;
 use task_step::partial::{Partial, Refusal, refused};
 use task_step::step::Step;
+use view::reads::Changes;
+use world::alone::Alone;
+use world::draft::Draft;
 use world::worlds::World;
 
-/// Plays the steps one after another, each guessed on the world that those before it left. After want of memory, the first part was run.
+/// Plays the steps one after another, each guessed or, where the gate is free, tried on the world that those before it left. After want of memory, the first part was run.
 pub(crate) fn play_here<G: Gate>(
     alloc: Global,
     gate: &G,
@@ -68,7 +74,7 @@ fn places(alloc: Global, count: usize) -> Result<(Vec<Outcome>, Vec<Mark>), Allo
     Ok((outcomes, marks))
 }
 
-// One step: its guess is kept, or it is run on the world. After an error the world is as it was.
+// One step: it is guessed or tried, and kept, or it is run on the world. After an error the world is as it was.
 #[inline(always)]
 fn step_here<G: Gate>(
     alloc: Global,
@@ -88,9 +94,27 @@ fn step_here<G: Gate>(
     }
 }
 
-// Where a guess comes for the step, the world becomes what it became there.
+// Where the step can be guessed or tried on the world as it is, the world becomes what the step makes of it.
 #[inline(always)]
 fn keep_here<G: Gate>(
+    alloc: Global,
+    gate: &G,
+    world: &mut World,
+    step: &Step,
+    at: usize,
+) -> Option<Outcome>
+    requires { IsTrue (in_range step.now) }
+    ensures { MatchOption result (world.new ≡ world.old) (λ o. (play1 world.old.plain step.now ≡ (world.new.plain, o)) × (world.new.opened ≡ world.old.opened)) }
+{
+    if gate.is_free() {
+        return keep_tried(alloc, world, step);
+    }
+    keep_guessed(alloc, gate, world, step, at)
+}
+
+// The same by the gate's guess on the world as it is.
+#[inline(never)]
+fn keep_guessed<G: Gate>(
     alloc: Global,
     gate: &G,
     world: &mut World,
@@ -108,11 +132,13 @@ fn keep_here<G: Gate>(
         return None;
     }
     guess.know();
-    guess.take_over(world)
+    match guess.keep(world) {
+        Ok((outcome, _spent)) => Some(outcome),
+        Err(_) => None,
+    }
 }
 
 // The gate's guess on the world as it is. Nothing shares the world's records behind it.
-#[inline(always)]
 fn guess_here<G: Gate>(
     alloc: Global,
     gate: &G,
@@ -127,6 +153,57 @@ fn guess_here<G: Gate>(
         return None;
     };
     gate.guess(alloc, at, &snapshot, step).ok()
+}
+
+// The same by the step itself, without a guess.
+#[inline(always)]
+fn keep_tried(alloc: Global, world: &mut World, step: &Step) -> Option<Outcome>
+    requires { IsTrue (in_range step.now) }
+    ensures { MatchOption result (world.new ≡ world.old) (λ o. (play1 world.old.plain step.now ≡ (world.new.plain, o)) × (world.new.opened ≡ world.old.opened)) }
+{
+    let Ok((outcome, changes, after)) = try_here(alloc, world, step) else {
+        return None;
+    };
+    match take_over(world, &changes, after) {
+        Ok(()) => Some(outcome),
+        Err(_) => None,
+    }
+}
+
+// What the step makes of the world: its outcome, the changes, and the records with them, where they were made. The world stays as it is.
+#[inline(always)]
+fn try_here(
+    alloc: Global,
+    world: &World,
+    step: &Step,
+) -> Result<(Outcome, Changes, Option<Draft>), AllocError>
+    requires { IsTrue (in_range step.now) }
+    ensures played { IfOk result (λ r. play1 world.now.plain step.now ≡ (apply_all r.1 world.now.plain, r.0)) }
+    ensures sound { IfOk result (λ r. IsSound (apply_all r.1 world.now.plain)) }
+    ensures after { IfOk result (λ r. IfSome r.2 (λ d. d ≡ apply_all r.1 world.now.plain)) }
+{
+    let mut view = Alone::over(alloc, world);
+    let outcome = run_step(alloc, &mut view, step)?;
+    let (changes, after) = view.finish();
+    Ok((outcome, changes, after))
+}
+
+// The world has these changes, which these records have too, where they were made. After want of memory nothing has changed.
+#[inline(always)]
+fn take_over(world: &mut World, changes: &Changes, after: Option<Draft>) -> Result<(), AllocError>
+    requires sound { IsSound (apply_all changes.now world.old.plain) }
+    requires after { IfSome after (λ d. d ≡ apply_all changes.now world.old.plain) }
+    ensures plain { OnOk result (world.new.plain ≡ apply_all changes.now world.old.plain) }
+    ensures opened { OnOk result (world.new.opened ≡ world.old.opened) }
+    ensures err { OnErr result (world.new ≡ world.old) }
+{
+    match after {
+        Some(draft) => {
+            world.replace(draft);
+            Ok(())
+        }
+        None => world.change(changes),
+    }
 }
 
 // The step is run on the world.

@@ -21,8 +21,8 @@ use Rattle.moo_task.specs.Outcomes.{end_of}
 use Rattle.moo_task.specs.declared.effect.Waiting.{Waiting as WaitingOf}
 use Rattle.moo_task.specs.declared.frame.Frame.{Frame}
 use Rattle.moo_task.specs.declared.outcome.End.{End}
-use Rattle.running.specs.declared.moo_run.stopped.Stop.{Stop as MachineStop}
-use Rattle.running.specs.declared.moo_run.stopped.Stop.TheVariants.{Ends, OutOfTicks, Waits}
+use Rattle.local_code.specs.declared.moo_run.stopped.Stop.{Stop as MachineStop}
+use Rattle.local_code.specs.declared.moo_run.stopped.Stop.TheVariants.{Ends, OutOfTicks, Waits}
 use Rattle.moo_task.specs.declared.deeds.Deeds.{Deeds}
 use Rattle.task_step.specs.OutcomeView.{result_of}
 use Rattle.task_step.specs.declared.outcome.Ending.{Ending}

@@ -22,10 +22,10 @@ use Rattle.moo_task.specs.Frames.{kept_of}
 use Rattle.moo_task.specs.Outcomes.{ticks_of}
 use Rattle.moo_task.specs.declared.deeds.Deeds.{Deeds}
 use Rattle.moo_task.specs.declared.running.Running.{Running}
-use Rattle.running.specs.Stopping.{IsUnderWay, begins, resumes, StopsAsSegment, stop_in, stopped_at}
-use Rattle.running.specs.declared.moo_run.stopped.Stopped.{Stopped}
-use Rattle.running.specs.declared.moo_run.stopped.Stop.{Stop}
-use Rattle.running.specs.declared.moo_run.stopped.Stop.TheVariants.{Ends, OutOfTicks, Waits}
+use Rattle.local_code.specs.Stopping.{IsUnderWay, begins, resumes, StopsAsSegment, stop_in, stopped_at}
+use Rattle.local_code.specs.declared.moo_run.stopped.Stopped.{Stopped}
+use Rattle.local_code.specs.declared.moo_run.stopped.Stop.{Stop}
+use Rattle.local_code.specs.declared.moo_run.stopped.Stop.TheVariants.{Ends, OutOfTicks, Waits}
 use Rattle.moo_task.specs.UnderWay as task
 use Rattle.moo_task.specs.UnderWay.{verb_of}
 use Rattle.moo_task.proofs.Stopped.{stops_are_kept}

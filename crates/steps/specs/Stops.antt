@@ -14,8 +14,8 @@ use Rattle.moo_task.specs.Effects.{waiting_of}
 use Rattle.moo_task.specs.Frames.{kept_of}
 use Rattle.moo_task.specs.Outcomes.{end_of}
 use Rattle.moo_task.specs.declared.deeds.Deeds.{Deeds}
-use Rattle.running.specs.declared.moo_run.stopped.Stop.{Stop}
-use Rattle.running.specs.declared.moo_run.stopped.Stop.TheVariants.{Ends, OutOfTicks, Waits}
+use Rattle.local_code.specs.declared.moo_run.stopped.Stop.{Stop}
+use Rattle.local_code.specs.declared.moo_run.stopped.Stop.TheVariants.{Ends, OutOfTicks, Waits}
 use Rattle.moo_task.specs.Keeping.{HasStopped}
 use Rattle.task_step.specs.OutcomeView.{result_of}
 use Rattle.task_step.specs.declared.outcome.Ending.{Ending}

@@ -152,6 +152,16 @@ pub left_at : (c : shown.Change) (o q : ℤ) (p r : Text) (v : Datum) (w : World
     → slot_on (apply (change_of c) w) q r ≡ Some (Some s)
 left_at c o q p r v w s this other is = ap (λ (x : shown.Change). slot_on (apply (change_of x) w) q r) this ∙ slot_missed o q p r v w s other is
 
+-- ---- answers of a world
+
+pub asked_unseen : {E : Type 0} (r : Result answered.Answer E) (cs : List Change) (w : World) (q : Question) → AllLight cs → is_about_slot q ≡ false
+    → IfOk r (λ a. answer_of a ≡ ask w q) → IfOk r (λ a. answer_of a ≡ ask (apply_all cs w) q)
+asked_unseen (Ok a) cs w q all e is = is ∙ sym (all_unseen cs w q all e)
+asked_unseen (Err x) cs w q all e is = tt
+
+pub asked_absent : (s : Option (Option Slot)) (cs : List Change) (w : World) (o : ℤ) (p : Text) → AllLight cs → slot_told (the_slot s) ≡ None → s ≡ slot_on w o p → the_slot s ≡ the_slot (slot_on (apply_all cs w) o p)
+asked_absent s cs w o p all none is = ap the_slot (sym (all_absent cs w o p s all none (sym is)))
+
 -- ---- copies of answers
 
 pub copy_unseen : {E : Type 0} (r : Result answered.Answer E) (home : Answer) (cs : List Change) (q : Question) → AllLight cs → is_about_slot q ≡ false

@@ -1,6 +1,7 @@
 pub mod Besides
 pub mod Late
 pub mod Trace
+pub mod Amended
 pub mod Counted
 pub mod Counts
 pub mod Numbered

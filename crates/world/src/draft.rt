@@ -232,8 +232,9 @@ impl Draft {
         Some(self.object(number)?.defines())
     }
 
+    /// The slot of a property on an object. Case is ignored.
     #[inline(always)]
-    fn slot(&self, number: i32, name: &Text) -> Option<Option<&Slot>>
+    pub(crate) fn slot(&self, number: i32, name: &Text) -> Option<Option<&Slot>>
         ensures { option_map (λ s. option_map (λ x. x.now) s) result ≡ slot_on self.now number name.now }
     {
         Some(self.object(number)?.slots().get(name))
@@ -506,6 +507,16 @@ impl Draft {
         for change in changes.as_slice() {
             draft.put_kept(change)?;
         }
+        Ok(draft)
+    }
+
+    /// The same records with changes, of which one comes last.
+    #[inline(never)]
+    pub(crate) fn changed_by(&self, changes: &Changes, last: &Change) -> Result<Draft, AllocError>
+        ensures { IfOk result (λ d. d ≡ apply (change_of last.now) (apply_all changes.now self.now)) }
+    {
+        let mut draft = self.changed(changes)?;
+        draft.put_kept(last)?;
         Ok(draft)
     }
 

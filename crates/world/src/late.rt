@@ -7,6 +7,7 @@ ghost use Rattle.view.specs.Meanings.{question_of, answer_of, change_of};
 ghost use Rattle.world.specs.Late.{is_light as is_light_change, AllLight, slot_told as slot_of_answer};
 
 use crate::answers::copied;
+use crate::draft::Draft;
 use moo_value::text::Text;
 use std::alloc::{AllocError, Global};
 use view::change::Change;
@@ -57,6 +58,42 @@ fn slot_answer_after(
             Ok(Answer::Slot(Some(Some(slot))))
         }
         None => copied(alloc, home),
+    }
+}
+
+/// The answer that records have to a question after light changes.
+pub(crate) fn asked_after(
+    home: &Draft,
+    question: &Question,
+    changes: &[Change],
+) -> Result<Answer, AllocError>
+    requires { AllLight (map change_of changes.now) }
+    ensures { IfOk result (λ a. answer_of a ≡ ask (apply_all (map change_of changes.now) home.now) (question_of question.now)) }
+{
+    match question {
+        Question::Slot(object, name) => slot_asked_after(home, *object, name, changes),
+        _ => home.ask(question),
+    }
+}
+
+// The same of a slot.
+#[inline(always)]
+fn slot_asked_after(
+    home: &Draft,
+    object: i32,
+    name: &Text,
+    changes: &[Change],
+) -> Result<Answer, AllocError>
+    requires { AllLight (map change_of changes.now) }
+    ensures { IfOk result (λ a. answer_of a ≡ the_slot (slot_on (apply_all (map change_of changes.now) home.now) object name.now)) }
+{
+    match home.slot(object, name) {
+        Some(Some(slot)) => {
+            let slot = slot_after(object, name, slot, changes)?;
+            Ok(Answer::Slot(Some(Some(slot))))
+        }
+        Some(None) => Ok(Answer::Slot(Some(None))),
+        None => Ok(Answer::Slot(None)),
     }
 }
 

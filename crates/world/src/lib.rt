@@ -3,10 +3,12 @@
 //! A `World` is well formed by its type. Its records are shared with the snapshots that were taken of it. To contracts it is
 //! the plain world of the definitions, and the number of views that were opened to change it. A step reads a world by questions
 //! and changes it by changes, over a `View`: what a generic function proves over a view holds for every world that could have
-//! given the same answers. `Live` is a view of the world itself, whose changes are kept or forgotten at its end; a `Tracked` one
-//! records what was read, so that another thread can check a guess later.
+//! given the same answers. `Live` is a view of the world itself, whose changes are kept or forgotten at its end; `Alone` is one
+//! of a borrowed world, which gives the changes at its end; a `Tracked` one records what was read, so that another thread can check
+//! a guess later.
 #![tactic(auto)]
 
+pub mod alone;
 mod answers;
 mod asked;
 mod choice;
@@ -19,6 +21,7 @@ mod late;
 mod links;
 pub mod live;
 mod moments;
+mod overlay;
 mod pairs;
 pub mod prepared;
 mod questions;

@@ -1,7 +1,7 @@
 //! Worlds and snapshots.
 ghost use Rattle.std.specs.Prelude.{◌≡◌, ◌↔◌, ◌+◌, ◌≤◌, ℕ, negsuc, false, [], max, IfOk, OnOk, OnErr, IsTrue};
-ghost use Rattle.spec_world.specs.Questions.{ask, Agrees, apply, apply_all};
-ghost use Rattle.view.specs.Meanings.{question_of, answer_of, change_of};
+ghost use Rattle.spec_world.specs.Questions.{ask, Agrees, apply_all};
+ghost use Rattle.view.specs.Meanings.{question_of, answer_of};
 ghost use Rattle.view.specs.Sound.{IsSound};
 ghost use Rattle.world.specs.Besides.{AgreesBesides};
 ghost use Rattle.world.specs.Due.{by_moment, due_ids, first_due_from};
@@ -12,7 +12,6 @@ use crate::prepared::Prepared;
 use std::alloc::{AllocError, Global};
 use std::marker::Model;
 use std::snapshot::Snapshot as Remembered;
-use view::change::Change;
 use view::question::{Answer, Question};
 use view::reads::{Changes, Reads};
 
@@ -208,6 +207,14 @@ impl World {
         self.draft.changed(changes)
     }
 
+    /// The records.
+    #[inline(always)]
+    pub(crate) fn records(&self) -> &Draft
+        ensures { result.now ≡ self.now.plain }
+    {
+        &self.draft
+    }
+
     /// The records of the world, with one more owner.
     #[inline(always)]
     pub(crate) fn share(&self) -> Result<Draft, AllocError>
@@ -247,14 +254,12 @@ impl Snapshot {
         self.draft.share()
     }
 
-    /// The records of the snapshot with changes, of which one comes last.
-    #[inline(never)]
-    pub(crate) fn changed_by(&self, changes: &Changes, last: &Change) -> Result<Draft, AllocError>
-        ensures { IfOk result (λ d. d ≡ apply (change_of last.now) (apply_all changes.now self.now)) }
+    /// The records.
+    #[inline(always)]
+    pub(crate) fn records(&self) -> &Draft
+        ensures { result.now ≡ self.now }
     {
-        let mut draft = self.draft.changed(changes)?;
-        draft.put_kept(last)?;
-        Ok(draft)
+        &self.draft
     }
 
     /// The snapshot as a world of its own.

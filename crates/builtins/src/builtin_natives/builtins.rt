@@ -8,8 +8,8 @@ use moo_task::native::Native;
 use moo_task::running::Running;
 use moo_value::text::Text;
 use moo_value::value::Value;
-use running::moo_run::natives::Natives;
 use std::alloc::{AllocError, Global};
+use step_deeds::natives::Natives;
 use view::law::View;
 
 /// The built-in functions (Programmer's Manual, "Built-in Functions").

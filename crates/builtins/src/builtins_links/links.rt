@@ -20,8 +20,8 @@ use moo_value::error::MooError;
 use moo_value::value::Value;
 use rules::permissions::act::Act;
 use rules::permissions::may::may;
-use running::step_deeds::links::{close_connection_of, connection, reader};
 use std::alloc::AllocError;
+use step_deeds::links::{close_connection_of, connection, reader};
 use view::law::View;
 
 /// `boot_player`: the link of an object is closed, if it has one. `E_INVARG` where the object is not there, `E_PERM` where the

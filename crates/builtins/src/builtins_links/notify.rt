@@ -17,8 +17,8 @@ use moo_value::text::Text;
 use moo_value::value::Value;
 use rules::permissions::act::Act;
 use rules::permissions::may::may;
-use running::step_deeds::links::connection;
 use std::alloc::AllocError;
+use step_deeds::links::connection;
 use view::law::View;
 
 /// How many lines of running code a step keeps.

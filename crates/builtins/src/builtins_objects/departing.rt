@@ -8,8 +8,8 @@ ghost use Rattle.view.specs.Law.{Goes, Lasts};
 use crate::builtins_objects::asked::is_there;
 use crate::builtins_objects::recycling::recycle_object;
 use moo_task::deeds::Deeds;
-use running::step_deeds::links::close_connection_of;
 use std::alloc::{AllocError, Global};
+use step_deeds::links::close_connection_of;
 use view::law::View;
 
 /// An object goes, if it is there, once its verb `recycle` has come to an end or where it has none: its link is closed, its children

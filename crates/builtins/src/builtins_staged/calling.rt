@@ -13,8 +13,8 @@ use moo_task::native::Native;
 use moo_value::text::Text;
 use moo_value::value::Value;
 use rules::inherit::verb::{FoundVerb, find_verb};
-use running::moo_objects::calling::callee;
 use std::alloc::AllocError;
+use step_deeds::calling::callee;
 use view::law::View;
 
 /// The call of the verb that a word names on an object, if there is one; the built-in function then waits for its value.

@@ -26,6 +26,7 @@ use moo_value::value::{Shown, Value};
 use rules::access::calling::{called_verb, passed_verb};
 use rules::inherit::verb::{FoundVerb, find_verb};
 use std::alloc::AllocError;
+use step_deeds::calling::callee;
 use view::law::View;
 
 /// What a call of a verb did.
@@ -102,22 +103,6 @@ pub fn pass<V: View>(view: &mut V, call: &Call, state: &mut State) -> Result<Cal
     match found {
         Some(found) => enters_above(call, found, arguments),
         None => complains(call, state, MooError::VerbNotFound),
-    }
-}
-
-/// The call of a verb that was found by its word on an object, from the verb that runs: with the permissions of the found
-/// verb's owner.
-pub fn callee(call: &Call, object: i32, word: Text, found: &FoundVerb) -> Call
-    ensures { result ≡ verb_call call.now object word found.now }
-{
-    let verb = found.verb();
-    Call {
-        this: object,
-        caller: call.this,
-        definer: found.definer(),
-        programmer: verb.owner,
-        verb: word,
-        debug: verb.debug,
     }
 }
 
@@ -251,9 +236,9 @@ fn verb_on<V: View>(
     Ok(Some((entered, program)))
 }
 
-// Whether a value is a list of arguments that does not weigh too much.
+/// Whether a value is a list of arguments that does not weigh too much.
 #[inline(always)]
-fn are_arguments(arguments: &Value) -> bool
+pub fn are_arguments(arguments: &Value) -> bool
     ensures { IsTrue result → AreArguments None arguments.now }
 {
     match arguments.shown() {

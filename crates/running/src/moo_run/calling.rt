@@ -3,13 +3,15 @@ ghost use Rattle.std.specs.Prelude.{◌≡◌, ◌<◌, ◌+◌, ◌^◌, false,
 ghost use Rattle.spec_value.specs.Datum.{Data, list, same_text};
 ghost use Rattle.rules.specs.Lines.{AreAgreeing};
 ghost use Rattle.view.specs.Law.{Goes, Lasts};
-ghost use Rattle.moo_task.specs.Outcomes.{Keeps};
-ghost use Rattle.running.specs.Scenes.{led_at};
+ghost use Rattle.spec_moo.specs.Scene.{Scene};
+ghost use Rattle.moo_task.specs.Outcomes.{led, natively_at, Keeps};
+ghost use Rattle.moo_task.specs.declared.effect.NativeEffect.{NativeEffect};
+ghost use Rattle.local_code.specs.Scenes.{led_at};
 ghost use Rattle.running.specs.Calls.{AreArguments, calls_function_at, calls_native_at};
 
 use crate::moo_asking::asking::pass;
-use crate::moo_run::natives::Natives;
 use moo_task::deeds::Deeds;
+use moo_task::effect::NativeEffect;
 use moo_task::outcome::Outcome;
 use moo_task::running::Running;
 use moo_value::answer::WEIGHT_LIMIT;
@@ -17,6 +19,7 @@ use moo_value::error::MooError;
 use moo_value::text::Text;
 use moo_value::value::{Shown, Value};
 use std::alloc::{AllocError, Global};
+use step_deeds::natives::Natives;
 use view::law::View;
 
 // Why a value is no list of arguments: it is no list, or weighs too much.
@@ -117,6 +120,43 @@ fn call_native<V: View, N: Natives>(
 {
     let items = arguments.into_items(alloc)?;
     let effect = natives.call(alloc, view, deeds, task, name, items)?;
-    let outcome = task.natively(alloc, end, effect)?;
+    let outcome = led_by_effect(alloc, task, end, effect)?;
     Ok(outcome)
+}
+
+// Where the effect of a built-in function leads, whose call ends at a place. A value comes first.
+#[inline(always)]
+fn led_by_effect(
+    alloc: Global,
+    task: &mut Running,
+    end: usize,
+    effect: NativeEffect,
+) -> Result<Outcome, AllocError>
+    ensures led { IfOk result (λ o. (s : Scene) → natively_at task.old s end effect ≡ led o s task.new) }
+    ensures keeps { IfOk result (λ o. Keeps o task.old task.new) }
+{
+    match effect {
+        NativeEffect::Answers(Ok(value)) => led_by_value(alloc, task, end, value),
+        _ => task.natively(alloc, end, effect),
+    }
+}
+
+// The same of a value.
+#[tactic(auto, unfolding(moo_code::specs::Machine::natively_does))]
+#[inline(always)]
+fn led_by_value(
+    alloc: Global,
+    task: &mut Running,
+    end: usize,
+    value: Value,
+) -> Result<Outcome, AllocError>
+    ensures led { IfOk result (λ o. (s : Scene) → natively_at task.old s end (NativeEffect.Answers (Ok value)) ≡ led o s task.new) }
+    ensures keeps { IfOk result (λ o. Keeps o task.old task.new) }
+{
+    if value.weight() > WEIGHT_LIMIT {
+        return task.natively(alloc, end, NativeEffect::Answers(Ok(value)));
+    }
+    task.frame.state.operands.push(value)?;
+    task.frame.state.place = end;
+    Ok(Outcome::On)
 }

@@ -7,7 +7,7 @@ ghost use Rattle.moo_program.specs.Meaning.{some_name_at, body_at};
 ghost use Rattle.rules.specs.Lines.{AreAgreeing};
 ghost use Rattle.view.specs.Law.{Goes, Lasts};
 ghost use Rattle.moo_task.specs.Forking.{forks};
-ghost use Rattle.running.specs.Scenes.{led_at};
+ghost use Rattle.local_code.specs.Scenes.{led_at};
 
 use crate::moo_asking::leading::led_by;
 use moo_task::deeds::Deeds;

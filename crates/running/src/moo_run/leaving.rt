@@ -1,26 +1,24 @@
 //! Out of verbs, into what waits for them.
-ghost use Rattle.std.specs.Prelude.{◌≡◌, ◌<◌, ℕ, length, IfOk, OnOk};
-ghost use Rattle.spec_moo.specs.Scene.{Scene};
-ghost use Rattle.moo_task.specs.Meant.{failure_meant, leaving_meant};
-ghost use Rattle.spec_moo.specs.Leaving.{returned, failed, broken, continued};
+ghost use Rattle.std.specs.Prelude.{◌≡◌, ℕ, IfOk, OnOk};
+ghost use Rattle.moo_task.specs.Meant.{leaving_meant};
+ghost use Rattle.spec_moo.specs.Leaving.{returned, broken, continued};
 ghost use Rattle.rules.specs.Lines.{AreAgreeing};
 ghost use Rattle.view.specs.Law.{Goes, Lasts};
 ghost use Rattle.moo_task.specs.Frames.{native_of};
-ghost use Rattle.moo_task.specs.Outcomes.{led, Keeps};
-ghost use Rattle.running.specs.Scenes.{led_at, IsSettled};
-ghost use Rattle.running.specs.Steps.{out_at, out_in, into_native_at, leaves_at, offered_in, raised_into_in, resumed, Falls};
+ghost use Rattle.local_code.specs.Scenes.{led_at, IsSettled};
+ghost use Rattle.local_code.specs.Steps.{out_at, into_native_at, leaves_at, Falls};
 
-use crate::moo_run::natives::Natives;
-use crate::moo_unwind::offer::Offer;
-use crate::moo_unwind::unwind::leave;
+use local_code::moo_unwind::offer::Offer;
+use local_code::moo_unwind::outward::{offer, raise_out, resume};
 use moo_task::deeds::Deeds;
-use moo_task::frame::{Frame, Outer};
-use moo_task::moo_machine::leaving::{Failure, Leaving};
+use moo_task::frame::Outer;
+use moo_task::moo_machine::leaving::Leaving;
 use moo_task::native::Native;
 use moo_task::outcome::{End, Outcome};
 use moo_task::running::Running;
 use moo_value::value::Value;
 use std::alloc::{AllocError, Global};
+use step_deeds::natives::Natives;
 use view::law::View;
 
 /// A leaving goes out of the verb that runs, into what waits for it.
@@ -72,7 +70,7 @@ fn give_zero<V: View, N: Natives>(
 }
 
 // A value for what waits.
-#[tactic(auto, using(crate::proofs::Out::done_out, crate::proofs::Out::verb_out))]
+#[tactic(auto, using(local_code::proofs::Out::done_out, local_code::proofs::Out::verb_out))]
 fn give_out<V: View, N: Natives>(
     alloc: Global,
     view: &mut V,
@@ -104,7 +102,7 @@ fn give_out<V: View, N: Natives>(
 }
 
 // A value for a built-in function that waited, which goes on for the verb that called it.
-#[tactic(auto, using(crate::proofs::Out::native_out, crate::proofs::Out::native_alone, crate::proofs::Out::native_double))]
+#[tactic(auto, using(local_code::proofs::Out::native_out, local_code::proofs::Out::native_alone, local_code::proofs::Out::native_double))]
 fn give_native<V: View, N: Natives>(
     alloc: Global,
     view: &mut V,
@@ -134,42 +132,8 @@ fn give_native<V: View, N: Natives>(
     }
 }
 
-// An error for the innermost verb that waits; built-in functions let it pass.
-fn raise_out(task: &mut Running, failure: Failure) -> Result<Outcome, AllocError>
-    ensures out { IfOk result (λ o. (s : Scene) → out_in (failed (failure_meant failure)) s task.old ≡ led o s task.new) }
-    ensures falls { IfOk result (λ o. Falls o task.old task.new) }
-{
-    'out: while let Some(outer) = task.outer.pop() {
-        if let Outer::Verb(frame) = outer {
-            return raise_into(task, frame, failure);
-        }
-    }
-    Ok(Outcome::Ends(End::Raised(failure)))
-}
-
-// An error for a verb that waited.
-fn raise_into(task: &mut Running, frame: Frame, failure: Failure) -> Result<Outcome, AllocError>
-    ensures out { IfOk result (λ o. (s : Scene) → raised_into_in frame (failure_meant failure) s task.old ≡ led o s task.new) }
-    ensures keeps { IfOk result (λ o. Keeps o task.old task.new) }
-{
-    let mut failure = failure;
-    resume(task, frame);
-    failure.come_by(task.player, &task.frame.call)?;
-    Ok(Outcome::Leaves(Leaving::Failed(failure)))
-}
-
-/// A verb that waited runs again, with the ticks that are left.
-#[inline(always)]
-pub fn resume(task: &mut Running, frame: Frame)
-    ensures { task.new ≡ resumed task.old frame }
-{
-    let ticks = task.frame.state.ticks;
-    task.frame = frame;
-    task.frame.state.ticks = ticks;
-}
-
 /// An outcome that is no leaving: a leaving goes out of parts and verbs until something takes it, or the task ends.
-#[tactic(auto, using(crate::proofs::Out::leavings_fall))]
+#[tactic(auto, using(local_code::proofs::Out::leavings_fall))]
 pub fn settle<V: View, N: Natives>(
     alloc: Global,
     view: &mut V,
@@ -217,19 +181,4 @@ fn leave_part<V: View, N: Natives>(
         Offer::LacksOperand => Ok(Outcome::LacksOperand),
         Offer::Passed(leaving) => { out_of_verb(alloc, view, natives, deeds, task, leaving) }
     }
-}
-
-// A leaving is offered to the handlers of the verb that runs. Their variables are among those of its program; that it has a slot for each is tested
-// while it runs.
-fn offer(alloc: Global, task: &mut Running, leaving: Leaving) -> Result<Offer, AllocError>
-    ensures offered { IfOk result (λ o. (s : Scene) → led (Outcome.Leaves leaving) s task.old ≡ offered_in o s task.new) }
-    ensures player { task.new.player ≡ task.old.player }
-    ensures outer { task.new.outer ≡ task.old.outer }
-{
-    if task.frame.state.slots.len() != task.frame.names() {
-        return Err(AllocError);
-    }
-    let handlers = task.frame.program.handlers();
-    let offered = leave(alloc, &mut task.frame.state, handlers, leaving)?;
-    Ok(offered)
 }

@@ -3,17 +3,17 @@ ghost use Rattle.std.specs.Prelude.{◌≡◌, IfOk, OnOk};
 ghost use Rattle.rules.specs.Lines.{AreAgreeing};
 ghost use Rattle.view.specs.Law.{Goes, Lasts};
 ghost use Rattle.moo_task.specs.Outcomes.{running_kept};
-ghost use Rattle.running.specs.Stopping.{IsUnderWay, StopsAsSegment, stopped_at};
+ghost use Rattle.local_code.specs.Stopping.{IsUnderWay, StopsAsSegment, stopped_at};
 
 use crate::moo_run::asking::go_asking;
-use crate::moo_run::natives::Natives;
 use crate::moo_run::step::step;
-use crate::moo_run::stopped::{Stop, Stopped};
-use crate::moo_run::tracing::verbs_under_way;
+use local_code::moo_run::stopped::{Stop, Stopped};
+use local_code::moo_run::tracing::verbs_under_way;
 use moo_task::deeds::Deeds;
 use moo_task::outcome::Outcome;
 use moo_task::running::Running;
 use std::alloc::{AllocError, Global};
+use step_deeds::natives::Natives;
 use view::law::View;
 
 /// Runs a task, which begins or goes on behind a call, until it stops.

@@ -6,11 +6,11 @@ ghost use Rattle.moo_value.specs.Answers.{answer_of};
 ghost use Rattle.rules.specs.Lines.{AreAgreeing};
 ghost use Rattle.view.specs.Law.{Goes, Lasts};
 ghost use Rattle.running.specs.Worlds.{Does, answer_stored};
-ghost use Rattle.running.specs.Targets.{count_in as count_in_of};
+ghost use Rattle.local_code.specs.Targets.{count_in as count_in_of};
 
 use crate::moo_objects::properties::store_property;
-use crate::moo_targets::parts::count_in;
 use crate::property_parts::parts::{length_there, write_part};
+use local_code::moo_targets::parts::count_in;
 use moo_program::instruction::Bracket;
 use moo_task::moo_machine::call::Call;
 use moo_task::moo_machine::verb::{Did, State};

@@ -2,13 +2,13 @@
 ghost use Rattle.std.specs.Prelude.{◌≡◌, ◌<◌, length, IfOk, OnOk};
 ghost use Rattle.spec_moo.specs.Effects.Lists.{length_in};
 ghost use Rattle.moo_value.specs.Answers.{answer_of};
-ghost use Rattle.running.specs.Targets.{part_answer, whole_answer};
+ghost use Rattle.local_code.specs.Targets.{part_answer, whole_answer};
 ghost use Rattle.rules.specs.Lines.{AreAgreeing};
 ghost use Rattle.view.specs.Law.{Goes, Lasts, Tells};
 ghost use Rattle.rules.specs.Writing.{IsWritten};
 ghost use Rattle.running.specs.Parts.{part_there, part_written};
 
-use crate::moo_targets::parts::{part, put};
+use local_code::moo_targets::parts::{part, put};
 use moo_program::instruction::Bracket;
 use moo_task::moo_machine::lengths::length as length_of;
 use moo_value::answer::Answer;
@@ -42,7 +42,7 @@ pub fn length_there<V: View>(
 }
 
 // The same of a value, if there is one.
-#[tactic(auto, using(crate::proofs::Puts::none_behind))]
+#[tactic(auto, using(local_code::proofs::Puts::none_behind))]
 fn length_behind(
     alloc: Global,
     whole: Answer,

@@ -19,8 +19,8 @@ use moo_task::deeds::Deeds;
 use moo_value::text::Text;
 use moo_value::value::Value;
 use rules::inherit::verb::FoundVerb;
-use running::moo_run::natives::Natives;
 use std::alloc::{AllocError, Global};
+use step_deeds::natives::Natives;
 use task_step::outcome::Outcome;
 use view::law::View;
 

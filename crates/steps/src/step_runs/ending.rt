@@ -14,6 +14,7 @@ ghost use Rattle.task_step.specs.OutcomeView.{result_of};
 ghost use Rattle.view.specs.Law.{Goes, Lasts};
 ghost use Rattle.steps.specs.Stops.{CanBeKept, Settles, SettlesAs};
 
+use local_code::moo_run::stopped::Stop;
 use moo_task::deeds::Deeds;
 use moo_task::effect::Waiting;
 use moo_task::frame::Frame;
@@ -22,10 +23,9 @@ use moo_task::outcome::End;
 use moo_task::outers::Outers;
 use moo_task::task::Task;
 use moo_task::task_telling::lines::{failure_lines, out_of_ticks_lines};
-use running::moo_run::stopped::Stop;
-use running::step_deeds::queue::enqueue;
-use running::step_deeds::telling::tell;
 use std::alloc::{AllocError, Global};
+use step_deeds::queue::enqueue;
+use step_deeds::telling::tell;
 use task_step::outcome::Ending;
 use view::law::View;
 

@@ -15,8 +15,8 @@ use crate::step_runs::run::{Ran, run_task};
 use crate::step_tasks::outcome::outcome;
 use moo_task::deeds::Deeds;
 use moo_task::running::Running;
-use running::moo_run::natives::Natives;
 use std::alloc::{AllocError, Global};
+use step_deeds::natives::Natives;
 use task_step::outcome::Outcome;
 use view::law::View;
 

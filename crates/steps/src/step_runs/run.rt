@@ -11,12 +11,12 @@ ghost use Rattle.steps.specs.Stops.{HasRun, left_at};
 ghost use Rattle.steps.specs.Tasks.{MayRun};
 
 use crate::step_runs::ending::after_stop;
+use local_code::moo_run::stopped::{Stop, Stopped};
 use moo_task::deeds::Deeds;
 use moo_task::running::Running;
-use running::moo_run::natives::Natives;
 use running::moo_run::run::run;
-use running::moo_run::stopped::{Stop, Stopped};
 use std::alloc::{AllocError, Global};
+use step_deeds::natives::Natives;
 use task_step::outcome::Ending;
 use view::law::View;
 

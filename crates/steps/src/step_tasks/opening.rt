@@ -11,8 +11,8 @@ ghost use Rattle.steps.specs.Opens.{IsOpening};
 use crate::step_tasks::outcome::outcome;
 use moo_task::deeds::Deeds;
 use moo_value::text::Text;
-use running::step_deeds::telling::tell_on;
 use std::alloc::{AllocError, Global};
+use step_deeds::telling::tell_on;
 use task_step::outcome::{Ending, Outcome};
 use task_step::step::Step;
 

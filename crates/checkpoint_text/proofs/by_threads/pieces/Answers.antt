@@ -2,7 +2,7 @@ use denote.Param.Send.{sendable}
 use Rattle.std.proofs.Common.{◌≡◌, ℕ, ℤ, List, max, ap, ◌∙◌, ◌<◌, string_bytes, arith}
 use Rattle.std.proofs.Crossing.{crosses}
 use Rattle.std.specs.List.{flat_map}
-use Rattle.rayon.specs.Lists.{chunks_of, chunks_size, chunks_slice}
+use Rattle.rayon.specs.Lists.{chunks_of, chunks_size, chunks_slice, min_len_base}
 use Rattle.world.proofs.Crossing.{snapshot_sync}
 use Rattle.checkpoint_text.specs.Parts.{objects_text}
 use Rattle.checkpoint_text.proofs.Crossing.{shortcut_sync}
@@ -27,9 +27,10 @@ returns g c =
     let h = c.in_ok-collect.ensures in
     let chain = h.1 in
     let cut =
-    chain.1 ∙ ap (λ it. chunks_of (max (chunks_size it) 1) (chunks_slice it)) c.map.ensures.base
+    chain.1 ∙ ap (λ it. chunks_of (max (chunks_size (min_len_base it)) 1) (chunks_slice (min_len_base it))) c.map.ensures.base
+    ∙ ap (λ it. chunks_of (max (chunks_size it) 1) (chunks_slice it)) c.with_min_len.ensures.base
     ∙ ap (λ (n : ℕ). chunks_of (max n 1) (chunks_slice c.par_chunks.result)) c.par_chunks.ensures.size
-    ∙ ap (λ (js : List ℤ). chunks_of (max 128 1) js) c.par_chunks.ensures.slice in
-    let some : 0 < 128 = omega arith in
+    ∙ ap (λ (js : List ℤ). chunks_of (max 32 1) js) c.par_chunks.ensures.slice in
+    let some : 0 < 32 = omega arith in
     all_gathered _ text (λ b. b.now) (λ t. string_bytes t) _ (λ x v e. rw c.map.ensures.f at e) c.in_ok-collect.field-0 (λ v. v.items) chain.0 h.0 chain.2 h.2
-    (text ks) (ap (λ kss. flat_map text kss) cut ∙ objects_in_pieces w 128 ks some)
+    (text ks) (ap (λ kss. flat_map text kss) cut ∙ objects_in_pieces w 32 ks some)

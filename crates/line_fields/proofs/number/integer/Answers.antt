@@ -1,36 +1,13 @@
-use Rattle.std.proofs.Common.{◌≡◌, true, ap, ◌∙◌, sym, w32}
-use Rattle.std.specs.Fmt.{signed_decimal}
-use Rattle.std.proofs.lemmas.Fmt.{parse-signed_decimal, IsAscii-signed}
-use Rattle.std.proofs.lemmas.Str.{IsUtf8-from_ascii}
-use Rattle.std.proofs.lemmas.Int.{to_z-of_z}
-use Rattle.moo_value.proofs.Numbers.{small_magnitude, fits_number}
-use Rattle.line_fields.specs.Numbers.{is_plain_number, behind_sign}
-use Rattle.line_fields.proofs.Numbers.{plain_signed, no_minus_zero}
+use Rattle.std.proofs.Common.{◌≡◌, Some, false, IsTrue, ap, subst, sym, ◌∙◌}
+use Rattle.spec_value.specs.Datum.{in_number_range}
+use Rattle.line_fields.specs.Numbers.{is_signed}
+use Rattle.line_fields.proofs.Numbers.{unsigned_of}
 use Rattle.line_fields.proofs.number.integer.Goals as goal
 
-pub returns-then-not-is_plain : goal.returns-then-not-is_plain
-returns-then-not-is_plain c = record {
+pub returns-else-has_sign : goal.returns-else-has_sign
+returns-else-has_sign c = record {
   reads = λ z h e.
-      let plain : c.is_plain.result ≡ true = c.is_plain.ensures ∙ ap is_plain_number (c.digits_behind_sign.ensures ∙ ap behind_sign e) ∙ plain_signed z h in
-      absurd (cc (plain, c.if-not-is_plain.true));
-}
-
-pub returns-then-is_minus_zero : goal.returns-then-is_minus_zero
-returns-then-is_minus_zero c = record { reads = λ z h e. absurd (no_minus_zero z h (sym e ∙ c.is_minus_zero.ensures c.if-is_minus_zero.true)) }
-
-pub returns-in_default : goal.returns-in_default
-returns-in_default c = record { reads = λ z h e. absurd (c.in_default.ensures.cases.0 (rw e (IsUtf8-from_ascii (signed_decimal z) (IsAscii-signed z (small_magnitude z h))))) }
-
-pub returns-in-Ok-parse : goal.returns-in-Ok-parse
-returns-in-Ok-parse c = record {
-  reads = λ z h e.
-      let read = parse-signed_decimal w32 z c.in-Ok.number.now c.parse.result (fits_number z h) (small_magnitude z h) (c.in-Ok.ensures.cases.0 ∙ e) c.parse.ensures.value.0 in
-      let same : c.in-Ok-parse.number ≡ z = cc (read, c.in-Ok-parse.is) in rw (same, to_z-of_z w32 z (fits_number z h));
-}
-
-pub returns-in-Err : goal.returns-in-Err
-returns-in-Err c = record {
-  reads = λ z h e.
-      let read = parse-signed_decimal w32 z c.in-Ok.number.now c.parse.result (fits_number z h) (small_magnitude z h) (c.in-Ok.ensures.cases.0 ∙ e) c.parse.ensures.value.0 in
-      absurd (cc (read, c.in-Err.is));
+      let no_sign : is_signed c.args.text.now ≡ false = sym c.has_sign.ensures ∙ c.if-has_sign.false in
+      let u = unsigned_of z c.args.text.now no_sign e in
+      c.unsigned.ensures.reads u.0 (subst (λ y. IsTrue (in_number_range y)) u.1 h) u.2 ∙ ap Some (sym u.1);
 }

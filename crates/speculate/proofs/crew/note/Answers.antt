@@ -6,6 +6,5 @@ use Rattle.speculate.proofs.crew.note.Goals as goal
 pub returns-then-is_ok : goal.returns-then-is_ok
 returns-then-is_ok c w same h =
     let P : ℕ × Guess → Type 0 = λ f. f.1.before ≡ w in
-    let guess = c.without_records-guess.result in
-    let items : c.push_reserved.new.self.items ≡ c.args.found.now.items ++ (c.args.at, guess) ∷ [] = c.push_reserved.ensures.items ∙ ap (λ (xs : List (ℕ × Guess)). xs ++ (c.args.at, guess) ∷ []) c.reserve.ensures.items in
-    subst (All P) (sym items) (All-push P c.args.found.now.items (c.args.at, guess) h (ap (λ (g : Guess). g.before) c.without_records-guess.ensures ∙ same))
+    let items : c.push_reserved.new.self.items ≡ c.args.found.now.items ++ (c.args.at, c.args.guess) ∷ [] = c.push_reserved.ensures.items ∙ ap (λ (xs : List (ℕ × Guess)). xs ++ (c.args.at, c.args.guess) ∷ []) c.reserve.ensures.items in
+    subst (All P) (sym items) (All-push P c.args.found.now.items (c.args.at, c.args.guess) h same)

@@ -1,5 +1,5 @@
 use Rattle.std.proofs.Common.{◌≡◌}
-use Rattle.speculate.proofs.Recorded.{right_at, same_home, home_agrees, records_at}
+use Rattle.speculate.proofs.Recorded.{right_at, same_home, home_agrees}
 use Rattle.speculate.proofs.guessing.guess.Goals as goal
 
 pub invariant_of-result : goal.invariant_of-result
@@ -10,7 +10,6 @@ invariant_of-result c =
     c.finish-reads.ensures.reads c.finish-reads.ensures.changes c.in_ok-outcome.ensures.played in (
       right,
       home_agrees c.of.result.value c.run_step.new.view c.finish-reads.result.0 home c.finish-reads.ensures.reads c.finish-reads.ensures.agrees,
-      records_at c.of.result.value c.run_step.new.view c.finish-reads.result.1 c.finish-reads.result.2 home c.finish-reads.ensures.changes c.finish-reads.ensures.fork,
     )
 
 pub returns-clause-right : goal.returns-clause-right

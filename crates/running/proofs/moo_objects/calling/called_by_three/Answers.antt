@@ -2,7 +2,7 @@ use Rattle.std.proofs.Common.{◌≡◌, refl, [], ◌∷◌, take, reverse, Opt
 use Rattle.std.specs.Prelude.{IfOk, IfSome}
 use Rattle.running.specs.Called.{HasCall}
 use Rattle.running.proofs.Entering.{has_call, called_as}
-use Rattle.running.proofs.Tops.{three_on_top}
+use Rattle.local_code.proofs.Tops.{three_on_top}
 use Rattle.running.proofs.moo_objects.calling.called_by_three.Goals as goal
 
 some_way : {X E : Type 0} (P : Type 0) (r : Result (Option X) E) → P → IfOk r (λ o. IfSome o (λ d. P))

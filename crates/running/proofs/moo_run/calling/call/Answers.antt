@@ -1,6 +1,6 @@
 use Rattle.std.proofs.Common.{◌≡◌, ◌∙◌, sym, true, codes}
 use Rattle.spec_value.specs.Datum.{same_text}
-use Rattle.running.proofs.Oks.{if_ok}
+use Rattle.local_code.proofs.Oks.{if_ok}
 use Rattle.running.proofs.Steps.{calls_there}
 use Rattle.running.proofs.moo_run.calling.call.Goals as goal
 

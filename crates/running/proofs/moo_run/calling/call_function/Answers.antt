@@ -4,7 +4,7 @@ use Rattle.moo_value.specs.Errors.{code_of}
 use Rattle.moo_task.proofs.Next.{next_place}
 use Rattle.moo_task.specs.Outcomes.{around, fails_at}
 use Rattle.running.specs.Calls.{calls_native_at}
-use Rattle.running.specs.Scenes.{scene_at}
+use Rattle.local_code.specs.Scenes.{scene_at}
 use Rattle.running.proofs.Calls.{paid, call_is_paid, refused_call, native_call}
 use Rattle.running.proofs.moo_run.calling.call_function.Goals as goal
 

@@ -3,7 +3,7 @@ use Rattle.spec_world.specs.World.{World}
 use Rattle.moo_task.specs.Forking.{fork_shown, ReadsNowhere}
 use Rattle.moo_task.specs.declared.moo_forks.fork.Fork.{Fork}
 use Rattle.moo_task.specs.declared.outcome.Outcome.TheVariants.{On}
-use Rattle.running.specs.Scenes.{scene_at, led_at}
+use Rattle.local_code.specs.Scenes.{scene_at, led_at}
 use Rattle.running.proofs.Steps.{queued_agree}
 use Rattle.running.proofs.moo_run.forking.fork.Goals as goal
 

@@ -1,8 +1,8 @@
 use Rattle.std.proofs.Common.{◌∙◌, ap, ◌∷◌}
 use Rattle.moo_task.specs.Frames.{native_of, outer_of}
 use Rattle.moo_task.specs.declared.frame.Outer.{Outer}
-use Rattle.running.specs.Scenes.{scene_at}
-use Rattle.running.proofs.Out.{native_back}
+use Rattle.local_code.specs.Scenes.{scene_at}
+use Rattle.local_code.proofs.Out.{native_back}
 use Rattle.running.proofs.moo_run.leaving.give_native.Goals as goal
 
 pub returns-in_ok-outcome-in-Some-Verb-clause-out : goal.returns-in_ok-outcome-in-Some-Verb-clause-out

@@ -2,9 +2,9 @@ use Rattle.std.proofs.Common.{◌∙◌, ap, sym}
 use Rattle.spec_value.specs.Datum.{Datum}
 use Rattle.spec_moo.specs.Leaving.{returned}
 use Rattle.moo_task.specs.Outcomes.{ticks_of}
-use Rattle.running.specs.Scenes.{scene_at}
-use Rattle.running.specs.Steps.{out_at}
-use Rattle.running.proofs.Out.{broken_out, continued_out}
+use Rattle.local_code.specs.Scenes.{scene_at}
+use Rattle.local_code.specs.Steps.{out_at}
+use Rattle.local_code.proofs.Out.{broken_out, continued_out}
 use Rattle.running.proofs.moo_run.leaving.give_zero.Goals as goal
 
 pub returns-clause-broken : goal.returns-clause-broken

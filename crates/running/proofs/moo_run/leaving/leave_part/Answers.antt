@@ -1,8 +1,8 @@
 use Rattle.std.proofs.Common.{◌∙◌, ap}
-use Rattle.running.specs.Scenes.{scene_at}
-use Rattle.running.specs.Steps.{offered_in}
-use Rattle.running.specs.declared.moo_unwind.offer.Offer.{Offer}
-use Rattle.running.proofs.Oks.{if_ok}
+use Rattle.local_code.specs.Scenes.{scene_at}
+use Rattle.local_code.specs.Steps.{offered_in}
+use Rattle.local_code.specs.declared.moo_unwind.offer.Offer.{Offer}
+use Rattle.local_code.proofs.Oks.{if_ok}
 use Rattle.running.proofs.moo_run.leaving.leave_part.Goals as goal
 
 pub returns-in-Taken-clause-out : goal.returns-in-Taken-clause-out

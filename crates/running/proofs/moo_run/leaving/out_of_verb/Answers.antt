@@ -1,8 +1,8 @@
 use Rattle.std.proofs.Common.{◌∙◌, ap}
 use Rattle.moo_task.specs.Meant.{leaving_meant}
 use Rattle.moo_task.specs.declared.moo_machine.leaving.Leaving.{Leaving}
-use Rattle.running.specs.Steps.{out_at}
-use Rattle.running.proofs.Oks.{if_ok}
+use Rattle.local_code.specs.Steps.{out_at}
+use Rattle.local_code.proofs.Oks.{if_ok}
 use Rattle.running.proofs.moo_run.leaving.out_of_verb.Goals as goal
 
 pub returns-in-Broken-clause-out : goal.returns-in-Broken-clause-out

@@ -1,8 +1,8 @@
 use Rattle.std.proofs.Common.{◌≡◌}
 use Rattle.spec_world.specs.World.{World}
 use Rattle.rules.specs.Lines.{AreAgreeing}
-use Rattle.running.specs.Scenes.{led_at}
-use Rattle.running.specs.Steps.{leavings}
+use Rattle.local_code.specs.Scenes.{led_at}
+use Rattle.local_code.specs.Steps.{leavings}
 use Rattle.running.proofs.moo_run.leaving.settle.Given as goal
 
 abbrev pub invariant-leaving : goal.invariant-leaving

@@ -7,9 +7,9 @@ use Rattle.moo_code.specs.Lasting.{lasting}
 use Rattle.moo_code.specs.Runs.{ran, IsOver}
 use Rattle.moo_task.specs.Outcomes.{ticks_of, running_kept}
 use Rattle.moo_task.specs.declared.outcome.Outcome.{Outcome}
-use Rattle.running.specs.Scenes.{scene_at, led_at}
-use Rattle.running.specs.Stopping.{bound_of, begun_at}
-use Rattle.running.proofs.Running.{comes_on, comes_first, comes_onward, over_onward, falls_onward, falls_on, over_on, operands_there, over_first, stops, step_to}
+use Rattle.local_code.specs.Scenes.{scene_at, led_at}
+use Rattle.local_code.specs.Stopping.{bound_of, begun_at}
+use Rattle.local_code.proofs.Running.{comes_on, comes_first, comes_onward, over_onward, falls_onward, falls_on, over_on, operands_there, over_first, stops, step_to}
 use Rattle.running.proofs.moo_run.run.run.Goals as goal
 
 pub instructions-init : goal.instructions-init

@@ -3,7 +3,7 @@ use Rattle.spec_world.specs.World.{World}
 use Rattle.rules.specs.Lines.{AreAgreeing}
 use Rattle.moo_code.specs.Runs.{ran, IsOver}
 use Rattle.moo_code.specs.Lasting.{lasting}
-use Rattle.running.specs.Stopping.{bound_of, begun_at, Comes}
+use Rattle.local_code.specs.Stopping.{bound_of, begun_at, Comes}
 use Rattle.running.proofs.moo_run.run.run.Given as goal
 
 abbrev pub invariant-instructions : goal.invariant-instructions

@@ -3,7 +3,7 @@ use Rattle.std.proofs.lemmas.List.{length-reverse, length-take}
 use Rattle.spec_world.specs.World.{Call}
 use Rattle.moo_code.specs.Instruction as code
 use Rattle.moo_task.specs.Shown.{answered_of}
-use Rattle.running.specs.Targets.{count_in}
+use Rattle.local_code.specs.Targets.{count_in}
 use Rattle.running.specs.Worlds.{answer_stored}
 use Rattle.running.proofs.Asking.{stored_so}
 use Rattle.running.specs.Parts.{part_written}

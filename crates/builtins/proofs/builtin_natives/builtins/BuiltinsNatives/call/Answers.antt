@@ -1,5 +1,5 @@
 use Rattle.std.proofs.Common.{◌∙◌}
-use Rattle.running.specs.Scenes.{scene_at, caller_of}
+use Rattle.local_code.specs.Scenes.{scene_at, caller_of}
 use Rattle.builtins.proofs.builtin_natives.builtins.BuiltinsNatives.call.Goals as goal
 
 pub returns-clause-does : goal.returns-clause-does

@@ -1,0 +1,17 @@
+use Rattle.std.proofs.Common.{◌∙◌, ap, sym, []}
+use Rattle.moo_code.specs.Instruction.{store, in_variable}
+use Rattle.moo_code.specs.Names.{names_of}
+use Rattle.moo_program.specs.Meaning.{bracketed, base_of, name_at, some_name_at}
+use Rattle.moo_task.specs.Shown.{performs_of}
+use Rattle.moo_task.proofs.Performing.{name_there}
+use Rattle.local_code.proofs.moo_stores.perform.store.Goals as goal
+
+pub returns : goal.returns
+returns c a h =
+    let s = c.args.state.now in
+    let names = names_of a.program in
+    let brackets = c.args.shape.now.brackets.items in
+    ap (λ o. performs_of a c.args.call.now (store (bracketed brackets (base_of (some_name_at names o)))) [] s) c.in-Some.is
+    ∙ ap (λ n. performs_of a c.args.call.now (store (bracketed brackets (in_variable (name_at names n)))) [] s) (sym c.in_ok-slot.ensures.slot)
+    ∙ ap (λ bs. performs_of a c.args.call.now (store (bracketed bs (in_variable (name_at names c.in_ok-slot.slot)))) [] s) (sym c.as_slice.ensures.value)
+    ∙ c.in_ok-did.ensures a (name_at names c.in_ok-slot.slot) (name_there a c.args.names c.in_ok-slot.slot h c.in_ok-slot.ensures.named)

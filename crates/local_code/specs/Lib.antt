@@ -1,0 +1,11 @@
+pub mod Targets
+pub mod Giving
+pub mod Putting
+pub mod Taking
+pub mod Offers
+pub mod Scenes
+pub mod Steps
+pub mod Stopping
+pub mod Onward
+pub mod Appending
+pub mod Numbers

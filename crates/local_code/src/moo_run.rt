@@ -1,0 +1,11 @@
+//! The loop of the machine as far as it asks nothing of the world: instructions one after another, where a run stops, and the verbs
+//! that are then under way.
+mod append;
+mod numbers;
+pub mod onward;
+pub mod parts;
+mod returning;
+mod simple;
+pub mod stopped;
+mod top;
+pub mod tracing;

@@ -1,0 +1,84 @@
+//! A text that is read, and what was read of it.
+use moo_tree::expression::{Argument, Expression, Item};
+use moo_tree::statement::{Arm, Branch, Statement};
+use std::alloc::{AllocError, Global};
+
+/// An expression, and how many nodes a path of it has at most.
+#[derive(Drop)]
+pub struct Found {
+    pub expression: Expression,
+    pub height: usize,
+}
+
+/// A place in a text, and what was read before it and stands in nothing else yet, the last of each kind at the end.
+///
+/// A text that is not spelled as most programs are, or nests too deep, is refused, and so is each where memory runs out: nothing of it is left then, and
+/// what is still made is of no use.
+#[derive(Drop)]
+pub struct Reader<'a> {
+    pub alloc: Global,
+    /// What is left of the text.
+    pub rest: &'a [u8],
+    pub is_refused: bool,
+    /// Whether memory ran out.
+    pub lacks_memory: bool,
+    /// How high the highest of the expressions is that were taken for the next one.
+    pub below: usize,
+    pub expressions: Vec<Found>,
+    pub arguments: Vec<Argument>,
+    pub items: Vec<Item>,
+    pub statements: Vec<Statement>,
+    pub branches: Vec<Branch>,
+    pub arms: Vec<Arm>,
+}
+
+impl<'a> Reader<'a> {
+    /// A text of which nothing was read.
+    pub fn new(alloc: Global, text: &'a [u8]) -> Reader<'a> {
+        Reader {
+            alloc,
+            rest: text,
+            is_refused: false,
+            lacks_memory: false,
+            below: 0,
+            expressions: Vec::new(alloc),
+            arguments: Vec::new(alloc),
+            items: Vec::new(alloc),
+            statements: Vec::new(alloc),
+            branches: Vec::new(alloc),
+            arms: Vec::new(alloc),
+        }
+    }
+
+    /// Refuses the text.
+    pub fn refuse(&mut self) {
+        self.is_refused = true;
+        self.rest = &[];
+    }
+
+    /// What was made, if there was memory for it.
+    pub fn kept<T, F: Drop>(&mut self, made: Result<T, F>) -> Option<T> {
+        match made {
+            Ok(made) => Some(made),
+            Err(_) => {
+                self.lacks_memory = true;
+                self.refuse();
+                None
+            }
+        }
+    }
+
+    /// Those that were cut off, if there was memory for them.
+    pub fn many<T: Drop>(&mut self, cut: Result<Vec<T>, AllocError>) -> Vec<T> {
+        match self.kept(cut) {
+            Some(all) => all,
+            None => Vec::new(self.alloc),
+        }
+    }
+}
+
+/// Takes the last ones away, so many.
+pub fn cut_off<T>(all: &mut Vec<T>, count: usize) -> Result<Vec<T>, AllocError> {
+    let at = all.len().saturating_sub(count);
+    all.split_off(at)
+}

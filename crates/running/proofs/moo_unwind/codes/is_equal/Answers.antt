@@ -1,5 +1,0 @@
-use Rattle.moo_value.proofs.Sameness.{equal_is}
-use Rattle.running.proofs.moo_unwind.codes.is_equal.Goals as goal
-
-pub returns : goal.returns
-returns c = equal_is c.args.left.now c.args.right.now c.equal.result c.equal.ensures

@@ -1,5 +1,0 @@
-//! What catches a leaving in a part of a program, and how: the handlers around the place of a verb, by the values that their constructs hold.
-mod arms;
-mod codes;
-pub mod offer;
-pub mod unwind;

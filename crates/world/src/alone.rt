@@ -1,0 +1,77 @@
+//! A view of a world that nobody else changes meanwhile.
+ghost use Rattle.std.specs.Prelude.{◌≡◌, [], IfOk, OnOk};
+ghost use Rattle.std.specs.Option.{unwrap_or};
+ghost use Rattle.spec_world.specs.Questions.{ask, apply, apply_all};
+ghost use Rattle.view.specs.Meanings.{question_of, answer_of, change_of};
+ghost use Rattle.view.specs.Sound.{IsSound};
+ghost use Rattle.view.specs.Law.{Goes, Keeps};
+ghost use Rattle.world.specs.Amended.{amended_now};
+
+use crate::draft::Draft;
+use crate::overlay::Overlay;
+use crate::worlds::World;
+use std::alloc::{AllocError, Global};
+use std::marker::Model;
+use view::change::Change;
+use view::law::View;
+use view::question::{Answer, Question};
+use view::reads::Changes;
+
+/// A view of a world, which is borrowed and stays as it is. It keeps the changes, and nothing of what was read.
+#[derive(Drop)]
+pub struct Alone<'w> {
+    overlay: Overlay<'w>,
+}
+
+impl<'w> Model for Alone<'w> {
+    ghost use Rattle.world.specs.Amended.{Amended, amended_code};
+
+    ghost Value = { Amended };
+
+    ghost coded = { amended_code };
+
+    ghost view = { λ a. a.overlay };
+}
+
+impl<'w> Alone<'w> {
+    /// A view with nothing changed.
+    #[inline(always)]
+    pub fn over(alloc: Global, world: &'w World) -> Alone<'w>
+        ensures empty { result ≡ record { home = world.now.plain; changes = [] } }
+        ensures sound { IsSound world.now.plain }
+    {
+        world.know();
+        Alone {
+            overlay: Overlay::over(alloc, world.records()),
+        }
+    }
+
+    /// What is to change, and the records with the changes, where they were made.
+    #[inline(always)]
+    pub fn finish(self) -> (Changes, Option<Draft>)
+        ensures changes { result.0 ≡ self.entry.changes }
+        ensures fork { unwrap_or result.1 (apply_all self.entry.changes self.entry.home) ≡ apply_all self.entry.changes self.entry.home }
+    {
+        let Alone { overlay } = self;
+        overlay.finish()
+    }
+}
+
+impl<'w> View for Alone<'w> {
+    ghost holds = { λ a w. w ≡ a.home };
+
+    ghost now = { λ a _. amended_now a };
+
+    ghost home = { λ a. a.home };
+
+    ghost anchor = { λ _. (0, 0) };
+
+    fn get(&mut self, question: &Question) -> Result<Answer, AllocError> {
+        self.overlay.ask(question)
+    }
+
+    #[tactic(auto, using(crate::proofs::History::apply_all_last))]
+    fn put(&mut self, change: Change) -> Result<(), AllocError> {
+        self.overlay.put(change)
+    }
+}

@@ -1,0 +1,194 @@
+//! Changes over records that stay as they are.
+ghost use Rattle.std.specs.Prelude.{◌≡◌, ◌++◌, ◌∷◌, [], false, None, IsTrue, IfOk, OnOk, OnErr};
+ghost use Rattle.std.specs.Option.{unwrap_or};
+ghost use Rattle.spec_world.specs.World.{World as Plain};
+ghost use Rattle.spec_world.specs.Questions.{ask, apply, apply_all};
+ghost use Rattle.view.specs.Meanings.{question_of, answer_of, change_of};
+ghost use Rattle.world.specs.Late.{is_light as is_light_change, AllLight};
+ghost use Rattle.world.specs.Amended.{amended_now};
+ghost use Rattle.world.specs.Trace.{AnswersAlike};
+
+use crate::answers::copied;
+use crate::draft::Draft;
+use crate::late::{answer_after, asked_after, is_light};
+use std::alloc::{AllocError, Global};
+use std::marker::Model;
+use view::change::Change;
+use view::question::{Answer, Question};
+use view::reads::Changes;
+
+// So many changes are asked through, one after another, before records are made of them.
+const FEW: usize = 4;
+
+/// Changes over the records of a world, its home, which stay as they are.
+#[derive(Drop)]
+pub(crate) struct Overlay<'h> {
+    home: &'h Draft,
+    // The records with the changes. None where these are few and light, so that answers follow without them.
+    fork: Option<Draft>,
+    // Whether a question may see that there are changes.
+    seen: bool,
+    changes: Changes,
+    alloc: Global,
+}
+
+impl<'h> Model for Overlay<'h> {
+    ghost use Rattle.std.specs.Prelude.{◌≡◌, false, None};
+    ghost use Rattle.std.specs.Option.{unwrap_or};
+    ghost use Rattle.world.specs.Late.{AllLight};
+    ghost use Rattle.world.specs.Amended.{Amended, amended_code};
+    ghost use Rattle.world.specs.Trace.{AnswersAlike};
+    ghost use Rattle.spec_world.specs.Questions.{apply_all};
+
+    ghost Value = { Amended };
+
+    ghost coded = { amended_code };
+
+    ghost view = { λ a. record { home = a.home.now; changes = a.changes } };
+
+    ghost invariant = { λ a. (unwrap_or a.fork (apply_all a.changes a.home.now) ≡ apply_all a.changes a.home.now) × (a.fork ≡ None → AllLight a.changes) × (a.seen ≡ false → AnswersAlike (apply_all a.changes a.home.now) a.home.now) };
+}
+
+impl<'h> Overlay<'h> {
+    /// Nothing changed.
+    #[inline(always)]
+    pub(crate) fn over(alloc: Global, home: &'h Draft) -> Overlay<'h>
+        ensures { result ≡ record { home = home.now; changes = [] } }
+    {
+        Overlay {
+            home,
+            fork: None,
+            seen: false,
+            changes: Changes::new(alloc),
+            alloc,
+        }
+    }
+
+    /// The changes, and the records with them, where they were made.
+    #[inline(always)]
+    pub(crate) fn finish(self) -> (Changes, Option<Draft>)
+        ensures changes { result.0 ≡ self.entry.changes }
+        ensures fork { unwrap_or result.1 (amended_now self.entry) ≡ amended_now self.entry }
+    {
+        let Overlay {
+            home: _,
+            fork,
+            seen: _,
+            changes,
+            alloc: _,
+        } = self;
+        (changes, fork)
+    }
+
+    /// The home's answer to a question.
+    #[inline(always)]
+    pub(crate) fn ask_home(&self, question: &Question) -> Result<Answer, AllocError>
+        ensures { IfOk result (λ a. answer_of a ≡ ask self.now.home (question_of question.now)) }
+    {
+        self.home.ask(question)
+    }
+
+    /// The answer now to a question.
+    #[inline(always)]
+    pub(crate) fn ask(&self, question: &Question) -> Result<Answer, AllocError>
+        ensures { IfOk result (λ a. answer_of a ≡ ask (amended_now self.now) (question_of question.now)) }
+    {
+        if !self.seen {
+            return self.home.ask(question);
+        }
+        match &self.fork {
+            Some(draft) => draft.ask(question),
+            None => asked_after(self.home, question, self.changes.as_slice()),
+        }
+    }
+
+    /// The answer now to a question, to which the home has this answer.
+    #[inline(always)]
+    pub(crate) fn answer(&self, question: &Question, home: &Answer) -> Result<Answer, AllocError>
+        requires { answer_of home.now ≡ ask self.now.home (question_of question.now) }
+        ensures { IfOk result (λ a. answer_of a ≡ ask (amended_now self.now) (question_of question.now)) }
+    {
+        if !self.seen {
+            return copied(self.alloc, home);
+        }
+        match &self.fork {
+            Some(draft) => draft.ask(question),
+            None => answer_after(self.alloc, question, home, self.changes.as_slice()),
+        }
+    }
+
+    /// A change. After an `Err` nothing is known of the changes.
+    #[inline(always)]
+    #[tactic(auto, using(crate::proofs::History::apply_all_last, crate::proofs::History::unseen_last))]
+    pub(crate) fn put(&mut self, change: Change) -> Result<(), AllocError>
+        ensures home { self.new.home ≡ self.old.home }
+        ensures changes { OnOk result (self.new.changes ≡ self.old.changes ++ change_of change ∷ []) }
+    {
+        put_on(self.home, &mut self.fork, &self.changes, &change)?;
+        let seen = self.seen || is_seen(&change);
+        if self.changes.push(change).is_err() {
+            forget(&mut self.fork, &mut self.changes, self.alloc);
+            return Err(AllocError);
+        }
+        self.seen = seen;
+        Ok(())
+    }
+}
+
+// Whether a question may see a change.
+#[tactic(auto, using(crate::proofs::History::next_unseen))]
+fn is_seen(change: &Change) -> bool
+    ensures { result ≡ false → (w : Plain) → AnswersAlike (apply (change_of change.now) w) w }
+{
+    !matches!(change, Change::Next(_))
+}
+
+// One change more of a fork of a home, where there is one or it takes one.
+fn put_on(
+    home: &Draft,
+    fork: &mut Option<Draft>,
+    changes: &Changes,
+    change: &Change,
+) -> Result<(), AllocError>
+    requires fork { unwrap_or fork.old (apply_all changes.now home.now) ≡ apply_all changes.now home.now }
+    requires light { fork.old ≡ None → AllLight changes.now }
+    ensures ok { OnOk result (unwrap_or fork.new (apply (change_of change.now) (apply_all changes.now home.now)) ≡ apply (change_of change.now) (apply_all changes.now home.now)) }
+    ensures light { OnOk result (fork.new ≡ None → AllLight changes.now × IsTrue (is_light_change (change_of change.now))) }
+    ensures err { OnErr result (fork.new ≡ fork.old) }
+{
+    match fork {
+        Some(draft) => draft.put_kept(change),
+        None => begin(home, fork, changes, change),
+    }
+}
+
+// The same where there is none yet: few light changes take none.
+fn begin(
+    home: &Draft,
+    fork: &mut Option<Draft>,
+    changes: &Changes,
+    change: &Change,
+) -> Result<(), AllocError>
+    requires none { fork.old ≡ None }
+    requires light { AllLight changes.now }
+    ensures ok { OnOk result (unwrap_or fork.new (apply (change_of change.now) (apply_all changes.now home.now)) ≡ apply (change_of change.now) (apply_all changes.now home.now)) }
+    ensures light { OnOk result (fork.new ≡ None → AllLight changes.now × IsTrue (is_light_change (change_of change.now))) }
+    ensures err { OnErr result (fork.new ≡ fork.old) }
+{
+    if is_light(change) && changes.as_slice().len() < FEW {
+        return Ok(());
+    }
+    let draft = home.changed_by(changes, change)?;
+    *fork = Some(draft);
+    Ok(())
+}
+
+// No change is made, and none is to be.
+#[inline(never)]
+fn forget(fork: &mut Option<Draft>, changes: &mut Changes, alloc: Global)
+    ensures fork { fork.new ≡ None }
+    ensures changes { changes.new ≡ [] }
+{
+    *fork = None;
+    *changes = Changes::new(alloc);
+}

@@ -17,7 +17,7 @@ use Rattle.spec_world.specs.Questions.{header_at, verbs_at}
 use Rattle.spec_world.specs.VerbsSought.{Sought, own_first, found_or, first_on}
 use Rattle.spec_world.specs.WellFormed.{comes_out, ends_above, folded_names, defined_on, has_name, slot_names}
 use Rattle.spec_world.specs.Agreeing.{ObjectsAgree}
-use Rattle.rules.specs.Lines.{IsAbove, IsParentIn, IsOwn, from, size}
+use Rattle.rules.specs.Lines.{IsAbove, IsParentIn, IsParentNamed, IsOwn, from, size}
 use Rattle.rules.specs.Sought.{first_among}
 use Rattle.rules.specs.declared.inherit.property.Own.TheVariants.{Settled, Clear}
 
@@ -215,6 +215,9 @@ above_by w o None None sound is by = nobody_above w o sound is
 above_by w o None (Some p) sound is by = cc
 above_by w o (Some h) None sound is by = nothing_above w o by.0 h sound is by.1
 above_by w o (Some h) (Some p) sound is by = parent_above w o p h sound is by
+
+pub above_named : (w : World) (o : ℤ) (named p : Option ℤ) → ObjectsAgree w → option_map (λ h. h.parent) (header_at w o) ≡ named → IsParentNamed named p → IsAbove w o p
+above_named w o named p sound is by = above_by w o (header_at w o) p sound refl (subst (λ q. IsParentNamed q p) (sym is) by)
 
 -- the way to the end of the line grows shorter
 pub nearer : (w : World) (o : ℤ) (p : Option ℤ) → IsAbove w o p → size w p < size w (Some o)

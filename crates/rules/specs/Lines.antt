@@ -1,5 +1,5 @@
 -- What is said of ancestors over a view.
-use Rattle.std.specs.Prelude.{◌≡◌, ℤ, negsuc, List, [], ◌∷◌, length, suc, ℕ, drop, Option, Some, None, is_some, IsTrue, MatchOption}
+use Rattle.std.specs.Prelude.{◌≡◌, ℤ, negsuc, List, [], ◌∷◌, length, suc, ℕ, drop, Option, Some, None, is_some, option_map, IsTrue, MatchOption}
 use Rattle.spec_world.specs.World.{World, Header, Slot}
 use Rattle.spec_world.specs.Inherit.{ancestors}
 use Rattle.rules.specs.Standing.{IsStanding}
@@ -15,10 +15,14 @@ abbrev pub IsAbove : World → ℤ → Option ℤ → Type 0
 IsAbove w o None = drop 1 (ancestors w o) ≡ []
 IsAbove w o (Some p) = ancestors w o ≡ o ∷ ancestors w p
 
--- a header names a parent, unless its number is negative
+-- the number that an object names as its parent's is one, unless it is negative
+abbrev pub IsParentNamed : Option ℤ → Option ℤ → Type 0
+IsParentNamed None p = p ≡ None
+IsParentNamed (Some named) p = MatchOption p ((n : ℕ) × (named ≡ negsuc n)) (λ q. q ≡ named)
+
+-- the parent that a header names
 abbrev pub IsParentIn : Option Header → Option ℤ → Type 0
-IsParentIn None p = p ≡ None
-IsParentIn (Some h) p = MatchOption p ((n : ℕ) × (h.parent ≡ negsuc n)) (λ q. q ≡ h.parent)
+IsParentIn h p = IsParentNamed (option_map (λ x. x.parent) h) p
 
 -- the ancestors from an object on, if there is one
 abbrev pub from : World → Option ℤ → List ℤ

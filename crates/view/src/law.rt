@@ -1,12 +1,15 @@
 //! What a view promises.
-ghost use Rattle.std.specs.Prelude.{◌≡◌, ℕ, IfOk, OnOk};
+ghost use Rattle.std.specs.Prelude.{◌≡◌, ℕ, option_map, IfOk, OnOk};
 ghost use Rattle.spec_world.specs.World.{World};
-ghost use Rattle.spec_world.specs.Questions.{ask, apply};
+ghost use Rattle.spec_world.specs.Inherit.{slot_at};
+ghost use Rattle.spec_world.specs.Questions.{ask, apply, header_at};
 ghost use Rattle.view.specs.Meanings.{question_of, answer_of, change_of};
 ghost use Rattle.view.specs.Law.{Goes, Keeps, Lasts, Tells};
 
 use crate::change::Change;
 use crate::question::{Answer, Question};
+use crate::slot::Slot;
+use moo_value::text::Text;
 use std::alloc::AllocError;
 
 /// A world that a step reads and changes.
@@ -36,6 +39,34 @@ pub trait View {
         ensures kept { IfOk result (λ a. (w : World) → holds self.old w →
             ask w (question_of question.now) ≡ ask (home self.old) (question_of question.now) →
             ask (now self.old w) (question_of question.now) ≡ answer_of a → holds self.new w) };
+
+    /// A property's slot on an object, or None where there is none, as `get` answers. Case is ignored. A view that has it at hand need make no
+    /// question for it.
+    #[tactic(auto, using(crate::proofs::SlotsTold::slot_told, crate::proofs::SlotsTold::no_object_told))]
+    #[inline(always)]
+    fn slot(&mut self, object: i32, name: &Text) -> Result<Option<Slot>, AllocError>
+        ensures lasts { Lasts holds home anchor self.old self.new result }
+        ensures left { IfOk result (λ s. Tells holds now self.old self.new (λ w. slot_at w object name.now ≡ s)) }
+    {
+        match self.get(&Question::Slot(object, name.clone()?))? {
+            Answer::Slot(Some(slot)) => Ok(slot),
+            Answer::Slot(None) => Ok(None),
+            _ => unreachable!(),
+        }
+    }
+
+    /// The parent that an object names, or None where there is no such object, as `get` answers. A negative number names none.
+    #[inline(always)]
+    fn parent(&mut self, object: i32) -> Result<Option<i32>, AllocError>
+        ensures lasts { Lasts holds home anchor self.old self.new result }
+        ensures left { IfOk result (λ p. Tells holds now self.old self.new (λ w. option_map (λ h. h.parent) (header_at w object) ≡ p)) }
+    {
+        match self.get(&Question::Header(object))? {
+            Answer::Header(Some(header)) => Ok(Some(header.parent)),
+            Answer::Header(None) => Ok(None),
+            _ => unreachable!(),
+        }
+    }
 
     /// A change. After an `Err` the view is only to be dropped or undone.
     fn put(&mut self, change: Change) -> Result<(), AllocError>

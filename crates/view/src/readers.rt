@@ -1,5 +1,5 @@
 //! What is read of a view and written to it, question by question.
-ghost use Rattle.std.specs.Prelude.{◌≡◌, IfOk, OnOk};
+ghost use Rattle.std.specs.Prelude.{◌≡◌, option_map, IfOk, OnOk};
 ghost use Rattle.spec_value.specs.Table.{at};
 ghost use Rattle.spec_world.specs.Inherit.{slot_at};
 ghost use Rattle.spec_world.specs.Listings.{waiting_ids, readers_on, connections_of, connected};
@@ -70,8 +70,17 @@ pub fn read_defines<V: View>(view: &mut V, object: i32) -> Result<Option<Names>,
     }
 }
 
+/// The parent that an object names, or None where there is no such object. A negative number names none.
+#[inline(always)]
+pub fn read_parent<V: View>(view: &mut V, object: i32) -> Result<Option<i32>, AllocError>
+    ensures lasts { Lasts V.holds V.home V.anchor view.old view.new result }
+    ensures left { IfOk result (λ p. Tells V.holds V.now view.old view.new (λ w. option_map (λ h. h.parent) (header_at w object) ≡ p)) }
+    ensures sound { OnOk result (StaysSound V.home V.now view.old view.new) }
+{
+    view.parent(object)
+}
+
 /// A property's slot on an object, or None where there is none. Case is ignored.
-#[tactic(auto, using(crate::proofs::SlotsTold::slot_told, crate::proofs::SlotsTold::no_object_told))]
 #[inline(always)]
 pub fn read_slot<V: View>(
     view: &mut V,
@@ -82,11 +91,7 @@ pub fn read_slot<V: View>(
     ensures left { IfOk result (λ s. Tells V.holds V.now view.old view.new (λ w. slot_at w object name.now ≡ s)) }
     ensures sound { OnOk result (StaysSound V.home V.now view.old view.new) }
 {
-    match view.get(&Question::Slot(object, name.clone()?))? {
-        Answer::Slot(Some(slot)) => Ok(slot),
-        Answer::Slot(None) => Ok(None),
-        _ => unreachable!(),
-    }
+    view.slot(object, name)
 }
 
 /// An object's own verbs, or None where there is no such object.

@@ -20,3 +20,4 @@ pub mod PairsKept
 pub mod PairsWalks
 pub mod LinksKept
 pub mod DueWalks
+pub mod Alike

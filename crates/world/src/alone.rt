@@ -10,12 +10,14 @@ ghost use Rattle.world.specs.Amended.{amended_now};
 use crate::draft::Draft;
 use crate::overlay::Overlay;
 use crate::worlds::World;
+use moo_value::text::Text;
 use std::alloc::{AllocError, Global};
 use std::marker::Model;
 use view::change::Change;
 use view::law::View;
 use view::question::{Answer, Question};
 use view::reads::Changes;
+use view::slot::Slot;
 
 /// A view of a world, which is borrowed and stays as it is. It keeps the changes, and nothing of what was read.
 #[derive(Drop)]
@@ -68,6 +70,14 @@ impl<'w> View for Alone<'w> {
 
     fn get(&mut self, question: &Question) -> Result<Answer, AllocError> {
         self.overlay.ask(question)
+    }
+
+    fn slot(&mut self, object: i32, name: &Text) -> Result<Option<Slot>, AllocError> {
+        self.overlay.slot(object, name)
+    }
+
+    fn parent(&mut self, object: i32) -> Result<Option<i32>, AllocError> {
+        self.overlay.parent(object)
     }
 
     #[tactic(auto, using(crate::proofs::History::apply_all_last))]

@@ -2,6 +2,7 @@
 ghost use Rattle.std.specs.Prelude.{◌≡◌, ◌↔◌, ◌<◌, ℕ, ℤ, pos, negsuc, true, false, [], max, IfOk, OnOk, OnErr, IsTrue, is_some, map, option_map, IsFalse, MatchOption};
 ghost use Rattle.spec_value.specs.Table.{at, with};
 ghost use Rattle.spec_world.specs.World.{object_at, with_object};
+ghost use Rattle.spec_world.specs.Inherit.{slot_at};
 ghost use Rattle.spec_world.specs.Listings.{waiting_ids, readers_on, connections_of, connected};
 ghost use Rattle.spec_world.specs.Questions.{header_at, children_at, contents_at, defines_at, slot_on, verbs_at, the_waiting, the_readers, the_connections, the_connected, ask, Agrees, apply, apply_all, new_part, new_value, new_next};
 ghost use Rattle.view.specs.Meanings.{question_of, answer_of, part_of, change_of};
@@ -238,6 +239,27 @@ impl Draft {
         ensures { option_map (λ s. option_map (λ x. x.now) s) result ≡ slot_on self.now number name.now }
     {
         Some(self.object(number)?.slots().get(name))
+    }
+
+    /// The slot of a property on an object, if there are both, of its own. Case is ignored.
+    #[inline(always)]
+    #[tactic(auto, using(crate::proofs::Alike::slot_found, crate::proofs::Alike::slot_nowhere))]
+    pub(crate) fn own_slot(&self, number: i32, name: &Text) -> Result<Option<Slot>, AllocError>
+        ensures { IfOk result (λ s. s ≡ slot_at self.now number name.now) }
+    {
+        match self.slot(number, name) {
+            Some(Some(slot)) => Ok(Some(slot.clone()?)),
+            Some(None) => Ok(None),
+            None => Ok(None),
+        }
+    }
+
+    /// The parent that an object names, if there is the object.
+    #[inline(always)]
+    pub(crate) fn parent(&self, number: i32) -> Option<i32>
+        ensures { result ≡ option_map (λ h. h.parent) (header_at self.now number) }
+    {
+        Some(self.header(number)?.parent)
     }
 
     fn verbs(&self, number: i32) -> Option<&Verbs>

@@ -1,8 +1,9 @@
 //! Changes over records that stay as they are.
-ghost use Rattle.std.specs.Prelude.{◌≡◌, ◌++◌, ◌∷◌, [], false, None, IsTrue, IfOk, OnOk, OnErr};
+ghost use Rattle.std.specs.Prelude.{◌≡◌, ◌++◌, ◌∷◌, [], false, None, option_map, IsTrue, IfOk, OnOk, OnErr};
 ghost use Rattle.std.specs.Option.{unwrap_or};
 ghost use Rattle.spec_world.specs.World.{World as Plain};
-ghost use Rattle.spec_world.specs.Questions.{ask, apply, apply_all};
+ghost use Rattle.spec_world.specs.Inherit.{slot_at};
+ghost use Rattle.spec_world.specs.Questions.{ask, apply, apply_all, header_at};
 ghost use Rattle.view.specs.Meanings.{question_of, answer_of, change_of};
 ghost use Rattle.world.specs.Late.{is_light as is_light_change, AllLight};
 ghost use Rattle.world.specs.Amended.{amended_now};
@@ -11,11 +12,13 @@ ghost use Rattle.world.specs.Trace.{AnswersAlike};
 use crate::answers::copied;
 use crate::draft::Draft;
 use crate::late::{answer_after, asked_after, is_light};
+use moo_value::text::Text;
 use std::alloc::{AllocError, Global};
 use std::marker::Model;
 use view::change::Change;
 use view::question::{Answer, Question};
 use view::reads::Changes;
+use view::slot::Slot;
 
 // So many changes are asked through, one after another, before records are made of them.
 const FEW: usize = 4;
@@ -99,6 +102,38 @@ impl<'h> Overlay<'h> {
         match &self.fork {
             Some(draft) => draft.ask(question),
             None => asked_after(self.home, question, self.changes.as_slice()),
+        }
+    }
+
+    /// The slot now of a property on an object, if there are both. Case is ignored.
+    #[inline(always)]
+    #[tactic(auto, using(crate::proofs::Alike::slot_alike, view::proofs::SlotsTold::slot_told, view::proofs::SlotsTold::no_object_told))]
+    pub(crate) fn slot(&self, object: i32, name: &Text) -> Result<Option<Slot>, AllocError>
+        ensures { IfOk result (λ s. s ≡ slot_at (amended_now self.now) object name.now) }
+    {
+        if !self.seen {
+            return self.home.own_slot(object, name);
+        }
+        match self.ask(&Question::Slot(object, name.clone()?))? {
+            Answer::Slot(Some(slot)) => Ok(slot),
+            Answer::Slot(None) => Ok(None),
+            _ => unreachable!(),
+        }
+    }
+
+    /// The parent now that an object names, if there is the object.
+    #[inline(always)]
+    #[tactic(auto, using(crate::proofs::Alike::parent_alike))]
+    pub(crate) fn parent(&self, object: i32) -> Result<Option<i32>, AllocError>
+        ensures { IfOk result (λ p. p ≡ option_map (λ h. h.parent) (header_at (amended_now self.now) object)) }
+    {
+        if !self.seen {
+            return Ok(self.home.parent(object));
+        }
+        match self.ask(&Question::Header(object))? {
+            Answer::Header(Some(header)) => Ok(Some(header.parent)),
+            Answer::Header(None) => Ok(None),
+            _ => unreachable!(),
         }
     }
 

@@ -2,12 +2,12 @@
 ghost use Rattle.std.specs.Prelude.{◌≡◌, ℕ, negsuc, IfOk, MatchOption};
 ghost use Rattle.spec_world.specs.Inherit.{ancestors as ancestors_of};
 ghost use Rattle.view.specs.Law.{Lasts, Tells};
-ghost use Rattle.rules.specs.Lines.{AreAgreeing, IsAbove, IsParentIn};
+ghost use Rattle.rules.specs.Lines.{AreAgreeing, IsAbove, IsParentIn, IsParentNamed};
 
 use std::alloc::{AllocError, Global};
 use view::header::Header;
 use view::law::View;
-use view::readers::read_header;
+use view::readers::{read_header, read_parent};
 
 /// An object, its parent, the parent's parent, and so on: empty for an object that is not there.
 pub fn ancestors<V: View>(alloc: Global, view: &mut V, object: i32) -> Result<Vec<i32>, AllocError>
@@ -35,8 +35,19 @@ pub(crate) fn parent<V: View>(view: &mut V, object: i32) -> Result<Option<i32>, 
     ensures lasts { Lasts V.holds V.home V.anchor view.old view.new result }
     ensures left { IfOk result (λ p. Tells V.holds V.now view.old view.new (λ w. IsAbove w object p)) }
 {
-    let header = read_header(view, object)?;
-    Ok(parent_in(&header))
+    let named = read_parent(view, object)?;
+    Ok(parent_named(named))
+}
+
+// The parent of the number that an object names.
+#[inline(always)]
+fn parent_named(named: Option<i32>) -> Option<i32>
+    ensures { IsParentNamed named result }
+{
+    match named {
+        Some(number) => not_negative(number),
+        None => None,
+    }
 }
 
 // The parent that a header names.

@@ -1,0 +1,40 @@
+-- Slots and parents by the answers about them.
+use Rattle.std.proofs.Common.{◌≡◌, ℤ, Option, Some, None, refl}
+use Rattle.std.specs.Prelude.{option_map}
+use Rattle.spec_value.specs.Datum.{Text, fold_case}
+use Rattle.spec_value.specs.Table.{named}
+use Rattle.spec_world.specs.World.{World, Object, Header, Slot, object_at}
+use Rattle.spec_world.specs.Inherit.{slot_of, slot_at}
+use Rattle.spec_world.specs.Questions.{ask, header_at, slot_on, the_header, the_slot, about_header, about_slot}
+use Rattle.world.specs.Trace.{AnswersAlike}
+
+--- a slot, by what is found on its object
+found : (x : Option Object) (p : Text) (s : Option Slot) → option_map (λ y. named y.slots (fold_case p)) x ≡ Some s → slot_of x p ≡ s
+found None p s is = cc
+found (Some x) p s is = cc
+
+pub slot_found : (w : World) (o : ℤ) (p : Text) (s : Option Slot) → slot_on w o p ≡ Some s → slot_at w o p ≡ s
+slot_found w o p s is = found (object_at w o) p s is
+
+nowhere : (x : Option Object) (p : Text) → option_map (λ y. named y.slots (fold_case p)) x ≡ None → slot_of x p ≡ None
+nowhere None p is = refl
+nowhere (Some x) p is = cc
+
+pub slot_nowhere : (w : World) (o : ℤ) (p : Text) → slot_on w o p ≡ None → slot_at w o p ≡ None
+slot_nowhere w o p is = nowhere (object_at w o) p is
+
+--- worlds that answer alike have the same slots and parents
+same_slot : (x y : Option Object) (p : Text) → the_slot (option_map (λ z. named z.slots (fold_case p)) x) ≡ the_slot (option_map (λ z. named z.slots (fold_case p)) y) → slot_of x p ≡ slot_of y p
+same_slot None None p is = refl
+same_slot None (Some y) p is = cc
+same_slot (Some x) None p is = cc
+same_slot (Some x) (Some y) p is = cc
+
+pub slot_alike : (v w : World) (o : ℤ) (p : Text) → AnswersAlike v w → slot_at v o p ≡ slot_at w o p
+slot_alike v w o p alike = same_slot (object_at v o) (object_at w o) p (alike (about_slot o p))
+
+same_parent : (h k : Option Header) → the_header h ≡ the_header k → option_map (λ x. x.parent) h ≡ option_map (λ x. x.parent) k
+same_parent h k is = cc
+
+pub parent_alike : (v w : World) (o : ℤ) → AnswersAlike v w → option_map (λ x. x.parent) (header_at v o) ≡ option_map (λ x. x.parent) (header_at w o)
+parent_alike v w o alike = same_parent (header_at v o) (header_at w o) (alike (about_header o))

@@ -5,11 +5,11 @@ use moo_server::given::Options;
 use moo_server::play::{DONE, FAULT, play_script, read_workers, refuse, stopped};
 use moo_server::words::options;
 use speculate::gate::Free;
-use std::io;
 use std::io::{BufWriter, Write};
 use std::rt::{Env, Files};
 use std::sync::Wait;
 use std::thread::Threads;
+use std::{io, mem};
 use world::worlds::World;
 
 /// Reads the words and runs what they ask for. Gives the status.
@@ -61,10 +61,27 @@ fn run_options<R: Print + Input + AllocGlobal + Files + Threads + Wait + Sync, E
         &mut out,
         errors,
     );
-    match (world, options.out) {
-        (Some(world), Some(name)) if status == DONE => save(rt, name, &world, errors),
-        _ => status,
+    match world {
+        Some(world) => end(rt, options, world, status, errors),
+        None => status,
     }
+}
+
+// Writes the world at the end of a whole run, where that is asked for. The program ends then, and the system takes its memory at once: so the world
+// is not let go record by record.
+fn end<R: AllocGlobal + Files + Threads + Sync, E: Write>(
+    rt: &R,
+    options: &Options,
+    world: World,
+    status: u8,
+    errors: &mut E,
+) -> u8 {
+    let status = match options.out {
+        Some(name) if status == DONE => save(rt, name, &world, errors),
+        _ => status,
+    };
+    mem::forget(world);
+    status
 }
 
 // Writes the world at the end.

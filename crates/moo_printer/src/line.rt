@@ -4,6 +4,7 @@ ghost use Rattle.spec_value.specs.Datum.{integer, is_text};
 ghost use Rattle.spec_value.specs.Literal.{literal};
 ghost use Rattle.spec_program.specs.Spelling.{literal_text};
 
+use itoa::Buffer;
 use moo_value::text::Text;
 use moo_value::value::{Shown, Value};
 use moo_value::write::to_literal;
@@ -58,9 +59,31 @@ impl Line {
     pub fn push_literal(&mut self, value: &Value) -> Result<(), AllocError>
         ensures { OnOk result (self.new ≡ self.old ++ literal_text value.now) }
     {
+        match value.shown() {
+            Shown::Integer(number) => self.push_number(number),
+            _ => self.push_plain_literal(value),
+        }
+    }
+
+    // Adds a number. The least integer is written as the number after the greatest.
+    #[tactic(auto, using(crate::proofs::Digits::text_decimal))]
+    fn push_number(&mut self, number: i32) -> Result<(), AllocError>
+        ensures { OnOk result (self.new ≡ self.old ++ literal_text (integer number)) }
+    {
+        let mut buffer = Buffer::new();
+        let digits = buffer.format(number.unsigned_abs());
+        self.push_str(digits)
+    }
+
+    // Adds a value as values are told.
+    #[tactic(auto, using(moo_value::proofs::Written::text_literal))]
+    fn push_plain_literal(&mut self, value: &Value) -> Result<(), AllocError>
+        ensures { OnOk result (self.new ≡ self.old ++ literal value.now) }
+    {
+        value.know();
         let alloc = *self.characters.allocator();
-        let text = literal_of(alloc, value)?;
-        self.push_text(&text)
+        let text = to_literal(alloc, value)?;
+        self.push_str(text.as_str())
     }
 
     /// The line as a text.
@@ -69,32 +92,4 @@ impl Line {
     {
         Text::from_string(self.characters)
     }
-}
-
-// A literal value. The least integer is written as the number after the greatest.
-fn literal_of(alloc: Global, value: &Value) -> Result<Text, AllocError>
-    ensures { IfOk result (λ t. t ≡ literal_text value.now) }
-{
-    match value.shown() {
-        Shown::Integer(number) => number_of(alloc, number),
-        _ => plain_literal_of(alloc, value),
-    }
-}
-
-#[tactic(auto, using(crate::proofs::Digits::text_decimal))]
-fn number_of(alloc: Global, number: i32) -> Result<Text, AllocError>
-    ensures { IfOk result (λ t. t ≡ literal_text (integer number)) }
-{
-    let magnitude = number.unsigned_abs();
-    let digits = format!(in alloc; "{magnitude}")?;
-    Text::from_string(digits)
-}
-
-#[tactic(auto, using(moo_value::proofs::Written::text_literal))]
-fn plain_literal_of(alloc: Global, value: &Value) -> Result<Text, AllocError>
-    ensures { IfOk result (λ t. t ≡ literal value.now) }
-{
-    value.know();
-    let text = to_literal(alloc, value)?;
-    Text::from_string(text)
 }

@@ -42,14 +42,22 @@ impl<'w> Forked<'w, Draft> {
         Forked { world, fork: None }
     }
 
+    /// The records, with the changes.
+    #[inline(always)]
+    pub(crate) fn records(&self) -> &Draft
+        ensures { result.now ≡ changed_in self.now }
+    {
+        match &self.fork {
+            Some(draft) => draft,
+            None => self.world.records(),
+        }
+    }
+
     /// The answer to a question, with the changes.
     pub fn ask(&self, question: &Question) -> Result<Answer, AllocError>
         ensures { IfOk result (λ a. answer_of a ≡ ask (changed_in self.now) (question_of question.now)) }
     {
-        match &self.fork {
-            Some(draft) => draft.ask(question),
-            None => self.world.ask(question),
-        }
+        self.records().ask(question)
     }
 
     /// One change more.

@@ -7,10 +7,12 @@ ghost use Rattle.world.specs.Forks.{start_of, changed_in, borrow_of};
 
 use crate::draft::Draft;
 use crate::fork::{Fork, Forked};
+use moo_value::text::Text;
 use std::alloc::AllocError;
 use view::change::Change;
 use view::law::View;
 use view::question::{Answer, Question};
+use view::slot::Slot;
 
 /// A view of the world itself.
 pub type Live<'w> = Fork<'w>;
@@ -26,6 +28,14 @@ impl<'w> View for Forked<'w, Draft> {
 
     fn get(&mut self, question: &Question) -> Result<Answer, AllocError> {
         self.ask(question)
+    }
+
+    fn slot(&mut self, object: i32, name: &Text) -> Result<Option<Slot>, AllocError> {
+        self.records().own_slot(object, name)
+    }
+
+    fn parent(&mut self, object: i32) -> Result<Option<i32>, AllocError> {
+        Ok(self.records().parent(object))
     }
 
     fn put(&mut self, change: Change) -> Result<(), AllocError> {

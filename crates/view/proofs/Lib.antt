@@ -4,6 +4,8 @@ pub mod PartsCrossing
 pub mod Named
 pub mod Filled
 pub mod Spots
+pub mod Placed
+pub mod Compared
 pub mod Renumbered
 pub mod SoundKeeps
 pub mod Wholes

@@ -3,6 +3,8 @@ ghost use Rattle.std.specs.Prelude.{◌≡◌, ◌<◌, ◌≤◌, ◌↔◌, If
 ghost use Rattle.spec_value.specs.Datum.{Text as Characters, fold_case};
 ghost use Rattle.spec_world.specs.World.{Slot as SlotOf};
 ghost use Rattle.spec_value.specs.Table.{named, is_named, with_name, without_name};
+ghost use Rattle.std.specs.Ordering.{nat_cmp};
+ghost use Rattle.std.specs.Cmp.Lexicographic.{slice_cmp};
 
 use crate::slot::Slot;
 use moo_value::text::Text;
@@ -10,6 +12,9 @@ use moo_value::value::Value;
 use std::alloc::{AllocError, Global};
 use std::cmp::Ordering;
 use std::marker::Model;
+
+// Up to how many slots a walk finds one as soon as a search by halves.
+const FEW: usize = 8;
 
 /// The slots of an object by their properties' names in lower case, in rising order of names.
 #[derive(Drop)]
@@ -75,10 +80,9 @@ impl Slots {
         ensures ok { OnOk result (self.new ≡ with_name self.old (fold_case name.now) slot) }
         ensures err { OnErr result (self.new ≡ self.old) }
     {
-        let key = folded(alloc, name)?;
-        match spot(&self.entries, key.as_str().as_bytes()) {
-            Ok(index) => self.entries[index] = (key, slot),
-            Err(index) => self.entries.insert(index, (key, slot))?,
+        match spot(&self.entries, name) {
+            Ok(index) => self.entries[index] = (folded(alloc, name)?, slot),
+            Err(index) => self.entries.insert(index, (folded(alloc, name)?, slot))?,
         }
         Ok(())
     }
@@ -136,24 +140,44 @@ impl Clone for Slots {
     }
 }
 
-// A name in lower case.
+// A name in lower case: itself where it is.
 #[tactic(auto, using(crate::proofs::Spots::folded_is_text))]
 fn folded(alloc: Global, name: &Text) -> Result<Text, AllocError>
     ensures { IfOk result (λ t. t ≡ fold_case name.now) }
 {
+    if spells(name, name) {
+        return name.clone();
+    }
     name.know();
     let mut text = String::from_str(alloc, name.as_str())?;
     text.make_ascii_lowercase();
     Text::from_string(text)
 }
 
-// Where the slot of this name in lower case stands, or else before which one it is to come.
-fn spot(entries: &[(Text, Slot)], key: &[u8]) -> Result<usize, usize>
-    ensures there { IfOk result (λ i. (i < length entries.now) × ((s : SlotOf) → with_name entries.now key.now s ≡ slice_set entries.now i (key.now, s))) }
-    ensures before { IfErr result (λ i. (i ≤ length entries.now) × ((s : SlotOf) → with_name entries.now key.now s ≡ insert entries.now i (key.now, s))) }
+// Where the slot of a property stands, or else before which one it is to come.
+fn spot(entries: &[(Text, Slot)], name: &Text) -> Result<usize, usize>
+    requires { IsTrue (is_named entries.now) }
+    ensures there { IfOk result (λ i. (i < length entries.now) × ((s : SlotOf) → with_name entries.now (fold_case name.now) s ≡ slice_set entries.now i (fold_case name.now, s))) }
+    ensures before { IfErr result (λ i. (i ≤ length entries.now) × ((s : SlotOf) → with_name entries.now (fold_case name.now) s ≡ insert entries.now i (fold_case name.now, s))) }
+{
+    if entries.len() <= FEW {
+        return spot_of_few(entries, name);
+    }
+    // Names that come in rising order each have their place behind the last.
+    if is_behind(entries, name) {
+        return Err(entries.len());
+    }
+    search(entries, name)
+}
+
+// As `spot`, by a walk.
+#[inline]
+fn spot_of_few(entries: &[(Text, Slot)], name: &Text) -> Result<usize, usize>
+    ensures there { IfOk result (λ i. (i < length entries.now) × ((s : SlotOf) → with_name entries.now (fold_case name.now) s ≡ slice_set entries.now i (fold_case name.now, s))) }
+    ensures before { IfErr result (λ i. (i ≤ length entries.now) × ((s : SlotOf) → with_name entries.now (fold_case name.now) s ≡ insert entries.now i (fold_case name.now, s))) }
 {
     for (index, entry) in entries.iter().enumerate() {
-        match key.cmp(entry.0.as_str().as_bytes()) {
+        match order(name, &entry.0) {
             Ordering::Less => return Err(index),
             Ordering::Equal => return Ok(index),
             Ordering::Greater => {}
@@ -162,8 +186,42 @@ fn spot(entries: &[(Text, Slot)], key: &[u8]) -> Result<usize, usize>
     Err(entries.len())
 }
 
+// Whether a name comes behind all others.
+fn is_behind(entries: &[(Text, Slot)], name: &Text) -> bool
+    requires { IsTrue (is_named entries.now) }
+    ensures { IsTrue result → (s : SlotOf) → with_name entries.now (fold_case name.now) s ≡ insert entries.now (length entries.now) (fold_case name.now, s) }
+{
+    let count = entries.len();
+    if count == 0 {
+        return true;
+    }
+    match order(name, &entries[count - 1].0) {
+        Ordering::Less => false,
+        Ordering::Equal => false,
+        Ordering::Greater => true,
+    }
+}
+
 // Where the slot of a property stands.
+#[inline]
 fn position(entries: &[(Text, Slot)], name: &Text) -> Option<usize>
+    requires { IsTrue (is_named entries.now) }
+    ensures { MatchOption result (named entries.now (fold_case name.now) ≡ None)
+        (λ i. (e : Characters × SlotOf) × (i < length entries.now) × (e ≡ slice_index_or entries.now i e) × (fold_case name.now ≡ e.0)
+        × (named entries.now (fold_case name.now) ≡ Some e.1)) }
+{
+    if entries.len() <= FEW {
+        return position_of_few(entries, name);
+    }
+    match search(entries, name) {
+        Ok(index) => Some(index),
+        Err(_) => None,
+    }
+}
+
+// As `position`, by a walk.
+#[inline]
+fn position_of_few(entries: &[(Text, Slot)], name: &Text) -> Option<usize>
     ensures { MatchOption result (named entries.now (fold_case name.now) ≡ None)
         (λ i. (e : Characters × SlotOf) × (i < length entries.now) × (e ≡ slice_index_or entries.now i e) × (fold_case name.now ≡ e.0)
         × (named entries.now (fold_case name.now) ≡ Some e.1)) }
@@ -174,6 +232,57 @@ fn position(entries: &[(Text, Slot)], name: &Text) -> Option<usize>
         }
     }
     None
+}
+
+// Where the slot of a property stands, or else before which one it is to come: the half in which it is, and the half of that.
+#[inline(never)]
+fn search(entries: &[(Text, Slot)], name: &Text) -> Result<usize, usize>
+    requires { IsTrue (is_named entries.now) }
+    ensures there { IfOk result (λ i. (e : Characters × SlotOf) × (i < length entries.now) × (e ≡ slice_index_or entries.now i e) × (fold_case name.now ≡ e.0)
+        × (named entries.now (fold_case name.now) ≡ Some e.1)) }
+    ensures place { IfOk result (λ i. (i < length entries.now) × ((s : SlotOf) → with_name entries.now (fold_case name.now) s ≡ slice_set entries.now i (fold_case name.now, s))) }
+    ensures none { IfErr result (λ i. named entries.now (fold_case name.now) ≡ None) }
+    ensures before { IfErr result (λ i. (i ≤ length entries.now) × ((s : SlotOf) → with_name entries.now (fold_case name.now) s ≡ insert entries.now i (fold_case name.now, s))) }
+{
+    let mut low = 0;
+    let mut high = entries.len();
+    while low < high {
+        let middle = low + (high - low) / 2;
+        match order(name, &entries[middle].0) {
+            Ordering::Less => high = middle,
+            Ordering::Equal => return Ok(middle),
+            Ordering::Greater => low = middle + 1,
+        }
+    }
+    Err(low)
+}
+
+// How a name in lower case compares with that of a property.
+fn order(name: &Text, stored: &Text) -> Ordering
+    ensures { result ≡ slice_cmp nat_cmp (fold_case name.now) stored.now }
+{
+    compare(name.as_str().as_bytes(), stored.as_str().as_bytes())
+}
+
+// How the first text with the case of A to Z ignored compares with the second.
+fn compare(text: &[u8], folded: &[u8]) -> Ordering
+    ensures { result ≡ slice_cmp nat_cmp (fold_case text.now) folded.now }
+{
+    for (index, byte) in text.iter().enumerate() {
+        if index == folded.len() {
+            return Ordering::Greater;
+        }
+        match byte.to_ascii_lowercase().cmp(&folded[index]) {
+            Ordering::Less => return Ordering::Less,
+            Ordering::Equal => {}
+            Ordering::Greater => return Ordering::Greater,
+        }
+    }
+    if text.len() == folded.len() {
+        Ordering::Equal
+    } else {
+        Ordering::Less
+    }
 }
 
 // Whether a name in lower case is that of a property.

@@ -1,8 +1,8 @@
-use Rattle.std.proofs.Common.{◌≡◌, ◌<◌, length, sym, ◌∙◌, arith, true, false}
+use Rattle.std.proofs.Common.{◌≡◌, ◌<◌, length, sym, ◌∙◌, arith}
 use mathlib.Core.Bool.{true≢false}
 use Rattle.spec_value.specs.Datum.{fold_case}
 use Rattle.view.proofs.Named.{found_there, found_behind}
-use Rattle.view.proofs.slots.position.Goals as goal
+use Rattle.view.proofs.slots.position_of_few.Goals as goal
 
 pub returns-then-spells : goal.returns-then-spells
 returns-then-spells c =

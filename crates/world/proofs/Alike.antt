@@ -1,12 +1,15 @@
 -- Slots and parents by the answers about them.
-use Rattle.std.proofs.Common.{◌≡◌, ℤ, Option, Some, None, refl}
+use Rattle.std.proofs.Common.{◌≡◌, ℤ, List, Option, Some, None, refl}
 use Rattle.std.specs.Prelude.{option_map}
 use Rattle.spec_value.specs.Datum.{Text, fold_case}
 use Rattle.spec_value.specs.Table.{named}
 use Rattle.spec_world.specs.World.{World, Object, Header, Slot, object_at}
 use Rattle.spec_world.specs.Inherit.{slot_of, slot_at}
-use Rattle.spec_world.specs.Questions.{ask, header_at, slot_on, the_header, the_slot, about_header, about_slot}
+use Rattle.spec_world.specs.Questions.{ask, header_at, slot_on, the_header, the_slot, about_header, about_slot, Change, apply_all}
+use Rattle.view.proofs.SlotsTold.{slot_told, no_object_told}
+use Rattle.world.specs.Late.{AllLight}
 use Rattle.world.specs.Trace.{AnswersAlike}
+use Rattle.world.proofs.Lightly.{all_unseen}
 
 --- a slot, by what is found on its object
 found : (x : Option Object) (p : Text) (s : Option Slot) → option_map (λ y. named y.slots (fold_case p)) x ≡ Some s → slot_of x p ≡ s
@@ -23,6 +26,13 @@ nowhere (Some x) p is = cc
 pub slot_nowhere : (w : World) (o : ℤ) (p : Text) → slot_on w o p ≡ None → slot_at w o p ≡ None
 slot_nowhere w o p is = nowhere (object_at w o) p is
 
+--- a slot, by the answer about it
+pub slot_answered : (w : World) (o : ℤ) (p : Text) (s : Option Slot) → the_slot (slot_on w o p) ≡ the_slot (Some s) → slot_at w o p ≡ s
+slot_answered w o p s is = slot_told w o p s is
+
+pub nothing_answered : (w : World) (o : ℤ) (p : Text) → the_slot (slot_on w o p) ≡ the_slot None → slot_at w o p ≡ None
+nothing_answered w o p is = no_object_told w o p is
+
 --- worlds that answer alike have the same slots and parents
 same_slot : (x y : Option Object) (p : Text) → the_slot (option_map (λ z. named z.slots (fold_case p)) x) ≡ the_slot (option_map (λ z. named z.slots (fold_case p)) y) → slot_of x p ≡ slot_of y p
 same_slot None None p is = refl
@@ -38,3 +48,7 @@ same_parent h k is = cc
 
 pub parent_alike : (v w : World) (o : ℤ) → AnswersAlike v w → option_map (λ x. x.parent) (header_at v o) ≡ option_map (λ x. x.parent) (header_at w o)
 parent_alike v w o alike = same_parent (header_at v o) (header_at w o) (alike (about_header o))
+
+--- no light change gives an object another parent
+pub parent_lightly : (cs : List Change) (w : World) (o : ℤ) → AllLight cs → option_map (λ x. x.parent) (header_at (apply_all cs w) o) ≡ option_map (λ x. x.parent) (header_at w o)
+parent_lightly cs w o all = same_parent (header_at (apply_all cs w) o) (header_at w o) (all_unseen cs w (about_header o) all refl)

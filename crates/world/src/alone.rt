@@ -77,7 +77,7 @@ impl<'w> View for Alone<'w> {
     }
 
     fn parent(&mut self, object: i32) -> Result<Option<i32>, AllocError> {
-        self.overlay.parent(object)
+        Ok(self.overlay.parent(object))
     }
 
     #[tactic(auto, using(crate::proofs::History::apply_all_last))]

@@ -2,6 +2,7 @@
 ghost use Rattle.std.specs.Prelude.{◌≡◌, ◌↔◌, Some, map, IsTrue, IfOk, OnOk, option_map};
 ghost use Rattle.spec_value.specs.Datum.{fold_case};
 ghost use Rattle.spec_world.specs.World.{World as Plain};
+ghost use Rattle.spec_world.specs.Inherit.{slot_at};
 ghost use Rattle.spec_world.specs.Questions.{ask, apply, apply_all, slot_on, the_slot};
 ghost use Rattle.view.specs.Meanings.{question_of, answer_of, change_of};
 ghost use Rattle.world.specs.Late.{is_light as is_light_change, AllLight, slot_told as slot_of_answer};
@@ -94,6 +95,27 @@ fn slot_asked_after(
         }
         Some(None) => Ok(Answer::Slot(Some(None))),
         None => Ok(Answer::Slot(None)),
+    }
+}
+
+/// The slot that records have after light changes, if there are object and slot, of its own.
+#[inline(always)]
+pub(crate) fn own_slot_after(
+    home: &Draft,
+    object: i32,
+    name: &Text,
+    changes: &[Change],
+) -> Result<Option<Slot>, AllocError>
+    requires { AllLight (map change_of changes.now) }
+    ensures { IfOk result (λ s. s ≡ slot_at (apply_all (map change_of changes.now) home.now) object name.now) }
+{
+    match home.slot(object, name) {
+        Some(Some(slot)) => {
+            let slot = slot_after(object, name, slot, changes)?;
+            Ok(Some(slot))
+        }
+        Some(None) => Ok(None),
+        None => Ok(None),
     }
 }
 

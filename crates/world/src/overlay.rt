@@ -11,7 +11,7 @@ ghost use Rattle.world.specs.Trace.{AnswersAlike};
 
 use crate::answers::copied;
 use crate::draft::Draft;
-use crate::late::{answer_after, asked_after, is_light};
+use crate::late::{answer_after, asked_after, is_light, own_slot_after};
 use moo_value::text::Text;
 use std::alloc::{AllocError, Global};
 use std::marker::Model;
@@ -107,33 +107,32 @@ impl<'h> Overlay<'h> {
 
     /// The slot now of a property on an object, if there are both. Case is ignored.
     #[inline(always)]
-    #[tactic(auto, using(crate::proofs::Alike::slot_alike, view::proofs::SlotsTold::slot_told, view::proofs::SlotsTold::no_object_told))]
+    #[tactic(auto, using(crate::proofs::Alike::slot_alike))]
     pub(crate) fn slot(&self, object: i32, name: &Text) -> Result<Option<Slot>, AllocError>
         ensures { IfOk result (λ s. s ≡ slot_at (amended_now self.now) object name.now) }
     {
         if !self.seen {
             return self.home.own_slot(object, name);
         }
-        match self.ask(&Question::Slot(object, name.clone()?))? {
-            Answer::Slot(Some(slot)) => Ok(slot),
-            Answer::Slot(None) => Ok(None),
-            _ => unreachable!(),
+        match &self.fork {
+            Some(draft) => draft.own_slot(object, name),
+            None => own_slot_after(self.home, object, name, self.changes.as_slice()),
         }
     }
 
     /// The parent now that an object names, if there is the object.
     #[inline(always)]
-    #[tactic(auto, using(crate::proofs::Alike::parent_alike))]
-    pub(crate) fn parent(&self, object: i32) -> Result<Option<i32>, AllocError>
-        ensures { IfOk result (λ p. p ≡ option_map (λ h. h.parent) (header_at (amended_now self.now) object)) }
+    #[tactic(auto, using(crate::proofs::Alike::parent_alike, crate::proofs::Alike::parent_lightly))]
+    pub(crate) fn parent(&self, object: i32) -> Option<i32>
+        ensures { result ≡ option_map (λ h. h.parent) (header_at (amended_now self.now) object) }
     {
         if !self.seen {
-            return Ok(self.home.parent(object));
+            return self.home.parent(object);
         }
-        match self.ask(&Question::Header(object))? {
-            Answer::Header(Some(header)) => Ok(Some(header.parent)),
-            Answer::Header(None) => Ok(None),
-            _ => unreachable!(),
+        match &self.fork {
+            Some(draft) => draft.parent(object),
+            // No light change gives an object another parent.
+            None => self.home.parent(object),
         }
     }
 

@@ -1,11 +1,4 @@
 pub mod Crossing
-pub mod Again
 pub mod Alone
-pub mod Honest
-pub mod Places
-pub mod Plays
-pub mod Recorded
-pub mod Rests
-pub mod Seen
+pub mod Lists
 pub mod Stays
-pub mod Verbs

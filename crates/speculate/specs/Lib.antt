@@ -1,6 +1,1 @@
-pub mod BoardCode
-pub mod BoardState
 pub mod Events
-pub mod Progress
-pub mod Right
-pub mod Verbs

@@ -1,0 +1,9 @@
+pub mod Crossing
+pub mod Again
+pub mod Honest
+pub mod Places
+pub mod Plays
+pub mod Recorded
+pub mod Rests
+pub mod Seen
+pub mod Verbs

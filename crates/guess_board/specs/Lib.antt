@@ -1,0 +1,5 @@
+pub mod BoardCode
+pub mod BoardState
+pub mod Progress
+pub mod Right
+pub mod Verbs

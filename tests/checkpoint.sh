@@ -85,6 +85,18 @@ run "$root/tests/small.world" "$work/none" --out "$work/again"
 wants "a small world" 0 '' ''
 cmp -s "$root/tests/small.world" "$work/again" || fail "a small world is another text when it was read"
 
+# Two objects of 20,000 properties, whose names do not come in the order of their letters.
+awk -v count=20000 '
+    $1 == "defines" && !done { printf "defines {"; for (at = 1; at <= count; at++) printf "%s\"p%d\"", (at > 1 ? ", " : ""), at; print "}"; done = 1; next }
+    $1 == "slots" { print "slots " count; next }
+    $1 == "slot" { for (at = 1; at <= count; at++) print; next }
+    { print }' "$root/tests/small.world" >"$work/wide"
+begun=$(date +%s)
+run "$work/wide" "$work/none" --out "$work/again"
+wants "a wide world" 0 '' ''
+cmp -s "$work/wide" "$work/again" || fail "a wide world is another text when it was read"
+[ $(($(date +%s) - begun)) -le 20 ] || fail "a wide world took $(($(date +%s) - begun)) seconds"
+
 # ---- damaged
 
 # damaged NAME TEXT FAULT

@@ -1,0 +1,1 @@
+while :; do echo "$(date +%H:%M:%S) $(awk '$1=="MemAvailable:"{print int($2/1000)}' /proc/meminfo) $(ps -C rattle -o rss=,args= | awk '{n="";for(i=2;i<=NF;i++)if($i=="--crate-name")n=$(i+1); printf "%s:%d ", n, $1/1000}')"; sleep 15; done

@@ -7,8 +7,9 @@ import sys
 from runs import ROOT, Failure, least, run
 
 TWIN = f"{ROOT}/bench/out/twin"
-# Rust's loops are run more often, since most take a few nanoseconds.
+# The peers' loops are run more often, since most take a few nanoseconds, and Python takes long to start.
 STEPS_OF_RUST = 20
+STEPS_OF_OTHERS = 10
 
 
 def has_twin():
@@ -31,10 +32,10 @@ def found():
     else:
         print("bench: no rustc here that compiles bench/twin.rs, so there is no plain Rust beside the product", file=sys.stderr)
     if shutil.which("lua5.4"):
-        here["lua5.4"] = (["lua5.4", f"{ROOT}/bench/loops.lua"], 1)
+        here["lua5.4"] = (["lua5.4", f"{ROOT}/bench/loops.lua"], STEPS_OF_OTHERS)
     else:
         print("bench: no lua5.4 on PATH, so there is no Lua beside the product", file=sys.stderr)
-    here["python3"] = ([sys.executable, f"{ROOT}/bench/loops.py"], 1)
+    here["python3"] = ([sys.executable, f"{ROOT}/bench/loops.py"], STEPS_OF_OTHERS)
     return here
 
 

@@ -1,7 +1,7 @@
 //! Two that have to meet: each waits for the other, for so many turns at most; and a gate at which two workers do.
-use guess_board::guesses::Guess;
-use guess_board::guessing::guess;
 use speculate::gate::Gate;
+use speculate::guesses::Guess;
+use speculate::guessing::guess;
 use std::alloc::{AllocError, Global};
 use std::hint;
 use std::sync::atomic::{AtomicBool, AtomicU64, Ordering};

@@ -12,10 +12,10 @@ use Rattle.world.specs.Amended.{Amended, amended_now}
 use Rattle.world.specs.Counted.{Counted}
 use Rattle.task_run.specs.Performed.{StepsTo}
 use Rattle.task_run.proofs.Playing.{is_played}
-use Rattle.guess_board.specs.Right.{Guessed, IsRight, after_guess}
-use Rattle.guess_board.specs.BoardState.{runs}
-use Rattle.guess_board.specs.declared.held.Mark.{Mark}
-use Rattle.guess_board.proofs.Honest.{kept_plays, runs_more}
+use Rattle.speculate.specs.Right.{Guessed, IsRight, after_guess}
+use Rattle.speculate.specs.BoardState.{runs}
+use Rattle.speculate.specs.declared.held.Mark.{Mark}
+use Rattle.speculate.proofs.Honest.{kept_plays, runs_more}
 
 -- a right guess that agrees with the world: what becomes of it is the step
 pub kept_step : (w w' : Counted) (s : Step) (g : Guessed) (o : Outcome) → IsSound w.plain → g.step ≡ s → IsRight g → Agrees w.plain g.reads

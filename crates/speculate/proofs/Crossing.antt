@@ -12,15 +12,35 @@ use Rattle.std.proofs.Crossing.{crosses}
 use Rattle.round_claims.proofs.Crossing.{claims_sync, seat_send}
 use Rattle.round_claims.specs.contracts.claims.Claims as claims
 use Rattle.round_claims.specs.contracts.claims.ClaimSeat as seat
-use Rattle.task_step.proofs.Crossing.{step_sync}
-use Rattle.guess_board.proofs.Crossing.{board_send}
-use Rattle.guess_board.specs.contracts.board.Board as board
+use Rattle.view.proofs.PartsCrossing.{reads_send, changes_send}
+use Rattle.task_step.proofs.Crossing.{step_send, step_sync, outcome_send}
+use Rattle.world.proofs.Crossing.{count_send, snapshot_send, world_send}
+use Rattle.speculate.specs.contracts.board.Board as board
+use Rattle.speculate.specs.contracts.guesses.Guess as guess
+use Rattle.speculate.specs.contracts.guesses.Spent as spent
+use Rattle.speculate.specs.contracts.held.Held as held
+use Rattle.speculate.specs.contracts.held.Mark as mark
 use Rattle.speculate.specs.contracts.shared.SharedBoard as shared
 use Rattle.speculate.specs.contracts.shared.Tied as tied
 use Rattle.speculate.specs.declared.shared.Run as Run
 use Rattle.std.specs.contracts.alloc.Global as Global
 use Rattle.std.specs.contracts.marker.PhantomData as PhantomData
 use Rattle.task_step.specs.contracts.step.Step as step
+
+guess_send : IsSend guess.the_row
+guess_send = search (sendable, crosses, step_send, reads_send, changes_send, outcome_send, snapshot_send) depth 60
+
+held_send : IsSend held.the_row
+held_send = search (sendable, crosses, guess_send) depth 60
+
+spent_send : IsSend spent.the_row
+spent_send = search (sendable, crosses, step_send, reads_send, changes_send) depth 60
+
+mark_send : IsSend mark.the_row
+mark_send = search (sendable, crosses) depth 60
+
+board_send : IsSend board.the_row
+board_send = search (sendable, crosses, step_send, world_send, outcome_send, mark_send, held_send, spent_send, count_send) depth 60
 
 phantom_send : (J : RattleType) → IsSend (PhantomData.the_row J)
 phantom_send J = search (sendable, crosses) depth 60

@@ -1,4 +1,11 @@
 pub mod Crossing
+pub mod Again
 pub mod Alone
-pub mod Lists
+pub mod Honest
+pub mod Places
+pub mod Plays
+pub mod Recorded
+pub mod Rests
+pub mod Seen
 pub mod Stays
+pub mod Verbs

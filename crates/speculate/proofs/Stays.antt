@@ -1,10 +1,10 @@
 -- Over every schedule.
 use Rattle.std.proofs.Common.{None, List, [], ◌∷◌, inl, inr, refl, sym, subst}
-use Rattle.guess_board.specs.declared.held.Held.TheVariants.{Holds}
-use Rattle.guess_board.specs.BoardState.{BoardState, IsHonest}
-use Rattle.guess_board.specs.Progress.{ready, rest}
+use Rattle.speculate.specs.declared.held.Held.TheVariants.{Holds}
+use Rattle.speculate.specs.BoardState.{BoardState, IsHonest}
+use Rattle.speculate.specs.Progress.{ready, rest}
 use Rattle.speculate.specs.Events.{Event, Claim, Post, Lose, Advance, Scene, Happens, IsFair, AllFair, Leads, at_start, StaysHonest, IsAdvanced}
-use Rattle.guess_board.proofs.Honest.{advances_keep, part_keeps, holding_keeps, lose_keeps, opened_honest}
+use Rattle.speculate.proofs.Honest.{advances_keep, part_keeps, holding_keeps, lose_keeps, opened_honest}
 
 abbrev IsHonestOn : Scene → Type 0
 IsHonestOn s = IsHonest s.board

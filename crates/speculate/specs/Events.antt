@@ -3,10 +3,10 @@ use Rattle.std.specs.Prelude.{◌≡◌, ℕ, suc, ◌<◌, ◌⊎◌, List, [],
 use Rattle.spec_world.specs.Step.{Step, RunsOn, AllInRange}
 use Rattle.world.specs.Counted.{Counted}
 use Rattle.view.specs.Sound.{IsSound}
-use Rattle.guess_board.specs.declared.held.Held.TheVariants.{Loss, Holds}
-use Rattle.guess_board.specs.Right.{Guessed, IsRight}
-use Rattle.guess_board.specs.BoardState.{BoardState, IsHonest, IsFree, opened_on, with_held}
-use Rattle.guess_board.specs.Progress.{Advances, AdvancesInPart, ready, rest}
+use Rattle.speculate.specs.declared.held.Held.TheVariants.{Loss, Holds}
+use Rattle.speculate.specs.Right.{Guessed, IsRight}
+use Rattle.speculate.specs.BoardState.{BoardState, IsHonest, IsFree, opened_on, with_held}
+use Rattle.speculate.specs.Progress.{Advances, AdvancesInPart, ready, rest}
 
 -- the board, how many positions are claimed, and the positions that each seat claimed
 pub record Scene : Type 0 where

@@ -1,1 +1,6 @@
+pub mod BoardCode
+pub mod BoardState
 pub mod Events
+pub mod Progress
+pub mod Right
+pub mod Verbs

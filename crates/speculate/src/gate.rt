@@ -2,8 +2,8 @@
 ghost use Rattle.std.specs.Prelude.{◌≡◌, ◌<◌, IsTrue, IfOk, IfSome, length};
 ghost use Rattle.spec_world.specs.Step.{AllInRange, in_range};
 
-use guess_board::guesses::Guess;
-use guess_board::guessing::guess;
+use crate::guesses::Guess;
+use crate::guessing::guess;
 use std::alloc::{AllocError, Global};
 use task_step::step::Step;
 use world::worlds::Snapshot;

@@ -4,12 +4,12 @@ ghost use Rattle.spec_world.specs.Questions.{apply_all};
 ghost use Rattle.spec_world.specs.Step.{AllInRange, in_range};
 ghost use Rattle.spec_moo.specs.Steps.{play1, play};
 ghost use Rattle.view.specs.Sound.{IsSound};
-ghost use Rattle.guess_board.specs.BoardState.{runs};
+ghost use Rattle.speculate.specs.BoardState.{runs};
 
 use crate::gate::Gate;
-use guess_board::guesses::Guess;
-use guess_board::held::Mark;
-use guess_board::report::Report;
+use crate::guesses::Guess;
+use crate::held::Mark;
+use crate::report::Report;
 use std::alloc::{AllocError, Global};
 use task_run::list::play_step;
 use task_run::step::run_step;

@@ -2,13 +2,13 @@
 ghost use Rattle.std.specs.Prelude.{◌≡◌, ◌≢◌, ◌≤◌, ◌<◌, ◌↔◌, ◌⊎◌, ◌+◌, length, take, IfOk, IfErr, IsOk};
 ghost use Rattle.spec_world.specs.Step.{RunsOn, AllInRange};
 ghost use Rattle.spec_moo.specs.Steps.{play};
-ghost use Rattle.guess_board.specs.BoardState.{runs};
+ghost use Rattle.speculate.specs.BoardState.{runs};
 
+use crate::board::Board;
 use crate::crew::play_by_claims;
 use crate::gate::Gate;
 use crate::here::play_here;
-use guess_board::board::Board;
-use guess_board::report::Report;
+use crate::report::Report;
 use round_claims::Claims;
 use std::alloc::Global;
 use std::marker::Brand;

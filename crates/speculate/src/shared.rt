@@ -3,11 +3,11 @@ ghost use Rattle.std.specs.Prelude.{◌≡◌, All, IfSome};
 ghost use Rattle.std.specs.Coded.{Coded-set, coded_list};
 ghost use Rattle.spec_world.specs.StepCode.{step_code};
 ghost use Rattle.world.specs.Counted.{counted_code};
-ghost use Rattle.guess_board.specs.BoardState.{world_after};
+ghost use Rattle.speculate.specs.BoardState.{world_after};
 
-use guess_board::board::Board;
-use guess_board::guesses::{Guess, Spent};
-use guess_board::sight::Sight;
+use crate::board::Board;
+use crate::guesses::{Guess, Spent};
+use crate::sight::Sight;
 use std::alloc::Global;
 use std::marker::{Brand, PhantomData};
 use std::sync::{Mutex, Wait};

@@ -2,9 +2,9 @@
 use crate::beside_rows::holding::Holding;
 use crate::meeting::Meeting;
 use checkpoint_beside::beside::Beside;
-use guess_board::board::Board;
-use guess_board::guessing::guess;
 use moo_value::text::Text;
+use speculate::board::Board;
+use speculate::guessing::guess;
 use std::alloc::{AllocError, Global};
 use std::str;
 use std::sync::Arc;

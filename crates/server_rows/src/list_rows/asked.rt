@@ -1,9 +1,9 @@
 //! One worker, and a gate that does more than to guess.
 use crate::list_rows::row::{counts, others_by};
-use guess_board::guesses::Guess;
-use guess_board::guessing::guess;
-use guess_board::held::Mark;
 use speculate::gate::Gate;
+use speculate::guesses::Guess;
+use speculate::guessing::guess;
+use speculate::held::Mark;
 use std::alloc::{AllocError, Global};
 use std::sync::Wait;
 use std::sync::atomic::{AtomicU64, Ordering};

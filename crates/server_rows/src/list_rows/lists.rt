@@ -2,9 +2,9 @@
 use crate::list_rows::row::{
     Line, board_on, counts, counts_in_a_race, guess_of, idles, others, others_by, steps_of,
 };
-use guess_board::board::Board;
-use guess_board::held::Mark;
+use speculate::board::Board;
 use speculate::gate::Free;
+use speculate::held::Mark;
 use std::alloc::{AllocError, Global};
 use std::sync::Wait;
 use std::test::Fail;

@@ -1,7 +1,7 @@
 //! Lists by two workers that have to meet.
 use crate::list_rows::row::{counts, others_by};
 use crate::meeting::MeetingGate;
-use guess_board::held::Mark;
+use speculate::held::Mark;
 use std::alloc::AllocError;
 use std::sync::Wait;
 use std::test::Fail;

@@ -1,7 +1,7 @@
 //! What a board takes and what it refuses.
 use crate::list_rows::row::{Line, board_on, counts, guess_of, others, steps_of};
-use guess_board::board::{Board, Refused};
-use guess_board::held::Mark;
+use speculate::board::{Board, Refused};
+use speculate::held::Mark;
 use std::alloc::{AllocError, Global};
 use std::test::Fail;
 use task_step::step::Step;

@@ -1,13 +1,13 @@
 //! Rows: lines `count` of some connections, and what each gives.
-use guess_board::board::Board;
-use guess_board::guesses::Guess;
-use guess_board::guessing::guess;
-use guess_board::held::Mark;
-use guess_board::report::Report;
 use moo_value::text::Text;
 use moo_value::value::{Shown, Value};
+use speculate::board::Board;
 use speculate::gate::Gate;
+use speculate::guesses::Guess;
+use speculate::guessing::guess;
+use speculate::held::Mark;
 use speculate::list::run_list;
+use speculate::report::Report;
 use std::alloc::{AllocError, Global};
 use std::sync::Wait;
 use std::thread::Threads;

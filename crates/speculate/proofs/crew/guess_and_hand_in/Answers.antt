@@ -1,5 +1,5 @@
 use Rattle.std.proofs.Common.{◌≡◌}
-use Rattle.guess_board.specs.BoardState.{world_after}
+use Rattle.speculate.specs.BoardState.{world_after}
 use Rattle.speculate.proofs.crew.guess_and_hand_in.Goals as goal
 
 pub hand_in-requires-after_bounds : goal.hand_in-requires-after_bounds

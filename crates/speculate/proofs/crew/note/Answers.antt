@@ -1,6 +1,6 @@
 use Rattle.std.proofs.Common.{◌≡◌, ◌∙◌, ◌++◌, ◌∷◌, [], ℕ, List, All, sym, ap, subst}
 use Rattle.std.proofs.lemmas.List.Elements.{All-push}
-use Rattle.guess_board.specs.declared.guesses.Guess.{Guess}
+use Rattle.speculate.specs.declared.guesses.Guess.{Guess}
 use Rattle.speculate.proofs.crew.note.Goals as goal
 
 pub returns-then-is_ok : goal.returns-then-is_ok

@@ -1,5 +1,5 @@
 use Rattle.std.proofs.Common.{◌≡◌, IfSome}
-use Rattle.guess_board.specs.BoardState.{world_after}
+use Rattle.speculate.specs.BoardState.{world_after}
 use Rattle.speculate.proofs.crew.play_batch.Given as goal
 
 abbrev pub invariant-help : goal.invariant-help

@@ -1,5 +1,5 @@
 use Rattle.std.proofs.Common.{◌≡◌, ◌-◌, length, IfSome}
-use Rattle.guess_board.specs.BoardState.{world_after}
+use Rattle.speculate.specs.BoardState.{world_after}
 use Rattle.speculate.proofs.crew.work.Given as goal
 
 abbrev pub invariant-claim : goal.invariant-claim

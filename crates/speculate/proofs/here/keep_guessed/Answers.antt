@@ -1,7 +1,7 @@
 use Rattle.std.proofs.Common.{◌≡◌, refl, subst}
 use Rattle.spec_world.specs.World.{World}
 use Rattle.spec_world.specs.Questions.{Agrees}
-use Rattle.guess_board.proofs.Honest.{kept_is_sound}
+use Rattle.speculate.proofs.Honest.{kept_is_sound}
 use Rattle.speculate.proofs.Alone.{kept_step}
 use Rattle.speculate.proofs.here.keep_guessed.Goals as goal
 

@@ -2,9 +2,8 @@ use Rattle.std.proofs.Common.{◌≡◌, List, ap, sym, ◌∙◌, arith, vec_it
 use Rattle.spec_world.specs.Outcome.{Outcome}
 use Rattle.spec_moo.specs.Steps.{play1}
 use Rattle.task_run.proofs.Playing.{played_more}
-use Rattle.guess_board.specs.BoardState.{runs}
-use Rattle.guess_board.proofs.Plays.{play_none}
-use Rattle.speculate.proofs.Lists.{nothing_played}
+use Rattle.speculate.specs.BoardState.{runs}
+use Rattle.speculate.proofs.Plays.{play_none, nothing_played}
 use Rattle.speculate.proofs.Alone.{views_on}
 use Rattle.speculate.proofs.here.play_here.Goals as goal
 

@@ -1,6 +1,6 @@
 use Rattle.std.proofs.Common.{◌∙◌, refl, arith}
 use Rattle.spec_world.specs.Step.{RunsOn, AllInRange}
-use Rattle.speculate.proofs.Lists.{nothing_played, runs_few}
+use Rattle.speculate.proofs.Plays.{nothing_played, runs_few}
 use Rattle.speculate.proofs.list.run_list.Goals as goal
 
 pub returns-then-workers-eq0-clause-part : goal.returns-then-workers-eq0-clause-part

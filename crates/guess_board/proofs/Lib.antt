@@ -1,9 +1,0 @@
-pub mod Crossing
-pub mod Again
-pub mod Honest
-pub mod Places
-pub mod Plays
-pub mod Recorded
-pub mod Rests
-pub mod Seen
-pub mod Verbs

@@ -1,5 +1,0 @@
-use Rattle.std.proofs.Common.{◌≡◌}
-use Rattle.guess_board.proofs.board.Board.lose_free.Given as goal
-
-abbrev pub invariant-at : goal.invariant-at
-invariant-at l = (l.self.base ≡ l.fn.self.base) × (l.self.steps ≡ l.fn.self.steps)

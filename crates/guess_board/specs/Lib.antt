@@ -1,5 +1,0 @@
-pub mod BoardCode
-pub mod BoardState
-pub mod Progress
-pub mod Right
-pub mod Verbs

@@ -1,0 +1,33 @@
+//! Making a guess.
+ghost use Rattle.std.specs.Prelude.{◌≡◌, IsTrue, IfOk};
+ghost use Rattle.spec_world.specs.Questions.{Agrees};
+ghost use Rattle.spec_world.specs.Step.{in_range};
+ghost use Rattle.speculate.specs.Right.{IsRight};
+
+use crate::guesses::Guess;
+use std::alloc::{AllocError, Global};
+use std::snapshot::Snapshot as Remembered;
+use task_run::step::run_step;
+use task_step::step::Step;
+use world::tracked::Tracked;
+use world::worlds::Snapshot;
+
+/// Runs a step on a snapshot, which stays as it is. The guess is right for every world, whatever became of it since.
+pub fn guess(alloc: Global, snapshot: &Snapshot, step: &Step) -> Result<Guess, AllocError>
+    requires { IsTrue (in_range step.now) }
+    ensures step { IfOk result (λ g. g.step ≡ step.now) }
+    ensures right { IfOk result (λ g. IsRight g) }
+    ensures agrees { IfOk result (λ g. Agrees snapshot.now g.reads) }
+    ensures before { IfOk result (λ g. g.before ≡ snapshot.now) }
+{
+    let mut view = Tracked::over(alloc, snapshot);
+    let outcome = run_step(alloc, &mut view, step)?;
+    let (reads, changes) = view.finish();
+    Ok(Guess {
+        step: step.clone()?,
+        reads,
+        changes,
+        outcome,
+        before: Remembered::of(snapshot),
+    })
+}

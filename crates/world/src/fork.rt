@@ -75,20 +75,6 @@ impl<'w> Forked<'w, Draft> {
         Ok(())
     }
 
-    /// Changes more, one after another, that somebody else keeps. After an `Err` it is as it was.
-    pub fn put_all(&mut self, changes: &Changes) -> Result<(), AllocError>
-        ensures same_reference { borrow_of self.new ≡ borrow_of self.old }
-        ensures start { start_of self.new ≡ start_of self.old }
-        ensures changed { OnOk result (changed_in self.new ≡ apply_all changes.now (changed_in self.old)) }
-    {
-        let changed = match &self.fork {
-            Some(draft) => draft.changed(changes)?,
-            None => self.world.changed(changes)?,
-        };
-        self.fork = Some(changed);
-        Ok(())
-    }
-
     /// The world has the changes.
     pub fn keep(self)
         requires { IsKeepable self }

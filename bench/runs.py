@@ -62,17 +62,17 @@ class Folder:
 folder = Folder()
 
 
-def run(*words):
-    """Runs a program to its end, which must be a good one."""
+def run(*words, status=0):
+    """Runs a program to its end, which must be a good one, or one with another status where that is asked for."""
     with open(folder.file("output"), "w+b") as output, open(folder.file("errors"), "w+b") as errors:
         start = time.monotonic()
         process = subprocess.Popen(words, stdin=subprocess.DEVNULL, stdout=output, stderr=errors)
-        _, status, usage = os.wait4(process.pid, 0)
+        _, ended, usage = os.wait4(process.pid, 0)
         seconds = time.monotonic() - start
-        process.returncode = os.waitstatus_to_exitcode(status)
+        process.returncode = os.waitstatus_to_exitcode(ended)
         output.seek(0)
         errors.seek(0)
-        if process.returncode != 0:
+        if process.returncode != status:
             told = errors.read(300).decode("latin-1").strip()
             raise Failure(f"{' '.join(words)}: status {process.returncode}, told: {told}")
         return Run(seconds, usage.ru_utime + usage.ru_stime, usage.ru_maxrss * 1024, output.read().decode("latin-1"))
@@ -97,6 +97,26 @@ def play(world, steps, *options):
     """The least of some runs of a script, its lines given or its file, over a world."""
     path = steps if isinstance(steps, str) else script("script", steps)
     return least(lambda: run(PLAY, world, path, *options))
+
+
+def refused(world, steps):
+    """The least of some runs that read a world and a script of these lines, and refuse it for one more line, so that none of its steps is run."""
+    path = script("refused", [*steps, "open none"])
+    return least(lambda: run(PLAY, world, path, status=2))
+
+
+def at_once(count, world, path):
+    """The least seconds, by the clock, that so many runs of a script over a world take that begin at once, each by one worker."""
+
+    def all_of_them():
+        start = time.monotonic()
+        words = [PLAY, world, path]
+        processes = [subprocess.Popen(words, stdin=subprocess.DEVNULL, stdout=subprocess.DEVNULL, stderr=subprocess.DEVNULL) for _ in range(count)]
+        for process in processes:
+            process.wait()
+        return time.monotonic() - start
+
+    return min(all_of_them() for _ in range(ROUNDS))
 
 
 def values_of(played):

@@ -6,17 +6,17 @@ use moo_server::play::{DONE, FAULT, play_script, read_workers, refuse, stopped};
 use moo_server::words::options;
 use speculate::gate::Free;
 use std::io::{BufWriter, Write};
-use std::rt::{Env, Files};
+use std::rt::{Clock, Env, Files};
 use std::sync::Wait;
 use std::thread::Threads;
 use std::{io, mem};
 use world::worlds::World;
 
 /// Reads the words and runs what they ask for. Gives the status.
-pub fn run<R: Print + Eprint + Input + AllocGlobal + Files + Env + Threads + Wait + Sync, E: Write>(
-    rt: &R,
-    errors: &mut E,
-) -> u8 {
+pub fn run<
+    R: Print + Eprint + Input + AllocGlobal + Files + Env + Threads + Wait + Clock + Sync,
+    E: Write,
+>(rt: &R, errors: &mut E) -> u8 {
     let words = match read_words(rt) {
         Ok(words) => words,
         Err(error) => return refuse_words(rt, errors, "moo-play", &error),
@@ -31,7 +31,7 @@ pub fn run<R: Print + Eprint + Input + AllocGlobal + Files + Env + Threads + Wai
 }
 
 // Reads what the words name, and plays.
-fn run_options<R: Print + Input + AllocGlobal + Files + Threads + Wait + Sync, E: Write>(
+fn run_options<R: Print + Input + AllocGlobal + Files + Threads + Wait + Clock + Sync, E: Write>(
     rt: &R,
     options: &Options,
     errors: &mut E,

@@ -10,6 +10,7 @@ use speculate::gate::Gate;
 use speculate::list::run_list;
 use std::alloc::Global;
 use std::io::Write;
+use std::rt::Clock;
 use std::sync::Wait;
 use std::thread::Threads;
 use task_step::partial::{Partial, Refusal};
@@ -34,7 +35,7 @@ pub(crate) enum Played {
 }
 
 /// Runs the steps and writes their lines, a part after the other.
-pub(crate) fn play_steps<G: Gate, R: Threads + Wait + Sync, W: Write>(
+pub(crate) fn play_steps<G: Gate, R: Threads + Wait + Clock + Sync, W: Write>(
     rt: &R,
     alloc: Global,
     gate: &G,

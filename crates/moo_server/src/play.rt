@@ -18,6 +18,7 @@ use speculate::list::MOST_WORKERS;
 use std::alloc::Global;
 use std::io;
 use std::io::Write;
+use std::rt::Clock;
 use std::sync::Wait;
 use std::thread::Threads;
 use task_step::list::may_play;
@@ -34,7 +35,7 @@ pub const STOPPED: u8 = 3;
 
 /// Runs a script over a world and writes the lines of its steps as they are run. A world or a script that could not be read comes as the line of
 /// its fault, without the program's name. Gives the world at the end, where a list ran and its lines were written, and the status.
-pub fn play_script<G: Gate, R: Threads + Wait + Sync, W: Write, E: Write>(
+pub fn play_script<G: Gate, R: Threads + Wait + Clock + Sync, W: Write, E: Write>(
     rt: &R,
     alloc: Global,
     gate: &G,

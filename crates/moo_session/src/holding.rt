@@ -15,6 +15,7 @@ use crate::refused::Refused;
 use crate::writing::{texts_of, write_all};
 use speculate::gate::Gate;
 use std::alloc::Global;
+use std::rt::Clock;
 use std::sync::Wait;
 use std::thread::Threads;
 use streams::reading::{NotRead, read_streams};
@@ -34,7 +35,7 @@ pub const MOST_WORKERS: usize = 64;
 /// Refused are, in this order, a wrong count of readers and writers and a wrong number of workers, before anything is read; a reader that fails; steps
 /// out of their range; and a writer that fails, after which the world is that after the steps. After any other refusal the world is as it was and
 /// nothing was written.
-pub fn session<G: Gate, S: Source, W: Sink, R: Threads + Wait + Sync>(
+pub fn session<G: Gate, S: Source, W: Sink, R: Threads + Wait + Clock + Sync>(
     rt: &R,
     alloc: Global,
     gate: &G,

@@ -9,6 +9,7 @@ use crate::draft::Draft;
 use speculate::gate::Gate;
 use speculate::list::run_list;
 use std::alloc::Global;
+use std::rt::Clock;
 use std::sync::Wait;
 use std::thread::Threads;
 use task_step::outcome::Outcome;
@@ -25,7 +26,7 @@ pub enum Unplayed {
 }
 
 /// Plays what the connections say. After a refusal the world is as it was.
-pub fn play_all<G: Gate, R: Threads + Wait + Sync>(
+pub fn play_all<G: Gate, R: Threads + Wait + Clock + Sync>(
     rt: &R,
     alloc: Global,
     gate: &G,

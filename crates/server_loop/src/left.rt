@@ -9,7 +9,7 @@ use std::thread::Threads;
 use world::worlds::World;
 
 /// Closes every link of a world: none of them has a socket. Ends where a task asks for it meanwhile.
-pub fn close_left<G: Gate, R: Threads + Wait + Sync, C: Clock>(
+pub fn close_left<G: Gate, R: Threads + Wait + Clock + Sync, C: Clock>(
     rt: &R,
     alloc: Global,
     gate: &G,

@@ -5,9 +5,8 @@ use std::alloc::Global;
 use std::rt::Clock;
 use std::sync::Wait;
 use std::thread::Threads;
-use task_run::list::play_list;
 use task_step::outcome::Outcome;
-use task_step::partial::{Partial, Refusal};
+use task_step::partial::Refusal;
 use task_step::step::{GREATEST_MOMENT, GREATEST_NUMBER, Step};
 use view::question::{Answer, Question};
 use world::worlds::World;
@@ -17,7 +16,7 @@ use world::worlds::World;
 pub struct Plan {
     /// The key of every step.
     pub key: [u8; 32],
-    /// How many workers run a long list.
+    /// How many workers run a list at most.
     pub workers: usize,
 }
 
@@ -77,8 +76,8 @@ pub struct Played {
     pub end: Option<End>,
 }
 
-/// Runs a list of steps: on this thread, where one worker is enough.
-pub fn play<G: Gate, R: Threads + Wait + Sync>(
+/// Runs a list of steps by so many workers at most.
+pub fn play<G: Gate, R: Threads + Wait + Clock + Sync>(
     rt: &R,
     alloc: Global,
     gate: &G,
@@ -86,10 +85,10 @@ pub fn play<G: Gate, R: Threads + Wait + Sync>(
     steps: &[Step],
     workers: usize,
 ) -> Played {
-    match run(rt, alloc, gate, world, steps, workers) {
-        Ok((world, outcomes)) => Played {
-            world,
-            outcomes,
+    match run_list(rt, alloc, gate, world, steps, workers) {
+        Ok(report) => Played {
+            world: report.world,
+            outcomes: report.outcomes,
             end: None,
         },
         Err(partial) => {
@@ -104,21 +103,6 @@ pub fn play<G: Gate, R: Threads + Wait + Sync>(
             }
         }
     }
-}
-
-fn run<G: Gate, R: Threads + Wait + Sync>(
-    rt: &R,
-    alloc: Global,
-    gate: &G,
-    world: World,
-    steps: &[Step],
-    workers: usize,
-) -> Result<(World, Vec<Outcome>), Partial> {
-    if workers <= 1 {
-        return play_list(alloc, world, steps);
-    }
-    let report = run_list(rt, alloc, gate, world, steps, workers)?;
-    Ok((report.world, report.outcomes))
 }
 
 /// The number of the next step, if there is one.

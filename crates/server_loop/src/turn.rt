@@ -2,7 +2,7 @@
 use crate::agenda::{add_due, next_moment};
 use crate::draft::Draft;
 use crate::gather::gather;
-use crate::pace::Pace;
+use crate::looks::Looks;
 use crate::playing::{
     End, Plan, Played, Reached, asks_checkpoint, moment, next_number, play, second,
 };
@@ -38,14 +38,14 @@ pub struct Edge {
 
 /// Runs what has come and what is due, and tells what that tells. Where there is nothing, and was nothing for a while,
 /// waits until something comes or is due.
-pub fn run_turn<G: Gate, R: Threads + Wait + Copy + Send + Sync + 'static, C: Clock>(
+pub fn run_turn<G: Gate, R: Threads + Wait + Clock + Copy + Send + Sync + 'static, C: Clock>(
     rt: R,
     alloc: Global,
     gate: &G,
     clock: &C,
     plan: Plan,
     world: World,
-    pace: &mut Pace,
+    looks: &mut Looks,
     edge: &mut Edge,
 ) -> Reached {
     let next = match next_number(&world) {
@@ -70,7 +70,7 @@ pub fn run_turn<G: Gate, R: Threads + Wait + Copy + Send + Sync + 'static, C: Cl
     }
     links.sweep(&rt);
     if draft.steps.is_empty() {
-        if pace.looks_again() {
+        if looks.again() {
             hint::spin_loop();
         } else {
             let next_due = next_moment(&world);
@@ -82,18 +82,20 @@ pub fn run_turn<G: Gate, R: Threads + Wait + Copy + Send + Sync + 'static, C: Cl
             end: None,
         };
     }
-    let workers = if pace.is_long(draft.steps.len()) {
-        plan.workers
-    } else {
-        1
-    };
     let Played {
         world,
         outcomes,
         end,
-    } = play(&rt, alloc, gate, world, draft.steps.as_slice(), workers);
+    } = play(
+        &rt,
+        alloc,
+        gate,
+        world,
+        draft.steps.as_slice(),
+        plan.workers,
+    );
     if end.is_none() {
-        pace.learn(outcomes.as_slice());
+        looks.behind(outcomes.len());
     }
     let asks = asks_checkpoint(outcomes.as_slice());
     if tell_all(&rt, links, outcomes).is_err() {

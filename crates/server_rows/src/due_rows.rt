@@ -3,6 +3,7 @@ use moo_value::text::Text;
 use speculate::gate::Free;
 use speculate::list::run_list;
 use std::alloc::{AllocError, Global};
+use std::rt::Clock;
 use std::sync::Wait;
 use std::test::Fail;
 use std::thread::Threads;
@@ -31,7 +32,7 @@ fn steps(alloc: Global) -> Result<Vec<Step>, AllocError> {
 }
 
 // The world in which these tasks wait.
-fn waiting<R: Threads + Wait + Sync + AllocGlobal>(rt: &R) -> Result<World, AllocError> {
+fn waiting<R: Threads + Wait + Clock + Sync + AllocGlobal>(rt: &R) -> Result<World, AllocError> {
     let alloc = rt.alloc();
     let steps = steps(alloc)?;
     match run_list(rt, alloc, &Free, fixture(alloc)?, steps.as_slice(), 1) {

@@ -1,6 +1,7 @@
-pub mod Crossing
 pub mod Alone
+pub mod Crossing
 pub mod Honest
+pub mod Parts
 pub mod Places
 pub mod Plays
 pub mod Recorded

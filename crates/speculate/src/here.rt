@@ -62,8 +62,8 @@ pub(crate) fn play_here<G: Gate>(
     })
 }
 
-// Room for the outcomes and the marks.
-fn places(alloc: Global, count: usize) -> Result<(Vec<Outcome>, Vec<Mark>), AllocError>
+/// Room for the outcomes and the marks.
+pub(crate) fn places(alloc: Global, count: usize) -> Result<(Vec<Outcome>, Vec<Mark>), AllocError>
     ensures empty { IfOk result (λ r. (r.0.items ≡ []) × (r.1.items ≡ [])) }
     ensures none { IfOk result (λ r. (vec_len r.0 ≡ 0) × (vec_len r.1 ≡ 0)) }
     ensures room { IfOk result (λ r. (count ≤ vec_capacity r.0) × (count ≤ vec_capacity r.1)) }

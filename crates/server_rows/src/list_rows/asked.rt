@@ -5,6 +5,7 @@ use speculate::guesses::Guess;
 use speculate::guessing::guess;
 use speculate::held::Mark;
 use std::alloc::{AllocError, Global};
+use std::rt::Clock;
 use std::sync::Wait;
 use std::sync::atomic::{AtomicU64, Ordering};
 use std::test::Fail;
@@ -36,7 +37,7 @@ impl Gate for CountingGate {
 }
 
 // What three counts by one worker give otherwise, and how often the gate was asked, where not for each.
-fn others<R: Threads + Wait + Sync + AllocGlobal>(rt: &R) -> Result<String, AllocError> {
+fn others<R: Threads + Wait + Clock + Sync + AllocGlobal>(rt: &R) -> Result<String, AllocError> {
     let alloc = rt.alloc();
     let row = [
         counts(1, 1, Mark::Kept),

@@ -6,6 +6,7 @@ use speculate::board::Board;
 use speculate::gate::Free;
 use speculate::held::Mark;
 use std::alloc::{AllocError, Global};
+use std::rt::Clock;
 use std::sync::Wait;
 use std::test::Fail;
 use std::thread::Threads;
@@ -91,7 +92,7 @@ fn others_on_board(alloc: Global, world: World, row: &[Line]) -> Result<String, 
 }
 
 // What a row gives otherwise by each of these numbers of workers, on the fixture or on the one with more rooms.
-fn others_by_workers<R: Threads + Wait + Sync + AllocGlobal>(
+fn others_by_workers<R: Threads + Wait + Clock + Sync + AllocGlobal>(
     rt: &R,
     has_rooms: bool,
     row: &[Line],

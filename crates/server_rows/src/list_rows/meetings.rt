@@ -3,6 +3,7 @@ use crate::list_rows::row::{counts, others_by};
 use crate::meeting::MeetingGate;
 use speculate::held::Mark;
 use std::alloc::AllocError;
+use std::rt::Clock;
 use std::sync::Wait;
 use std::test::Fail;
 use std::thread::Threads;
@@ -12,7 +13,7 @@ use world_fixture::fixture::fixture;
 const TIMES: usize = 50;
 
 // What two counts give otherwise where the second is committed so, and whether the workers do not meet.
-fn others<R: Threads + Wait + Sync + AllocGlobal>(
+fn others<R: Threads + Wait + Clock + Sync + AllocGlobal>(
     rt: &R,
     refuses: bool,
     second: Mark,

@@ -9,6 +9,7 @@ use speculate::held::Mark;
 use speculate::list::run_list;
 use speculate::report::Report;
 use std::alloc::{AllocError, Global};
+use std::rt::Clock;
 use std::sync::Wait;
 use std::thread::Threads;
 use task_step::outcome::{Ending, Outcome};
@@ -95,7 +96,7 @@ pub(super) fn board_on(
 }
 
 /// What a row gives otherwise by a gate and so many workers.
-pub(super) fn others_by<G: Gate, R: Threads + Wait + Sync + AllocGlobal>(
+pub(super) fn others_by<G: Gate, R: Threads + Wait + Clock + Sync + AllocGlobal>(
     rt: &R,
     gate: &G,
     world: World,

@@ -4,6 +4,7 @@ use crate::session_rows::held::{Broken, Left, hold};
 use moo_session::refused::Refused;
 use speculate::gate::Free;
 use std::alloc::AllocError;
+use std::rt::Clock;
 use std::sync::Wait;
 use std::test::Fail;
 use std::thread::Threads;
@@ -37,13 +38,15 @@ fn texts_until(connection: usize, writes: usize) -> [&'static [u8]; 2] {
 }
 
 // The world after a session in which nothing fails.
-fn world_after<R: Threads + Wait + Sync + AllocGlobal>(rt: &R) -> Result<Snapshot, AllocError> {
+fn world_after<R: Threads + Wait + Clock + Sync + AllocGlobal>(
+    rt: &R,
+) -> Result<Snapshot, AllocError> {
     let Left { world, .. } = hold(rt, &Free, &STREAMS, 2, Broken::Nothing)?;
     world.snapshot()
 }
 
 // What a session does otherwise than it is to.
-fn others<R: Threads + Wait + Sync + AllocGlobal>(
+fn others<R: Threads + Wait + Clock + Sync + AllocGlobal>(
     rt: &R,
     broken: Broken,
     refused: Option<Refused>,

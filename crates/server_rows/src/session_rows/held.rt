@@ -4,6 +4,7 @@ use moo_session::holding::session;
 use moo_session::refused::Refused;
 use speculate::gate::Gate;
 use std::alloc::{AllocError, Global};
+use std::rt::Clock;
 use std::sync::Wait;
 use std::thread::Threads;
 use world::worlds::World;
@@ -56,7 +57,7 @@ pub struct Left {
 }
 
 /// Holds a session on the fixture, in which the connections send these streams.
-pub fn hold<G: Gate, R: Threads + Wait + Sync + AllocGlobal>(
+pub fn hold<G: Gate, R: Threads + Wait + Clock + Sync + AllocGlobal>(
     rt: &R,
     gate: &G,
     streams: &[&[u8]],

@@ -3,6 +3,7 @@ use crate::meeting::MeetingGate;
 use crate::session_rows::held::{Broken, Left, hold};
 use speculate::gate::{Free, Gate};
 use std::alloc::AllocError;
+use std::rt::Clock;
 use std::sync::Wait;
 use std::test::Fail;
 use std::thread::Threads;
@@ -21,7 +22,7 @@ fn is_left(world: &World, next: u64) -> Result<bool, AllocError> {
 }
 
 // What a session with that stream does otherwise.
-fn others<G: Gate, R: Threads + Wait + Sync + AllocGlobal>(
+fn others<G: Gate, R: Threads + Wait + Clock + Sync + AllocGlobal>(
     rt: &R,
     gate: &G,
     workers: usize,

@@ -1,5 +1,6 @@
 use Rattle.std.proofs.Common.{◌-◌, ◌≤◌, drop, arith, length-take}
-use Rattle.moo_server.proofs.Plays.{none_played, part_runs_on, part_played, only_memory, ended_in_part}
+use Rattle.speculate.proofs.Parts.{part_runs_on}
+use Rattle.moo_server.proofs.Plays.{none_played, part_played, only_memory, ended_in_part}
 use Rattle.moo_server.proofs.parts.play_steps.Goals as goal
 
 pub part-init : goal.part-init

@@ -8,7 +8,7 @@ ghost use Rattle.speculate.specs.Right.{IsRight, after_guess};
 ghost use Rattle.speculate.specs.Progress.{Ran, Committed, IsUndone};
 ghost use Rattle.speculate.specs.Verbs.{SameVerbs, IsWithin, KnowsVerbs};
 
-use crate::guesses::{Guess, Spent, all_leave_verbs};
+use crate::guesses::{Guess, Spent, leave_verbs};
 use crate::held::{Held, Mark};
 use crate::trying::try_on;
 use std::alloc::{AllocError, Global};
@@ -117,7 +117,7 @@ fn run(
     Ok(Done {
         outcome,
         mark,
-        leaves_verbs: all_leave_verbs(changes.as_slice()),
+        leaves_verbs: leave_verbs(&changes),
         spent: held.into_spent(),
     })
 }

@@ -1,7 +1,7 @@
 //! Guesses.
 ghost use Rattle.std.specs.Prelude.{◌≡◌, ◌↔◌, ◌+◌, map, IsTrue, IfOk, IfErr};
 ghost use Rattle.spec_world.specs.World.{World as Plain};
-ghost use Rattle.spec_world.specs.Questions.{Agrees};
+ghost use Rattle.spec_world.specs.Questions.{Agrees, apply_all};
 ghost use Rattle.view.specs.Sound.{IsSound};
 ghost use Rattle.view.specs.Meanings.{change_of};
 ghost use Rattle.speculate.specs.Right.{IsRight, after_guess};
@@ -87,11 +87,10 @@ impl Guess {
     }
 
     /// Whether none of its changes is to verbs.
-    #[tactic(auto, using(crate::proofs::Verbs::verbs_stay))]
     pub(crate) fn leaves_verbs(&self) -> bool
         ensures { IsTrue result → (w : Plain) → SameVerbs w (after_guess self.now w) }
     {
-        all_leave_verbs(self.changes.as_slice())
+        leave_verbs(&self.changes)
     }
 
     /// The world has the changes, and the guess's outcome is the step's; with it comes what is left of the guess. After want of memory nothing has changed.
@@ -136,8 +135,16 @@ impl Guess {
     }
 }
 
-/// Whether no change is to verbs.
-pub(crate) fn all_leave_verbs(changes: &[Change]) -> bool
+/// Whether none of the changes is to verbs.
+#[tactic(auto, using(crate::proofs::Verbs::verbs_stay))]
+pub(crate) fn leave_verbs(changes: &Changes) -> bool
+    ensures { IsTrue result → (w : Plain) → SameVerbs w (apply_all changes.now w) }
+{
+    all_leave_verbs(changes.as_slice())
+}
+
+// Whether no change is to verbs.
+fn all_leave_verbs(changes: &[Change]) -> bool
     ensures { IsTrue result → IsTrue (all_leave (map change_of changes.now)) }
 {
     for change in changes {

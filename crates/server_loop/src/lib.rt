@@ -5,7 +5,7 @@ mod agenda;
 mod draft;
 mod gather;
 mod left;
-mod looks;
+mod pace;
 mod playing;
 mod saving;
 pub mod serving;

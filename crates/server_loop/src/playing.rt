@@ -16,7 +16,7 @@ use world::worlds::World;
 pub struct Plan {
     /// The key of every step.
     pub key: [u8; 32],
-    /// How many workers run a list at most.
+    /// How many workers run a long list.
     pub workers: usize,
 }
 
@@ -76,7 +76,7 @@ pub struct Played {
     pub end: Option<End>,
 }
 
-/// Runs a list of steps by so many workers at most.
+/// Runs a list of steps by so many workers.
 pub fn play<G: Gate, R: Threads + Wait + Clock + Sync>(
     rt: &R,
     alloc: Global,

@@ -2,7 +2,7 @@
 ghost use Rattle.std.specs.Prelude.{◌≡◌, ◌⊎◌};
 
 use crate::left::close_left;
-use crate::looks::Looks;
+use crate::pace::Pace;
 use crate::playing::{End, Plan, Reached};
 use crate::saving::Saver;
 use crate::turn::{Edge, run_turn};
@@ -131,7 +131,7 @@ fn run_turns<
     edge: &mut Edge,
     errors: &mut E,
 ) -> (World, End) {
-    let mut looks = Looks::new();
+    let mut pace = Pace::new();
     let mut reached = close_left(&rt, alloc, gate, clock, plan, world);
     'turn: for _ in rt.forever() {
         let Reached { world, asks, end } = reached;
@@ -141,7 +141,7 @@ fn run_turns<
         if let Some(saver) = &mut edge.saver {
             saver.tend(rt, &world, asks, errors);
         }
-        reached = run_turn(rt, alloc, gate, clock, plan, world, &mut looks, edge);
+        reached = run_turn(rt, alloc, gate, clock, plan, world, &mut pace, edge);
     }
     unreachable!()
 }

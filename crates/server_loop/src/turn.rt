@@ -2,7 +2,7 @@
 use crate::agenda::{add_due, next_moment};
 use crate::draft::Draft;
 use crate::gather::gather;
-use crate::looks::Looks;
+use crate::pace::Pace;
 use crate::playing::{
     End, Plan, Played, Reached, asks_checkpoint, moment, next_number, play, second,
 };
@@ -45,7 +45,7 @@ pub fn run_turn<G: Gate, R: Threads + Wait + Clock + Copy + Send + Sync + 'stati
     clock: &C,
     plan: Plan,
     world: World,
-    looks: &mut Looks,
+    pace: &mut Pace,
     edge: &mut Edge,
 ) -> Reached {
     let next = match next_number(&world) {
@@ -70,7 +70,7 @@ pub fn run_turn<G: Gate, R: Threads + Wait + Clock + Copy + Send + Sync + 'stati
     }
     links.sweep(&rt);
     if draft.steps.is_empty() {
-        if looks.again() {
+        if pace.looks_again() {
             hint::spin_loop();
         } else {
             let next_due = next_moment(&world);
@@ -82,20 +82,18 @@ pub fn run_turn<G: Gate, R: Threads + Wait + Clock + Copy + Send + Sync + 'stati
             end: None,
         };
     }
+    let workers = if pace.is_long(draft.steps.len()) {
+        plan.workers
+    } else {
+        1
+    };
     let Played {
         world,
         outcomes,
         end,
-    } = play(
-        &rt,
-        alloc,
-        gate,
-        world,
-        draft.steps.as_slice(),
-        plan.workers,
-    );
+    } = play(&rt, alloc, gate, world, draft.steps.as_slice(), workers);
     if end.is_none() {
-        looks.behind(outcomes.len());
+        pace.learn(outcomes.as_slice());
     }
     let asks = asks_checkpoint(outcomes.as_slice());
     if tell_all(&rt, links, outcomes).is_err() {

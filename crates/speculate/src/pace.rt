@@ -1,79 +1,73 @@
-//! How quickly the steps of a list go, and whether several workers are likely to play the next ones in less time than one.
+//! How quickly the steps of a list go by several workers and by one, and so who plays the next ones.
 ghost use Rattle.std.specs.Prelude.{◌≤◌, ◌<◌};
 
 use std::time::Instant;
 
-// A list's first steps that one worker plays at once are this part of it, and so many at most; then twice as many each time, and no more than that.
-const FIRST_PART: usize = 32;
+// Several workers play so many steps at first; then so many, and twice as many each time up to the most.
+const FIRST: usize = 512;
 
-const MOST_FIRST: usize = 64;
-
-const MOST_ALONE: usize = 1024;
-
-// Several workers play so many steps at first, and then twice as many each time, and no more than that.
-const FIRST_TOGETHER: usize = 4096;
+const TOGETHER: usize = 4096;
 
 const MOST_TOGETHER: usize = 32768;
 
-// After so many stretches of a long list it is told how long a step takes: the first ones find nothing at hand yet.
+// One worker plays so many steps at first, and twice as many each time up to the most.
+const ALONE: usize = 64;
+
+const MOST_ALONE: usize = 1024;
+
+// After so many stretches by one worker it is told how long a step takes: in the first ones it has nothing at hand yet.
 const WARM: usize = 3;
 
-// What several workers cost, in nanoseconds: the start of one; a guess beyond its step alone; and the time for which it keeps the board to itself.
-const START: u64 = 80_000;
+// So many steps are played by one worker before several are tried again, and twice as many after each try.
+const REST: usize = 32768;
 
-const GUESS: u64 = 2_500;
-
-const BOARD: u64 = 2_000;
-
-/// What is known of the pace of a list under way.
+/// What is known of the pace of a list under way. Several workers begin it. Then one plays some steps, and from then on those that were quicker.
 #[derive(Drop)]
 pub(crate) struct Pace {
     workers: u64,
-    // Nanoseconds of a step by one worker: in the last stretch, and the least of the last two.
+    // Nanoseconds of a step by several workers, in the last stretch that they played.
+    together: Option<u64>,
+    // The same by one worker, in its last stretch, and the least of its last two.
     last: Option<u64>,
     alone: Option<u64>,
-    // The same by several, where these played the last stretch.
-    together: Option<u64>,
-    // How many stretches one worker has played.
+    // How many stretches one worker has played since its pace was last unknown.
     stretches: usize,
-    // How many steps the next stretch has.
-    next_alone: usize,
+    // How many steps the next stretches have.
     next_together: usize,
-    // So many steps are played by one worker before several are tried again.
+    next_alone: usize,
+    // So many steps are still one worker's, and so many will be after the next try.
     rest: usize,
+    next_rest: usize,
 }
 
 impl Pace {
-    /// Nothing is known yet of a list of so many steps.
-    pub(crate) fn new(count: usize, workers: usize) -> Pace {
+    /// Nothing is known yet.
+    pub(crate) fn new(workers: usize) -> Pace {
         Pace {
             workers: workers.max(1) as u64,
+            together: None,
             last: None,
             alone: None,
-            together: None,
             stretches: 0,
-            next_alone: (count / FIRST_PART).clamp(1, MOST_FIRST),
-            next_together: FIRST_TOGETHER,
+            next_together: FIRST,
+            next_alone: ALONE,
             rest: 0,
+            next_rest: REST,
         }
     }
 
-    /// Whether several workers are to play the next stretch, where so many steps are left.
-    pub(crate) fn is_for_several(&self, left: usize) -> bool {
-        if self.rest > 0 || left > FIRST_TOGETHER && self.stretches < WARM {
-            return false;
-        }
-        let Some(alone) = self.alone else {
-            return false;
+    /// Whether several workers are to play the next stretch.
+    pub(crate) fn is_for_several(&self) -> bool {
+        let Some(together) = self.together else {
+            return true;
         };
-        let guess = alone.saturating_add(GUESS) / self.workers.max(1);
-        let together = self.together.unwrap_or(guess.max(BOARD));
-        let left = left as u64;
-        let start = START.saturating_mul(self.workers);
-        start.saturating_add(left.saturating_mul(together)) < left.saturating_mul(alone)
+        match self.alone {
+            Some(alone) => self.rest == 0 && self.stretches >= WARM && together <= alone,
+            None => false,
+        }
     }
 
-    /// How many of the steps that are left the next stretch has.
+    /// How many of the steps that are left the next stretch has. A stretch is not followed by one that is shorter.
     pub(crate) fn count(&self, left: usize, is_for_several: bool) -> usize
         ensures some { 0 < left → 0 < result }
         ensures most { result ≤ left }
@@ -90,7 +84,7 @@ impl Pace {
         }
     }
 
-    /// So many steps were played between two moments. Without a clock several workers are trusted to be quicker.
+    /// So many steps were played between two moments.
     pub(crate) fn note(
         &mut self,
         count: usize,
@@ -106,33 +100,54 @@ impl Pace {
         }
     }
 
-    fn note_alone(&mut self, each: u64, count: usize) {
-        self.alone = Some(each.min(self.last.unwrap_or(each)));
-        self.last = Some(each);
-        self.stretches = self.stretches.saturating_add(1);
-        self.next_alone = self.next_alone.saturating_mul(2).min(MOST_ALONE);
-        self.rest = self.rest.saturating_sub(count);
-    }
-
-    // Where several are no quicker than one was, one goes on for a while. Where they are quicker than they could be at one worker's pace, the steps have become
-    // lighter, and that pace is measured anew.
+    // Where several were quicker than they could be at one worker's pace, steps have become lighter, and that pace is found anew.
     fn note_together(&mut self, each: u64) {
-        let alone = self.alone.unwrap_or(0);
-        if each >= alone {
-            self.rest = self.next_together.saturating_mul(2);
-            self.together = None;
-        } else {
-            self.together = Some(each);
-        }
+        self.together = Some(each);
+        self.next_together = self
+            .next_together
+            .saturating_mul(2)
+            .clamp(TOGETHER, MOST_TOGETHER);
+        let Some(alone) = self.alone else {
+            return;
+        };
         if each < alone / self.workers.max(1) {
             self.last = None;
             self.alone = None;
+            self.stretches = 0;
+        } else if each > alone {
+            self.begin_rest();
         }
-        self.next_together = self.next_together.saturating_mul(2).min(MOST_TOGETHER);
+    }
+
+    fn note_alone(&mut self, each: u64, count: usize) {
+        let alone = each.min(self.last.unwrap_or(each));
+        self.alone = Some(alone);
+        self.last = Some(each);
+        self.stretches = self.stretches.saturating_add(1);
+        self.next_alone = self.next_alone.saturating_mul(2).min(MOST_ALONE);
+        if self.rest > 0 {
+            self.rest_on(count);
+        } else if self.stretches >= WARM && self.together.is_some_and(|it| it > alone) {
+            self.begin_rest();
+        }
+    }
+
+    // Several were slower than one: one goes on for a while.
+    fn begin_rest(&mut self) {
+        self.rest = self.next_rest;
+        self.next_rest = self.next_rest.saturating_mul(2);
+    }
+
+    // So many steps of that while are over. At its end several are tried again.
+    fn rest_on(&mut self, count: usize) {
+        self.rest = self.rest.saturating_sub(count);
+        if self.rest == 0 {
+            self.together = None;
+        }
     }
 }
 
-// How many nanoseconds lie between two moments, as far as they are known: very many where they are not.
+// How many nanoseconds lie between two moments: very many where they are not known, so that several workers go on.
 fn nanoseconds(start: Option<Instant>, end: Option<Instant>) -> u64 {
     match (start, end) {
         (Some(start), Some(end)) => end.duration_since(start).as_nanos() as u64,

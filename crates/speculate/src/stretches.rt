@@ -1,4 +1,4 @@
-//! A list that is played in stretches, each by the caller alone or by several workers, as those before it make one expect to be the quicker.
+//! A list that is played in stretches, each by several workers or by the caller alone, whoever was the quicker before.
 ghost use Rattle.std.specs.Prelude.{◌≡◌, ◌≤◌, ◌<◌, ◌+◌, ◌++◌, ◌-◌, ℕ, length, take, vec_len, vec_capacity, IfOk, IfErr};
 ghost use Rattle.spec_world.specs.Step.{RunsOn, AllInRange};
 ghost use Rattle.spec_moo.specs.Steps.{play};
@@ -47,11 +47,11 @@ pub(crate) fn play_in_stretches<G: Gate, R: Threads + Wait + Clock + Sync>(
         outcomes,
         marks,
     };
-    let mut pace = Pace::new(steps.len(), workers);
+    let mut pace = Pace::new(workers);
     let mut at = 0;
     'stretch: while at < steps.len() {
         let left = steps.len() - at;
-        let several = pace.is_for_several(left);
+        let several = pace.is_for_several();
         let count = pace.count(left, several);
         let start = Instant::now(rt).ok();
         match go_on(

@@ -1,0 +1,9 @@
+pub mod Cutting
+pub mod Plain
+pub mod Literals
+pub mod Forms
+pub mod Codes
+pub mod Awaited
+pub mod Faults
+pub mod Rows
+pub mod Opened

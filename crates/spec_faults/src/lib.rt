@@ -1,0 +1,4 @@
+//! Which line of a text is faulty that is no world's, and which fault it has, by definitions and laws.
+#![tactic(auto)]
+
+pub mod rows;

@@ -8,15 +8,19 @@ use Rattle.spec_program.specs.Spelling.{canonical_lines}
 use Rattle.spec_program.specs.ReadPrograms.{Parsed, program, faulty, parsed_lines}
 use Rattle.spec_program.specs.Construct.{Construct}
 use Rattle.spec_program.specs.Place.{Holds, holds, walks_list, walks_range, why_left, Part, part_at, held_count, is_call}
+use Rattle.spec_faults.specs.Plain.{only_if}
 use Rattle.spec_world.specs.WellFormed.{nonempty, kinds_fit, held_fits, is_loop}
+
+abbrev pub are_lines_of : Program → List Text → Bool
+are_lines_of p ts = pointwise same_text (canonical_lines p) ts && is_tree p
+
+abbrev pub told : Parsed → List Text → Option Program
+told (faulty f) ts = None
+told (program p) ts = only_if (are_lines_of p ts) p
 
 -- the program whose canonical lines they are
 abbrev pub program_of : List Text → Option Program
-program_of ts = read (parsed_lines ts)
-  where
-    read : Parsed → Option Program
-    read (faulty f) = None
-    read (program p) = if (pointwise same_text (canonical_lines p) ts && is_tree p) then Some p else None
+program_of ts = told (parsed_lines ts) ts
 
 -- ---- places
 

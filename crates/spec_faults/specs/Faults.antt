@@ -1,10 +1,11 @@
 -- The first faulty line of a text that is no world's, and the least of its faults.
-use Rattle.std.specs.Prelude.{◌≡◌, ◌⊎◌, ℕ, suc, ◌-◌, Bool, List, [], ◌∷◌, ◌++◌, length, Option, Some, None}
+use Rattle.std.specs.Prelude.{◌≡◌, ◌⊎◌, ℕ, suc, ◌-◌, Bool, List, [], ◌∷◌, ◌++◌, length, IsTrue, Option, Some, None}
 use Rattle.spec_value.specs.Datum.{Text}
 use Rattle.spec_world.specs.World.{World}
 use Rattle.spec_world.specs.WellFormed.{IsWellFormed}
 use Rattle.spec_world.specs.Checkpoint as fault
 use Rattle.spec_world.specs.Checkpoint.{CheckpointFault, checkpoint_text}
+use Rattle.spec_checkpoint.specs.Holding.{world_holds}
 use Rattle.spec_faults.specs.Cutting.{Cut, lines_of}
 use Rattle.spec_faults.specs.Awaited.{Awaited, Verdict, faulty, goes_on, told, opened, whole}
 
@@ -45,9 +46,9 @@ first_fault t = fault_in (lines_of t)
 -- ---- the fault of a text
 
 abbrev pub IsNoWorlds : Text → Type 0
-IsNoWorlds t = (w : World) → IsWellFormed w → checkpoint_text w ≡ t → ⊥
+IsNoWorlds t = (w : World) → IsWellFormed w → IsTrue (world_holds w) → checkpoint_text w ≡ t → ⊥
 
--- its last line has the fault World where no line has another, and no well-formed world has the text
+-- its last line has the fault World where no line has another, and no well-formed world of values has the text
 pub record IsWorldFault (t : Text) (f : LineFault) : Type 0 where
   pub none : first_fault t ≡ None
   pub kind : f.kind ≡ fault.world

@@ -7,3 +7,4 @@ pub mod Awaited
 pub mod Faults
 pub mod Rows
 pub mod Opened
+pub mod FieldLaws

@@ -1,10 +1,10 @@
 -- Literals: what value a text could spell, and whether it spells it.
 use Rattle.std.specs.Prelude.{ℕ, zero, suc, ◌==◌, ◌&&◌, ◌||◌, pos, Bool, true, false, List, [], ◌∷◌, ◌++◌, length, drop, if◌then◌else◌, Option, Some, None, codes}
-use Rattle.std.specs.List.{list_all, take_while}
+use Rattle.std.specs.List.{list_all}
 use Rattle.spec_value.specs.Datum.{Text, same_text, ErrorCode, no_error, type_mismatch, zero_division, permission_denied, property_not_found, verb_not_found, variable_not_found, invalid_indirection, recursive_move, too_many_calls, range_error, wrong_argument_count, move_refused, invalid_argument, limit_exceeded, float_error, Datum, integer, object, text, error, list, Data, no_data, item, to_list, is_value}
 use Rattle.spec_value.specs.Literal.{error_name, literal}
 use Rattle.spec_program.specs.Names.{is_digit}
-use Rattle.spec_faults.specs.Plain.{signed_value}
+use Rattle.spec_faults.specs.Plain.{only_if, passes, signed_value}
 
 -- ---- what stands at the front of a text, and what behind it
 
@@ -12,21 +12,27 @@ pub record Front (A : Type 0) : Type 0 where
   pub found : A
   pub rest : Text
 
+abbrev pub onto_if : Bool → ℕ → Text → Text
+onto_if true c t = c ∷ t
+onto_if false c t = []
+
+-- the digits and minus signs at the front
 abbrev pub numeral : Text → Text
-numeral t = take_while (λ c. is_digit c || c == 45) t
+numeral [] = []
+numeral (c ∷ t) = onto_if (is_digit c || c == 45) c (numeral t)
 
 abbrev pub one_more : ℕ → Front Text → Front Text
 one_more c f = record { found = c ∷ f.found; rest = f.rest }
+
+abbrev pub past : Bool → ℕ → Front Text → Front Text
+past true c f = f
+past false c f = one_more c f
 
 -- behind the opening quote, perhaps behind a backslash
 abbrev pub text_front : Bool → Text → Front Text
 text_front escaped [] = record { found = []; rest = [] }
 text_front true (c ∷ t) = one_more c (text_front false t)
-text_front false (c ∷ t) = if c == 34 then record { found = []; rest = t } else go (c == 92) (text_front (c == 92) t)
-  where
-    go : Bool → Front Text → Front Text
-    go true f = f
-    go false f = one_more c f
+text_front false (c ∷ t) = if c == 34 then record { found = []; rest = t } else past (c == 92) c (text_front (c == 92) t)
 
 abbrev pub errors : List ErrorCode
 errors =
@@ -107,20 +113,16 @@ abbrev mutual
 abbrev pub deepest : ℕ
 deepest = 100000
 
+abbrev pub is_spelling : Datum → Text → Bool
+is_spelling v t = same_text (literal v) t && (is_value v && nests deepest v)
+
 -- the value whose literal it is: numbers in their range, texts of their characters, and no deeper than values are read
 abbrev pub value_of : Text → Option Datum
-value_of t = spelled (value_front (suc (length t)) t).found
-  where
-    spelled : Datum → Option Datum
-    spelled v = if (same_text (literal v) t && (is_value v && nests deepest v)) then Some v else None
+value_of t = let v : Datum = (value_front (suc (length t)) t).found in only_if (is_spelling v t) v
 
 -- a literal of a value that passes a test
 abbrev pub is_literal : (Datum → Bool) → Text → Bool
-is_literal test t = passes (value_of t)
-  where
-    passes : Option Datum → Bool
-    passes None = false
-    passes (Some v) = test v
+is_literal test t = passes test (value_of t)
 
 -- ---- kinds
 

@@ -7,55 +7,48 @@ use Rattle.spec_value.specs.Datum.{Text, same_text, in_number_range}
 use Rattle.spec_world.specs.Checkpoint.{or_dash}
 use Rattle.spec_faults.specs.Cutting.{onto_first}
 
+-- ---- what a field says
+
+abbrev pub only_if : {A : Type 0} → Bool → A → Option A
+only_if true x = Some x
+only_if false x = None
+
+abbrev pub passes : {A : Type 0} → (A → Bool) → Option A → Bool
+passes test None = false
+passes test (Some x) = test x
+
 -- ---- numbers
 
+-- the number that the text spells
 abbrev pub number_of : Text → Option ℕ
-number_of t = spelled (digits_value 10 t)
-  where
-    spelled : ℕ → Option ℕ
-    spelled n = if same_text (decimal n) t then Some n else None
+number_of t = only_if (same_text (decimal (digits_value 10 t)) t) (digits_value 10 t)
 
 -- a minus sign may stand before the digits
 abbrev pub signed_value : Text → ℤ
 signed_value [] = pos 0
 signed_value (c ∷ t) = if c == 45 then neg_ℤ (pos (digits_value 10 t)) else pos (digits_value 10 (c ∷ t))
 
+-- the integer of 32 bits that the text spells
 abbrev pub integer_of : Text → Option ℤ
-integer_of t = spelled (signed_value t)
-  where
-    spelled : ℤ → Option ℤ
-    spelled z = if (same_text (signed_decimal z) t && in_number_range z) then Some z else None
+integer_of t = only_if (same_text (signed_decimal (signed_value t)) t && in_number_range (signed_value t)) (signed_value t)
 
 abbrev pub is_number : ℕ → ℕ → Text → Bool
-is_number least most t = fits (number_of t)
-  where
-    fits : Option ℕ → Bool
-    fits None = false
-    fits (Some n) = nat_le least n && nat_le n most
+is_number least most t = passes (λ n. nat_le least n && nat_le n most) (number_of t)
 
--- of 32 bits
 abbrev pub is_integer : ℤ → ℤ → Text → Bool
-is_integer least most t = fits (integer_of t)
-  where
-    fits : Option ℤ → Bool
-    fits None = false
-    fits (Some z) = int_le least z && int_le z most
+is_integer least most t = passes (λ z. int_le least z && int_le z most) (integer_of t)
 
 abbrev pub is_object : Text → Bool
 is_object [] = false
-is_object (c ∷ t) = c == 35 && is_there (integer_of t)
-  where
-    is_there : Option ℤ → Bool
-    is_there None = false
-    is_there (Some z) = true
+is_object (c ∷ t) = c == 35 && passes (λ z. true) (integer_of t)
+
+abbrev pub or_zero : Option ℕ → ℕ
+or_zero None = 0
+or_zero (Some n) = n
 
 -- the number that a field says, 0 where it says none
 abbrev pub number_in : Text → ℕ
-number_in t = or_none (number_of t)
-  where
-    or_none : Option ℕ → ℕ
-    or_none None = 0
-    or_none (Some n) = n
+number_in t = or_zero (number_of t)
 
 -- ---- letters
 

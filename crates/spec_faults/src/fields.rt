@@ -19,10 +19,11 @@ pub fn programs()
     ensures each { ProgramsTold }
 {}
 
-ghost use Rattle.spec_faults.specs.FieldLaws.{ValuesSpelled};
+ghost use Rattle.spec_faults.specs.FieldLaws.{ValuesSpelled, ValuesTold};
 
 /// A value is told of its literal alone.
-#[tactic(auto, using(crate::proofs::Spelling::values_spelled))]
+#[tactic(auto, using(crate::proofs::Spelling::values_spelled, crate::proofs::LiteralsBack::values_told))]
 pub fn values()
     ensures values { ValuesSpelled }
+    ensures each { ValuesTold }
 {}

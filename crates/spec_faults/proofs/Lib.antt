@@ -1,2 +1,4 @@
 pub mod Spelling
 pub mod LiteralsBack
+pub mod LinesBack
+pub mod FieldsBack

@@ -27,3 +27,15 @@ pub fn values()
     ensures values { ValuesSpelled }
     ensures each { ValuesTold }
 {}
+
+ghost use Rattle.spec_faults.specs.FieldLaws.{LinesSpelled, LinesTold, FieldsSpelled, FieldsTold};
+
+/// A text is its lines with what stands behind them, and a line its fields; lines are cut where they end, and fields of unmarked characters
+/// and literals where they end.
+#[tactic(auto, using(crate::proofs::LinesBack::lines_spelled, crate::proofs::LinesBack::lines_told, crate::proofs::FieldsBack::fields_spelled, crate::proofs::FieldsBack::fields_told))]
+pub fn cuts()
+    ensures lines { LinesSpelled }
+    ensures each_line { LinesTold }
+    ensures fields { FieldsSpelled }
+    ensures each_field { FieldsTold }
+{}

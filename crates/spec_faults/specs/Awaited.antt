@@ -47,13 +47,13 @@ abbrev pub only_if : Bool → CheckpointFault → List Awaited → Verdict
 only_if true k more = goes_on more
 only_if false k more = faulty 0 k
 
+abbrev pub by_fault : Option CheckpointFault → List Text → (List Text → Verdict) → Verdict
+by_fault (Some k) ts next = faulty 0 k
+by_fault None ts next = next ts
+
 -- by the fields that are wanted, and what they then tell
 abbrev pub by_form : List Wanted → List Text → (List Text → Verdict) → Verdict
-by_form ws ts next = told (fault_of ws ts)
-  where
-    told : Option CheckpointFault → Verdict
-    told (Some k) = faulty 0 k
-    told None = next ts
+by_form ws ts next = by_fault (fault_of ws ts) ts next
 
 -- ---- programs
 

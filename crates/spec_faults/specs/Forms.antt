@@ -37,15 +37,16 @@ one_is so _ _ = false
 abbrev pub has_form : List Wanted → List Text → Bool
 has_form ws ts = length ts == length ws && (list_all is_filled ts && not (one_is is_other_word ws ts))
 
+-- they have the form or not, one is misspelt, one is no such value
+abbrev pub least : Bool → Bool → Bool → Option CheckpointFault
+least false misspelt no_value = Some fault.line
+least true true no_value = Some fault.number
+least true false true = Some fault.value
+least true false false = None
+
 -- the least fault of fields of which these are wanted
 abbrev pub fault_of : List Wanted → List Text → Option CheckpointFault
 fault_of ws ts = least (has_form ws ts) (one_is is_misspelt ws ts) (one_is is_no_value ws ts)
-  where
-    least : Bool → Bool → Bool → Option CheckpointFault
-    least false misspelt no_value = Some fault.line
-    least true true no_value = Some fault.number
-    least true false true = Some fault.value
-    least true false false = None
 
 abbrev pub or_else : Bool → List Wanted → List Wanted → List Wanted
 or_else true ws others = ws

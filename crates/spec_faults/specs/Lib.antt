@@ -8,3 +8,4 @@ pub mod Faults
 pub mod Rows
 pub mod Opened
 pub mod FieldLaws
+pub mod TextLaws

@@ -1,5 +1,5 @@
 -- Fields that are no literals: a text is one if it is spelled as what it says.
-use Rattle.std.specs.Prelude.{ℕ, suc, ◌==◌, ◌&&◌, ◌||◌, nat_le, ℤ, pos, neg_ℤ, int_le, Bool, true, false, List, [], ◌∷◌, ◌++◌, map, length, if◌then◌else◌, Option, Some, None, codes}
+use Rattle.std.specs.Prelude.{ℕ, zero, suc, ◌==◌, ◌&&◌, ◌||◌, nat_le, ℤ, pos, neg_ℤ, int_le, Bool, true, false, List, [], ◌∷◌, ◌++◌, map, length, if◌then◌else◌, Option, Some, None, codes}
 use Rattle.std.specs.Fmt.{decimal, signed_decimal}
 use Rattle.std.specs.List.{list_all, list_any}
 use Rattle.std.specs.Str.Parse.{digits_value}
@@ -67,8 +67,11 @@ are_bits letters t = is_one_of (map or_dash (some_of letters)) t
 abbrev pub is_flag : Text → Bool
 is_flag t = is_one_of (codes "0" ∷ codes "1" ∷ []) t
 
+-- so many flags
 abbrev pub are_flags : ℕ → Text → Bool
-are_flags n t = length t == n && list_all (λ c. is_flag (c ∷ [])) t
+are_flags zero [] = true
+are_flags (suc n) (c ∷ t) = is_flag (c ∷ []) && are_flags n t
+are_flags _ _ = false
 
 -- ---- paths
 

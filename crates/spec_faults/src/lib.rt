@@ -3,3 +3,4 @@
 
 pub mod fields;
 pub mod rows;
+pub mod texts;

@@ -5,3 +5,4 @@ pub mod FieldsBack
 pub mod Suiting
 pub mod Fine
 pub mod OneFault
+pub mod FieldsSuit

@@ -166,7 +166,7 @@ integer_at_front (negsuc m) n r h = refl
 not_empty : (t : Text) (r : Text) → 0 < length t → IsTrue (starts_digit (t ++ r)) → 0 < length t
 not_empty t r h k = h
 
-some_literal : (v : Datum) → IsTrue (is_value v) → 0 < length (literal v)
+pub some_literal : (v : Datum) → IsTrue (is_value v) → 0 < length (literal v)
 some_literal (integer (pos n)) h = decimal_nonempty n (small n h)
 some_literal (integer (negsuc n)) h = omega arith
 some_literal (object z) h = omega arith

@@ -9,3 +9,4 @@ pub mod Rows
 pub mod Opened
 pub mod FieldLaws
 pub mod TextLaws
+pub mod Reach

@@ -2,5 +2,6 @@
 #![tactic(auto)]
 
 pub mod fields;
+pub mod laws;
 pub mod rows;
 pub mod texts;

@@ -6,3 +6,5 @@ pub mod Suiting
 pub mod Fine
 pub mod OneFault
 pub mod FieldsSuit
+pub mod Entering
+pub mod ObjectsFine

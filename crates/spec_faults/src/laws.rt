@@ -1,7 +1,7 @@
 //! x
 ghost use Rattle.spec_faults.specs.TextLaws.{OneFault};
 
-#[tactic(auto, using(crate::proofs::FieldsSuit::programming_suits))]
+#[tactic(auto, using(crate::proofs::ObjectsFine::objects_fine))]
 pub fn probe()
     ensures { OneFault }
 {}

@@ -8,3 +8,5 @@ pub mod OneFault
 pub mod FieldsSuit
 pub mod Entering
 pub mod ObjectsFine
+pub mod Helds
+pub mod TasksFine

@@ -35,7 +35,7 @@ in_part loops (Some x) go = in_tree (loops, x.held) x.tree go
 -- what is held on the way to a call, the outermost first, each with how many loops are around; none where the path leads to no call
 abbrev pub holds_down : ℕ → Construct → List ℕ → Option (List (ℕ × Holds))
 holds_down loops c [] = if is_call c then Some [] else None
-holds_down loops c (n ∷ path) = in_part loops (part_at c n) (λ d. holds_down (loops + is_loop c) d path)
+holds_down loops c (n ∷ path) = in_part loops (part_at c n) (λ d. holds_down (is_loop c + loops) d path)
 
 abbrev pub total : List (ℕ × Holds) → ℕ
 total [] = 0

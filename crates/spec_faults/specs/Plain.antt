@@ -88,5 +88,9 @@ between_dots (c ∷ t) = with_dot (c == 46) c (between_dots t)
 abbrev pub is_path : Text → Bool
 is_path t = same_text t (codes "0") || list_all (is_number 1 9223372036854775807) (between_dots t)
 
+abbrev pub beginning : List ℕ → List ℕ
+beginning (zero ∷ []) = []
+beginning ns = ns
+
 abbrev pub path_in : Text → List ℕ
-path_in t = if same_text t (codes "0") then [] else map number_in (between_dots t)
+path_in t = beginning (map number_in (between_dots t))

@@ -1,7 +1,7 @@
 //! x
 ghost use Rattle.spec_faults.specs.TextLaws.{OneFault};
 
-#[tactic(auto, using(crate::proofs::ObjectsFine::objects_fine))]
+#[tactic(auto, using(crate::proofs::TasksFine::tasks_fine))]
 pub fn probe()
     ensures { OneFault }
 {}

@@ -10,3 +10,4 @@ pub mod Entering
 pub mod ObjectsFine
 pub mod Helds
 pub mod TasksFine
+pub mod WorldsFine

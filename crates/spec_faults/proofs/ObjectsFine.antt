@@ -166,7 +166,7 @@ as_many_verbs (v ∷ vs) = let later = as_many_verbs vs in let room = length-app
 
 -- ---- objects
 
-in_range : (o g : ℤ) → IsTrue (int_le (pos 0) o) → IsTrue (int_le o g) → IsTrue (int_le g (pos 999999)) → IsTrue (int_le (pos 0) o && int_le o (pos 999999))
+pub in_range : (o g : ℤ) → IsTrue (int_le (pos 0) o) → IsTrue (int_le o g) → IsTrue (int_le g (pos 999999)) → IsTrue (int_le (pos 0) o && int_le o (pos 999999))
 in_range (pos o) (pos g) h k l = grind (arith, nat_tests)
 in_range (pos o) (negsuc g) h k l = cc
 in_range (negsuc o) g h k l = cc
@@ -237,3 +237,11 @@ module _ (w : World) (all : IsTrue (list_all numbered_object_holds w.objects)) (
       let here = object_fine e.0 e.1 (each_object w es ++ us) (again (length es) awaited.each_object ∷ more) n.0 (first_holds (numbered_object_holds e) (list_all numbered_object_holds es) h) (first_holds (object_near e.1) _ k) (omega arith) later in
       fine_same (again (suc (length es)) awaited.each_object ∷ more) (group awaited.each_object ++ (again (length es) awaited.each_object ∷ more)) (each_object w (e ∷ es) ++ us) refl
       (subst (λ ts. Fine ts (group awaited.each_object ++ (again (length es) awaited.each_object ∷ more))) (sym (append_assoc (object_lines w e.0 e.1) (each_object w es) us)) here)
+
+pub as_many_objects : (w : World) (es : Numbered Object) → length es ≤ length (each_object w es)
+as_many_objects w [] = omega arith
+as_many_objects w (e ∷ es) =
+    let later = as_many_objects w es in
+    let room = length-append (object_lines w e.0 e.1) (each_object w es) in
+    let own : 1 ≤ length (object_lines w e.0 e.1) = omega arith in
+    omega (arith, later, room, own)

@@ -465,3 +465,11 @@ tasks_fine (e ∷ es) us more is h k room f =
     (first_holds (task_near e.1) _ k) (omega arith) later in
     fine_same (again (suc (length es)) awaited.each_task ∷ more) (awaited.task ∷ again (length es) awaited.each_task ∷ more) (each_task (e ∷ es) ++ us) refl
     (subst (λ ts. Fine ts (awaited.task ∷ again (length es) awaited.each_task ∷ more)) (sym (append_assoc (task_lines e.0 e.1) (each_task es) us)) here)
+
+pub as_many_tasks : (es : Numbered Task) → length es ≤ length (each_task es)
+as_many_tasks [] = omega arith
+as_many_tasks (e ∷ es) =
+    let later = as_many_tasks es in
+    let room = length-append (task_lines e.0 e.1) (each_task es) in
+    let own : 1 ≤ length (task_lines e.0 e.1) = omega arith in
+    omega (arith, later, room, own)

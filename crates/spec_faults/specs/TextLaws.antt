@@ -1,7 +1,27 @@
 -- Laws of the first faults of texts.
-use Rattle.std.specs.Prelude.{◌≡◌}
+use Rattle.std.specs.Prelude.{◌≡◌, ◌<◌, ◌^◌, length, None, IsTrue}
 use Rattle.spec_value.specs.Datum.{Text}
-use Rattle.spec_faults.specs.Faults.{LineFault, IsFirstFault}
+use Rattle.spec_world.specs.World.{World}
+use Rattle.spec_world.specs.WellFormed.{IsWellFormed}
+use Rattle.spec_world.specs.Checkpoint.{checkpoint_text}
+use Rattle.spec_checkpoint.specs.Holding.{world_holds}
+use Rattle.spec_faults.specs.Faults.{LineFault, first_fault, IsFirstFault}
+use Rattle.spec_faults.specs.Reach.{is_in_reach}
 
 abbrev pub OneFault : Type 0
 OneFault = (t : Text) (f g : LineFault) → IsFirstFault t f → IsFirstFault t g → f ≡ g
+
+-- a well-formed world of values, in reach of readers, whose text a machine can hold
+pub record IsTold (w : World) : Type 0 where
+  pub well_formed : IsWellFormed w
+  pub holds : IsTrue (world_holds w)
+  pub reach : IsTrue (is_in_reach w)
+  pub room : length (checkpoint_text w) < 2 ^ 63
+
+-- no line of its text has a fault
+abbrev pub WorldsHaveNone : Type 0
+WorldsHaveNone = (w : World) → IsTold w → first_fault (checkpoint_text w) ≡ None
+
+-- nor is its last line told to be that of no world
+abbrev pub WorldsHaveNoFault : Type 0
+WorldsHaveNoFault = (w : World) (f : LineFault) → IsTold w → IsFirstFault (checkpoint_text w) f → ⊥

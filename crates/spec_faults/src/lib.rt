@@ -2,6 +2,5 @@
 #![tactic(auto)]
 
 pub mod fields;
-pub mod laws;
 pub mod rows;
 pub mod texts;

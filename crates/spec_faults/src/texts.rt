@@ -6,3 +6,13 @@ ghost use Rattle.spec_faults.specs.TextLaws.{OneFault};
 pub fn faults()
     ensures { OneFault }
 {}
+
+ghost use Rattle.spec_faults.specs.TextLaws.{WorldsHaveNone, WorldsHaveNoFault};
+
+/// The text of a well-formed world of values has no fault, if its values nest no deeper than values are read, its verbs want sets of
+/// prepositions that there are, and a machine can hold the text.
+#[tactic(auto, using(crate::proofs::WorldsFine::worlds_have_none, crate::proofs::WorldsFine::worlds_have_no_fault))]
+pub fn worlds()
+    ensures lines { WorldsHaveNone }
+    ensures none { WorldsHaveNoFault }
+{}

@@ -1,5 +1,5 @@
 -- What holds of whatever is found in a table by number holds of each of its entries.
-use Rattle.std.proofs.Common.{◌≡◌, ◌⊎◌, inl, inr, ℤ, Bool, false, [], ◌∷◌, Some, None, IsTrue, cond, int_eq, refl, ap, sym, ◌∙◌}
+use Rattle.std.proofs.Common.{◌≡◌, ◌⊎◌, inl, inr, ℤ, false, [], ◌∷◌, Some, None, IsTrue, cond, int_eq, ap, sym, ◌∙◌}
 use Rattle.spec_value.specs.Table.{Numbered, at, is_numbered}
 use Rattle.spec_value.proofs.Entries.{first_holds, second_holds}
 use Rattle.spec_value.proofs.Same.{integer_itself}

@@ -1,5 +1,5 @@
 -- A line is cut in its fields.
-use Rattle.std.proofs.Common.{◌≡◌, ℕ, zero, suc, ◌-◌, ◌==◌, ◌&&◌, ◌||◌, Bool, true, false, not, if◌then◌else◌, ℤ, pos, negsuc, List, [], ◌∷◌, ◌++◌, IsTrue, refl, ap, sym, subst, ◌∙◌, append_assoc, arith}
+use Rattle.std.proofs.Common.{◌≡◌, ℕ, zero, suc, ◌-◌, ◌==◌, ◌||◌, Bool, true, false, if◌then◌else◌, ℤ, pos, negsuc, List, [], ◌∷◌, ◌++◌, IsTrue, refl, ap, sym, subst, ◌∙◌, arith}
 use Rattle.std.proofs.lemmas.Bool.Decides.{nat_tests}
 use Rattle.std.proofs.lemmas.List.{append-nil}
 use Rattle.std.specs.List.{list_all}
@@ -12,7 +12,7 @@ use Rattle.spec_world.specs.Checkpoint.{fields, spaced_by}
 use Rattle.spec_checkpoint.proofs.Numbers.{are_digits, decimal_digits}
 use Rattle.spec_faults.specs.Cutting as spot
 use Rattle.spec_faults.specs.Cutting.{Spot, among, quoted, behind, ends_field, onto_first, with_next, spot_behind, fields_from, fields_in}
-use Rattle.spec_faults.specs.FieldLaws.{FieldsSpelled, is_unmarked, IsField, unmarked, spelled, AreFields, FieldsTold}
+use Rattle.spec_faults.specs.FieldLaws.{FieldsSpelled, is_unmarked, IsField, unmarked, spelled, FieldsTold}
 
 -- ---- what is cut
 

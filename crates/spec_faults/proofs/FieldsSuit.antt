@@ -1,25 +1,25 @@
 -- What the lines of a world have as fields is what is wanted there.
-use Rattle.std.proofs.Common.{◌≡◌, ℕ, zero, suc, ◌<◌, ◌≤◌, ◌^◌, ◌==◌, ◌&&◌, ◌||◌, nat_le, ℤ, pos, negsuc, int_le, Bool, true, false, List, [], ◌∷◌, ◌++◌, length, codes, Option, Some, None, IsTrue, refl, ap, sym, ◌∙◌, subst, arith}
+use Rattle.std.proofs.Common.{◌≡◌, ℕ, zero, suc, ◌<◌, ◌^◌, ◌&&◌, ◌||◌, nat_le, ℤ, pos, negsuc, int_le, Bool, true, false, List, [], ◌∷◌, ◌++◌, length, codes, Option, Some, None, IsTrue, refl, ap, ◌∙◌, arith}
 use Rattle.std.proofs.lemmas.Bool.Decides.{nat_tests}
 use Rattle.std.specs.List.{list_all}
 use Rattle.std.specs.Fmt.{decimal, signed_decimal}
 use Rattle.std.proofs.lemmas.Fmt.{decimal_nonempty}
-use Rattle.spec_value.specs.Datum.{Text, is_text, in_number_range, Datum, integer, object, text, list, Data, no_data, item, of_list, to_list, is_value, are_values}
+use Rattle.spec_value.specs.Datum.{Text, is_text, in_number_range, Datum, object, text, list, of_list, is_value}
 use Rattle.spec_value.specs.Literal.{literal}
-use Rattle.spec_value.proofs.Entries.{first_holds, second_holds, both_hold}
+use Rattle.spec_value.proofs.Entries.{both_hold}
 use Rattle.spec_value.proofs.Same.{text_itself}
 use Rattle.spec_world.specs.World.{ObjectPart, no_object, any_object, this_object, PrepositionPart, no_preposition, any_preposition, preposition_set, Slot, Verb, Object, Programming, NativeName, move_native, create_native, recycle_native, eval_native}
 use Rattle.spec_world.specs.Checkpoint.{object_text, object_list, text_list, list_literal, flag, flags_text, slot_bits, verb_bits, part_text, preposition_number, content_text, lines_held, programming_held, native_text}
-use Rattle.spec_checkpoint.specs.Holding.{is_number, content_holds, preposition_holds}
-use Rattle.spec_checkpoint.proofs.Numbers.{starts_digit, decimal_starts, small}
-use Rattle.spec_checkpoint.proofs.Fields.{number_small, slot_letters, verb_letters, list_back, objects_hold, texts_hold, values_hold}
+use Rattle.spec_checkpoint.specs.Holding.{content_holds}
+use Rattle.spec_checkpoint.proofs.Numbers.{small}
+use Rattle.spec_checkpoint.proofs.Fields.{slot_letters, verb_letters, list_back, objects_hold, texts_hold, values_hold}
 use Rattle.spec_faults.specs.Cutting.{is_filled}
 use Rattle.spec_faults.specs.Plain as plain
 use Rattle.spec_faults.specs.Plain.{passes, number_of, integer_of, number_in, or_zero, are_flags, is_flag}
-use Rattle.spec_faults.specs.Literals.{value_of, nests, all_nest, deepest, is_literal, any, is_string, is_object_value, is_list_of, are_lines_held, is_programming, is_start}
+use Rattle.spec_faults.specs.Literals.{nests, all_nest, is_literal, any, is_string, is_object_value, is_list_of, are_lines_held, is_programming}
 use Rattle.spec_faults.specs.Forms as form
 use Rattle.spec_faults.specs.Forms.{Wanted, word, other, value}
-use Rattle.spec_faults.specs.FieldLaws.{is_unmarked, IsField, unmarked, spelled}
+use Rattle.spec_faults.specs.FieldLaws.{is_unmarked, unmarked, spelled}
 use Rattle.spec_faults.specs.Reach.{is_near, content_near, preposition_near}
 use Rattle.spec_faults.proofs.Spelling.{numbers_told, integers_told}
 use Rattle.spec_faults.proofs.LiteralsBack.{values_told, some_literal}

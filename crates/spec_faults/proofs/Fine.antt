@@ -1,9 +1,9 @@
 -- Lines that are as they are awaited, one after another, have no fault.
-use Rattle.std.proofs.Common.{◌≡◌, ℕ, zero, suc, List, [], ◌∷◌, ◌++◌, length, Option, None, refl, ap, sym, subst, ◌∙◌, append_assoc}
+use Rattle.std.proofs.Common.{◌≡◌, ℕ, zero, suc, List, [], ◌∷◌, ◌++◌, length, None, refl, ap, ◌∙◌}
 use Rattle.spec_value.specs.Datum.{Text}
-use Rattle.spec_faults.specs.Awaited.{Awaited, one, again, Group, group, Verdict, goes_on, told, opened}
+use Rattle.spec_faults.specs.Awaited.{Awaited, one, again, Group, group, goes_on, told, opened}
 use Rattle.spec_faults.specs.Forms.{Wanted}
-use Rattle.spec_faults.specs.Faults.{LineFault, at_last, at_line, behind_line, fault_among}
+use Rattle.spec_faults.specs.Faults.{at_last, at_line, behind_line, fault_among}
 
 -- to the end of the text
 abbrev pub Fine : List Text → List Awaited → Type 0

@@ -1,5 +1,5 @@
 -- Where a verb stands that waits, and the values that it holds, outermost first.
-use Rattle.std.proofs.Common.{◌≡◌, ℕ, zero, suc, ◌+◌, ◌<◌, ◌≤◌, ◌^◌, ◌==◌, ◌&&◌, ◌||◌, nat_le, nat_lt, int_le, pos, Bool, true, false, List, [], ◌∷◌, ◌++◌, map, length, take, codes, if◌then◌else◌, Option, Some, None, IsTrue, refl, ap, sym, subst, ◌∙◌, arith, append_assoc, length-append}
+use Rattle.std.proofs.Common.{◌≡◌, ℕ, zero, suc, ◌+◌, ◌<◌, ◌^◌, ◌==◌, ◌&&◌, ◌||◌, nat_le, pos, Bool, true, false, List, [], ◌∷◌, ◌++◌, map, length, take, codes, if◌then◌else◌, Option, Some, None, IsTrue, refl, ap, sym, subst, ◌∙◌, arith, append_assoc, length-append}
 use Rattle.std.specs.Prelude.{option_map}
 use Rattle.std.proofs.lemmas.Bool.Decides.{nat_tests}
 use Rattle.std.proofs.lemmas.List.{append-nil}
@@ -10,13 +10,12 @@ use Rattle.spec_value.specs.Datum.{Text, same_text, Datum, integer, object, list
 use Rattle.spec_value.specs.Literal.{literal}
 use Rattle.spec_value.proofs.Entries.{first_holds, second_holds, both_hold}
 use Rattle.spec_program.specs.Names.{is_digit}
-use Rattle.spec_program.specs.Tree.{Program}
 use Rattle.spec_program.specs.Construct.{Construct, of_program, Piece}
 use Rattle.spec_program.specs.Place.{Kind, Holds, holds, walks_list, walks_range, why_left, Part, part_at, tree_of, Linked, held_count, is_call}
 use Rattle.spec_world.specs.World.{Frame}
 use Rattle.spec_world.specs.WellFormed.{nonempty, count, kind_fits, kinds_fit, held_fits, is_loop, loops, part_fits, pieces_fit, StandsAtCall}
 use Rattle.spec_world.specs.Checkpoint.{fields, with_dots, path, part_numbers, values_held, literal_lines}
-use Rattle.spec_checkpoint.specs.Holding.{is_number, piece_holds}
+use Rattle.spec_checkpoint.specs.Holding.{piece_holds}
 use Rattle.spec_checkpoint.proofs.Numbers.{are_digits, decimal_digits}
 use Rattle.spec_checkpoint.proofs.CodeLines.{all_both}
 use Rattle.spec_checkpoint.proofs.Turned.{turned, turned_holds}
@@ -24,11 +23,10 @@ use Rattle.spec_checkpoint.proofs.Paths.{parts_of, is_place}
 use Rattle.spec_faults.specs.Cutting.{field_at, onto_first}
 use Rattle.spec_faults.specs.Plain as plain
 use Rattle.spec_faults.specs.Plain.{number_in, with_dot, between_dots, is_path, beginning, path_in}
-use Rattle.spec_faults.specs.Literals.{value_of, is_literal, any}
+use Rattle.spec_faults.specs.Literals.{value_of, any}
 use Rattle.spec_faults.specs.Codes.{in_tree, in_part, holds_down, total, begins_held}
 use Rattle.spec_faults.specs.Forms as form
 use Rattle.spec_faults.specs.Forms.{Wanted, word, other, value}
-use Rattle.spec_faults.specs.Awaited as awaited
 use Rattle.spec_faults.specs.Awaited.{Awaited, values, each_held, with_value, one_value, only_if, goes_on, told, holds_at}
 use Rattle.spec_world.specs.Checkpoint as fault
 use Rattle.spec_faults.specs.FieldLaws.{is_unmarked, unmarked}

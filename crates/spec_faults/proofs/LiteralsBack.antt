@@ -1,5 +1,5 @@
 -- The value of a literal is read off its front.
-use Rattle.std.proofs.Common.{◌≡◌, ℕ, zero, suc, ◌+◌, ◌<◌, ◌≤◌, ◌^◌, ◌==◌, ◌&&◌, ◌||◌, ℤ, pos, negsuc, Bool, true, false, not, if◌then◌else◌, List, [], ◌∷◌, ◌++◌, drop, length, Option, Some, None, IsTrue, refl, ap, sym, subst, ◌∙◌, arith, append_assoc, length-append}
+use Rattle.std.proofs.Common.{◌≡◌, ℕ, zero, suc, ◌+◌, ◌<◌, ◌≤◌, ◌==◌, ◌&&◌, ◌||◌, ℤ, pos, negsuc, Bool, true, false, not, if◌then◌else◌, [], ◌∷◌, ◌++◌, drop, length, Some, IsTrue, refl, ap, sym, ◌∙◌, arith, append_assoc, length-append}
 use Rattle.std.proofs.lemmas.Bool.Decides.{nat_tests}
 use Rattle.std.proofs.lemmas.List.{append-nil}
 use Rattle.std.proofs.Math.Seq.{drop-append_seam}
@@ -13,7 +13,7 @@ use Rattle.spec_value.proofs.Same.{text_itself}
 use Rattle.spec_program.specs.Names.{is_digit}
 use Rattle.spec_checkpoint.proofs.Numbers.{are_digits, decimal_digits, starts_digit, decimal_starts, small}
 use Rattle.spec_faults.specs.Plain.{only_if, signed_value}
-use Rattle.spec_faults.specs.Literals.{Front, onto_if, numeral, one_more, past, text_front, errors, error_front, Sort, of_integer, of_object, of_text, of_error, of_list, sort_of, integer_front, object_front, as_text, as_list, by_sort, closes, unless_closed, followed, value_front, items_front, nests, deepest, is_spelling, value_of}
+use Rattle.spec_faults.specs.Literals.{Front, onto_if, numeral, one_more, text_front, errors, error_front, Sort, of_integer, sort_of, integer_front, object_front, as_text, as_list, by_sort, closes, unless_closed, followed, value_front, items_front, nests, deepest, is_spelling}
 use Rattle.spec_faults.specs.FieldLaws.{ValuesTold}
 use Rattle.spec_faults.proofs.Spelling.{some_only, signed_back}
 

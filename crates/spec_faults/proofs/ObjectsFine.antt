@@ -1,14 +1,13 @@
 -- The lines of links and of objects have no fault.
-use Rattle.std.proofs.Common.{◌≡◌, ℕ, zero, suc, ◌+◌, ◌<◌, ◌≤◌, ◌^◌, ◌&&◌, ℤ, pos, negsuc, int_le, Bool, true, false, List, [], ◌∷◌, ◌++◌, length, codes, Option, Some, None, IsTrue, refl, ap, sym, subst, ◌∙◌, arith, append_assoc, length-append, leb-true, cond}
+use Rattle.std.proofs.Common.{◌≡◌, ℕ, zero, suc, ◌+◌, ◌<◌, ◌≤◌, ◌^◌, ◌&&◌, ℤ, pos, negsuc, int_le, Bool, true, false, List, [], ◌∷◌, ◌++◌, length, codes, Option, Some, None, IsTrue, refl, ap, sym, subst, ◌∙◌, arith, append_assoc, length-append, cond}
 use Rattle.std.specs.Ordering.{eq_by_cmp, nat_cmp}
 use Rattle.std.specs.Cmp.Lexicographic.{slice_cmp}
-use Rattle.std.proofs.lemmas.Int.{ints}
 use Rattle.std.proofs.lemmas.Bool.Decides.{nat_tests}
 use Rattle.std.specs.List.{list_all}
 use Rattle.std.specs.Fmt.{decimal, signed_decimal}
 use Rattle.spec_value.specs.Datum.{Text, is_text, text, in_number_range, is_value}
 use Rattle.spec_value.specs.Literal.{literal}
-use Rattle.spec_value.specs.Table.{Numbered, Named, named, at}
+use Rattle.spec_value.specs.Table.{Numbered, Named, named}
 use Rattle.spec_value.proofs.Entries.{first_holds, second_holds, both_hold, each_entry as each_found}
 use Rattle.spec_program.specs.Tree.{Program, the_end}
 use Rattle.spec_program.specs.Trees.{is_tree}
@@ -17,7 +16,7 @@ use Rattle.spec_spelling.proofs.ProgramsCut.{one_tree}
 use Rattle.spec_world.specs.World.{World, Link, Slot, Verb, Header, Object, object_at}
 use Rattle.spec_world.specs.WellFormed.{is_connection}
 use Rattle.spec_world.specs.Inherit.{ancestors, slot_of, slot_at}
-use Rattle.spec_world.specs.Checkpoint.{fields, counted, object_text, object_list, text_list, list_literal, flags_text, programming_held, link_lines, slot_bits, content_text, slot_line, slots_named, names_defined, slots_along, slot_lines, verb_bits, part_text, preposition_number, verb_line, each_verb, verb_lines, object_lines, each_object}
+use Rattle.spec_world.specs.Checkpoint.{fields, counted, object_text, object_list, text_list, list_literal, flags_text, programming_held, link_lines, slot_bits, content_text, slot_line, slots_named, names_defined, slots_along, verb_bits, part_text, preposition_number, verb_line, each_verb, verb_lines, object_lines, each_object}
 use Rattle.spec_checkpoint.specs.Records.{link_holds}
 use Rattle.spec_checkpoint.specs.Holding.{content_holds, slot_holds, preposition_holds, verb_holds, header_holds, object_holds, numbered_object_holds}
 use Rattle.spec_faults.specs.Plain.{number_in, are_flags, is_integer}
@@ -30,8 +29,8 @@ use Rattle.spec_faults.specs.FieldLaws.{is_unmarked}
 use Rattle.spec_faults.specs.Cutting.{is_filled, field_at}
 use Rattle.spec_faults.specs.Reach.{content_near, preposition_near, object_near}
 use Rattle.spec_faults.proofs.Spelling.{programs_told}
-use Rattle.spec_faults.proofs.Suiting.{Suits, AllSuit, form_told, one_told}
-use Rattle.spec_faults.proofs.FieldsSuit.{a_word, a_number, a_count, count_said, an_integer, an_object, a_flag, some_flags, slot_bits_suit, verb_bits_suit, part_suits, preposition_suits, a_value, a_string, content_suits, some_objects, some_texts, programming_suits}
+use Rattle.spec_faults.proofs.Suiting.{AllSuit, form_told, one_told}
+use Rattle.spec_faults.proofs.FieldsSuit.{a_word, a_count, count_said, an_integer, an_object, some_flags, slot_bits_suit, verb_bits_suit, part_suits, preposition_suits, a_string, content_suits, some_objects, some_texts, programming_suits}
 use Rattle.spec_faults.proofs.Fine.{Fine, fine_same, fine_line, AllTold, told_then, fine_group}
 use Rattle.spec_faults.proofs.Entering.{EachIs}
 

@@ -1,10 +1,8 @@
 -- A text has one first fault at most.
-use Rattle.std.proofs.Common.{◌≡◌, ◌⊎◌, inl, inr, Option, Some, None, refl, ap, sym, ◌∙◌}
+use Rattle.std.proofs.Common.{◌≡◌, inl, inr, Option, Some, None, sym, ◌∙◌}
 use Rattle.spec_value.specs.Datum.{Text}
-use Rattle.spec_faults.specs.Faults.{LineFault, first_fault, IsFirstFault, IsWorldFault}
+use Rattle.spec_faults.specs.Faults.{LineFault, IsWorldFault}
 use Rattle.spec_faults.specs.TextLaws.{OneFault}
-use Rattle.spec_faults.proofs.Suiting.{form_had}
-use Rattle.spec_faults.proofs.Fine.{fine_group}
 
 one_some : (f g : LineFault) → Some f ≡ Some g → f ≡ g
 one_some f g e = cc

@@ -1,5 +1,5 @@
 -- What is told of a field is what it spells.
-use Rattle.std.proofs.Common.{◌≡◌, ℕ, suc, ◌<◌, ◌^◌, ◌==◌, ◌&&◌, ◌||◌, ℤ, pos, neg_ℤ, negsuc, Bool, true, false, if◌then◌else◌, List, [], ◌∷◌, ◌++◌, Option, Some, None, IsTrue, length, refl, ap, sym, subst, ◌∙◌, arith}
+use Rattle.std.proofs.Common.{◌≡◌, ℕ, suc, ◌<◌, ◌^◌, ◌==◌, ◌&&◌, ℤ, pos, neg_ℤ, negsuc, Bool, true, false, List, [], ◌∷◌, Some, IsTrue, length, refl, ap, sym, subst, ◌∙◌, arith}
 use Rattle.std.proofs.lemmas.Bool.Decides.{nat_tests}
 use Rattle.std.proofs.lemmas.List.{append-nil}
 use Rattle.std.specs.Fmt.{decimal, signed_decimal}
@@ -17,9 +17,9 @@ use Rattle.spec_program.specs.Spelling.{canonical_lines}
 use Rattle.spec_program.specs.ReadPrograms.{Parsed, program, faulty, parsed_lines}
 use Rattle.spec_spelling.proofs.ProgramsCut.{lines_read_back}
 use Rattle.spec_checkpoint.proofs.Numbers.{starts_digit, decimal_starts, small}
-use Rattle.spec_faults.specs.Plain.{only_if, number_of, signed_value, integer_of}
-use Rattle.spec_faults.specs.Literals.{value_of, value_front, is_spelling, nests, deepest}
-use Rattle.spec_faults.specs.Codes.{program_of, are_lines_of, told}
+use Rattle.spec_faults.specs.Plain.{only_if, signed_value}
+use Rattle.spec_faults.specs.Literals.{value_front, is_spelling, nests, deepest}
+use Rattle.spec_faults.specs.Codes.{are_lines_of, told}
 use Rattle.spec_faults.specs.FieldLaws.{NumbersSpelled, NumbersTold, IsInteger, IntegersSpelled, IntegersTold, IsLiteral, ValuesSpelled, IsProgram, ProgramsSpelled, ProgramsTold}
 
 -- ---- what is there only if a test holds

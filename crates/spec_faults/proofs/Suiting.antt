@@ -1,9 +1,9 @@
 -- Fields of which each is what is wanted have no fault.
-use Rattle.std.proofs.Common.{◌≡◌, ℕ, suc, ◌==◌, ◌&&◌, ◌||◌, Bool, true, false, not, List, [], ◌∷◌, length, Option, Some, None, IsTrue, refl, ap, sym, ◌∙◌, eq-eqb, cond}
+use Rattle.std.proofs.Common.{◌≡◌, suc, ◌==◌, ◌&&◌, ◌||◌, Bool, true, false, not, List, [], ◌∷◌, length, None, IsTrue, refl, ap, ◌∙◌, eq-eqb}
 use Rattle.std.specs.List.{list_all}
 use Rattle.spec_value.specs.Datum.{Text, same_text}
-use Rattle.spec_value.proofs.Entries.{first_holds, second_holds, both_hold}
-use Rattle.spec_world.specs.Checkpoint.{CheckpointFault, fields}
+use Rattle.spec_value.proofs.Entries.{both_hold}
+use Rattle.spec_world.specs.Checkpoint.{fields}
 use Rattle.spec_faults.specs.Cutting.{fields_in, is_filled}
 use Rattle.spec_faults.specs.Forms.{Wanted, word, other, value, is_other_word, is_misspelt, is_no_value, one_is, has_form, least, fault_of}
 use Rattle.spec_faults.specs.Awaited.{Verdict, goes_on, by_fault, by_form, told, one}

@@ -1,11 +1,11 @@
 -- The lines of tasks have no fault.
-use Rattle.std.proofs.Common.{◌≡◌, ℕ, zero, suc, ◌+◌, ◌-◌, ◌*◌, ◌<◌, ◌≤◌, ◌^◌, ◌==◌, ◌&&◌, nat_le, nat_lt, ℤ, pos, negsuc, int_le, Bool, true, false, not, if◌then◌else◌, List, [], ◌∷◌, ◌++◌, map, length, codes, Option, Some, None, IsTrue, refl, ap, sym, subst, ◌∙◌, arith, append_assoc, length-append, leb-true, eq-eqb}
+use Rattle.std.proofs.Common.{◌≡◌, ℕ, zero, suc, ◌+◌, ◌<◌, ◌≤◌, ◌^◌, ◌==◌, ◌&&◌, nat_le, ℤ, pos, Bool, true, false, List, [], ◌∷◌, ◌++◌, length, codes, Some, IsTrue, refl, ap, sym, subst, ◌∙◌, arith, append_assoc, length-append, eq-eqb}
 use Rattle.spec_value.specs.Datum.{same_text}
 use Rattle.std.proofs.lemmas.Bool.{lt-ltb}
 use Rattle.std.proofs.lemmas.Bool.Decides.{nat_tests}
 use Rattle.std.specs.List.{list_all}
 use Rattle.std.specs.Fmt.{decimal, signed_decimal}
-use Rattle.spec_value.specs.Datum.{Text, is_text, text, object, in_number_range, Datum, list, of_list, to_list, is_value}
+use Rattle.spec_value.specs.Datum.{Text, is_text, text, in_number_range, Datum, list, of_list, is_value}
 use Rattle.spec_value.specs.Literal.{literal}
 use Rattle.spec_value.specs.Table.{Numbered, Named}
 use Rattle.spec_value.proofs.Entries.{first_holds, second_holds, both_hold}
@@ -24,7 +24,7 @@ use Rattle.spec_checkpoint.proofs.FrameRecords.{held_are_values}
 use Rattle.spec_checkpoint.proofs.Turned.{turned}
 use Rattle.spec_checkpoint.proofs.Paths.{parts_of}
 use Rattle.spec_faults.specs.Cutting.{fields_in, field_at, is_filled}
-use Rattle.spec_faults.specs.Plain.{number_in, or_zero, path_in, is_path}
+use Rattle.spec_faults.specs.Plain.{number_in, or_zero, path_in}
 use Rattle.spec_faults.specs.Literals.{value_of, items_of, is_literal, any, is_start}
 use Rattle.spec_faults.specs.Forms as form
 use Rattle.spec_faults.specs.Forms.{Wanted, word, other, value, is_other_word, one_is, has_form, or_else, form_among}
@@ -151,11 +151,19 @@ call_told is_fork verbs is_behind more c n h k l =
     let h3 = second_holds (in_number_range c.definer) _ h2 in
     let s : AllSuit form.frame_form (codes "frame" ∷ call_fields c n) = (
       a_word (codes "frame") refl refl,
-      (an_object c.this (first_holds (in_number_range c.this) _ h),
-      (an_object c.caller (first_holds (in_number_range c.caller) _ h1),
-      (an_object c.definer (first_holds (in_number_range c.definer) _ h2),
-      (an_object c.programmer (first_holds (in_number_range c.programmer) (is_text c.verb) h3),
-      (a_string c.verb (second_holds (in_number_range c.programmer) (is_text c.verb) h3), (a_flag c.debug, (a_count n k, tt)))))))
+      (
+        an_object c.this (first_holds (in_number_range c.this) _ h),
+        (
+          an_object c.caller (first_holds (in_number_range c.caller) _ h1),
+          (
+            an_object c.definer (first_holds (in_number_range c.definer) _ h2),
+            (
+              an_object c.programmer (first_holds (in_number_range c.programmer) (is_text c.verb) h3),
+              (a_string c.verb (second_holds (in_number_range c.programmer) (is_text c.verb) h3), (a_flag c.debug, (a_count n k, tt))),
+            ),
+          ),
+        ),
+      ),
     ) in
     form_found (form.frame_form ∷ form.native_form ∷ []) form.frame_form (codes "frame") (call_fields c n)
     (λ ts. one_entry is_fork verbs is_behind more (same_text (field_at ts 0) (codes "frame")) ts) s (has_it form.frame_form (form.native_form ∷ []) (codes "frame" ∷ call_fields c n) s)
@@ -307,7 +315,7 @@ native_told verbs is_behind more n h k fit may =
     let arguments = second_holds (is_number n.stage) (list_all is_value n.arguments) h in
     let s : AllSuit form.native_form (codes "native" ∷ native_text n.name ∷ decimal n.stage ∷ list_literal n.arguments ∷ []) = (
       a_word (codes "native") refl refl,
-      (native_suits n.name, (a_number 1 3 n.stage (number_small n.stage stage) (stage_small n.name n.stage n.arguments fit), (a_value any (list (of_list n.arguments)) (values_hold n.arguments arguments) k refl, tt)))
+      (native_suits n.name, (a_number 1 3 n.stage (number_small n.stage stage) (stage_small n.name n.stage n.arguments fit), (a_value any (list (of_list n.arguments)) (values_hold n.arguments arguments) k refl, tt))),
     ) in
     form_found (form.frame_form ∷ form.native_form ∷ []) form.native_form (codes "native") ts (λ us. one_entry false verbs is_behind more (same_text (field_at us 0) (codes "frame")) us) s
     (has_not form.frame_form (form.native_form ∷ []) (codes "native" ∷ ts) refl ∙ has_it form.native_form [] (codes "native" ∷ ts) s)

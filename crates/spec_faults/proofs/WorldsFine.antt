@@ -1,28 +1,27 @@
 -- The text of a world has no fault.
-use Rattle.std.proofs.Common.{◌≡◌, ◌⊎◌, inl, inr, ℕ, suc, ◌+◌, ◌-◌, ◌*◌, ◌<◌, ◌≤◌, ◌^◌, ◌&&◌, nat_le, ℤ, pos, negsuc, neg_ℤ, int_le, Bool, true, false, List, [], ◌∷◌, ◌++◌, length, codes, Option, Some, None, IsTrue, refl, ap, sym, subst, ◌∙◌, arith, length-append, leb-true}
+use Rattle.std.proofs.Common.{◌≡◌, inl, inr, ℕ, suc, ◌-◌, ◌*◌, ◌<◌, ◌≤◌, ◌^◌, ◌&&◌, nat_le, ℤ, pos, negsuc, neg_ℤ, int_le, false, List, [], ◌∷◌, ◌++◌, length, codes, Option, Some, None, IsTrue, refl, ap, sym, ◌∙◌, arith, length-append, leb-true}
 use Rattle.std.specs.Prelude.{is_some}
 use Rattle.std.proofs.lemmas.Bool.{le-leb}
-use Rattle.std.proofs.lemmas.Bool.Decides.{nat_tests}
 use Rattle.std.proofs.lemmas.List.{append-nil}
 use Rattle.std.specs.List.{list_all}
 use Rattle.std.specs.Fmt.{decimal, signed_decimal}
 use Rattle.spec_value.specs.Datum.{Text, in_number_range, is_value}
 use Rattle.spec_value.specs.Table.{at}
 use Rattle.spec_value.proofs.Entries.{first_holds, second_holds, both_hold, each_entry}
-use Rattle.spec_world.specs.World.{World, Link, Object, Entry, Waiting, forked, timed, idle, reading_on, Task}
+use Rattle.spec_world.specs.World.{World, Link, Object, Waiting, forked, timed, idle, reading_on, Task}
 use Rattle.spec_world.specs.WellFormed.{IsWellFormed, is_connection, FramesStand, TaskStands, entry_fits, begins_with_frame, frames, fork_fits, is_moment, waiting_fits, entries_fit}
 use Rattle.spec_world.specs.Checkpoint.{checkpoint_text, with_line_ends, fields, counted, flag, link_lines, each_object, each_task, world_lines}
 use Rattle.spec_checkpoint.specs.Records.{link_holds}
 use Rattle.spec_checkpoint.specs.Holding.{is_number, numbered_object_holds, entry_holds, waiting_holds, task_holds, numbered_task_holds, world_holds}
 use Rattle.spec_checkpoint.proofs.Fields.{number_small}
 use Rattle.spec_checkpoint.proofs.Unbroken.{values_have_lines}
-use Rattle.spec_faults.specs.Cutting.{Cut, lines_of}
+use Rattle.spec_faults.specs.Cutting.{lines_of}
 use Rattle.spec_faults.specs.Forms as form
 use Rattle.spec_faults.specs.Awaited as awaited
 use Rattle.spec_faults.specs.Awaited.{Awaited, one, again, first_line, whole}
-use Rattle.spec_faults.specs.Faults.{LineFault, fault_in, first_fault, IsFirstFault}
+use Rattle.spec_faults.specs.Faults.{LineFault, fault_in, first_fault}
 use Rattle.spec_faults.specs.Reach.{object_near, entry_near, waiting_near, task_near, is_in_reach}
-use Rattle.spec_faults.specs.TextLaws.{IsTold, WorldsHaveNone, WorldsHaveNoFault}
+use Rattle.spec_faults.specs.TextLaws.{WorldsHaveNone, WorldsHaveNoFault}
 use Rattle.spec_faults.proofs.LinesBack.{lines_told}
 use Rattle.spec_faults.proofs.FieldsSuit.{a_word, a_number, an_integer, a_flag}
 use Rattle.spec_faults.proofs.Fine.{Fine, fine_line}

@@ -1,5 +1,5 @@
 -- Which line may come next, and what comes after it.
-use Rattle.std.specs.Prelude.{ℕ, zero, suc, ◌==◌, ◌&&◌, ◌||◌, nat_lt, nat_le, Bool, true, false, not, List, [], ◌∷◌, ◌++◌, map, length, if◌then◌else◌, Option, Some, None, codes}
+use Rattle.std.specs.Prelude.{ℕ, zero, suc, ◌==◌, ◌&&◌, nat_lt, nat_le, Bool, true, false, not, List, [], ◌∷◌, ◌++◌, map, length, if◌then◌else◌, Option, Some, None, codes}
 use Rattle.spec_value.specs.Datum.{Text, same_text, Datum}
 use Rattle.spec_program.specs.Tree.{Program, the_end}
 use Rattle.spec_program.specs.Construct.{of_program}

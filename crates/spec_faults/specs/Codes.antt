@@ -1,5 +1,5 @@
 -- Programs by their lines, and where their verbs stand.
-use Rattle.std.specs.Prelude.{ℕ, zero, suc, ◌+◌, ◌&&◌, Bool, true, false, List, [], ◌∷◌, length, take, if◌then◌else◌, Option, Some, None, option_map}
+use Rattle.std.specs.Prelude.{ℕ, ◌+◌, ◌&&◌, Bool, true, List, [], ◌∷◌, length, take, if◌then◌else◌, Option, Some, None, option_map}
 use Rattle.std.specs.Cmp.Lexicographic.{pointwise}
 use Rattle.spec_value.specs.Datum.{Text, same_text, Datum, integer, object, list}
 use Rattle.spec_program.specs.Tree.{Program}
@@ -7,7 +7,7 @@ use Rattle.spec_program.specs.Trees.{is_tree}
 use Rattle.spec_program.specs.Spelling.{canonical_lines}
 use Rattle.spec_program.specs.ReadPrograms.{Parsed, program, faulty, parsed_lines}
 use Rattle.spec_program.specs.Construct.{Construct}
-use Rattle.spec_program.specs.Place.{Holds, holds, walks_list, walks_range, why_left, Part, part_at, held_count, is_call}
+use Rattle.spec_program.specs.Place.{Holds, holds, walks_list, walks_range, Part, part_at, held_count, is_call}
 use Rattle.spec_faults.specs.Plain.{only_if}
 use Rattle.spec_world.specs.WellFormed.{nonempty, kinds_fit, held_fits, is_loop}
 

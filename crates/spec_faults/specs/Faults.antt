@@ -1,5 +1,5 @@
 -- The first faulty line of a text that is no world's, and the least of its faults.
-use Rattle.std.specs.Prelude.{◌≡◌, ◌⊎◌, ℕ, suc, ◌-◌, Bool, List, [], ◌∷◌, ◌++◌, length, IsTrue, Option, Some, None}
+use Rattle.std.specs.Prelude.{◌≡◌, ◌⊎◌, ℕ, suc, ◌-◌, List, [], ◌∷◌, ◌++◌, length, IsTrue, Option, Some, None}
 use Rattle.spec_value.specs.Datum.{Text}
 use Rattle.spec_world.specs.World.{World}
 use Rattle.spec_world.specs.WellFormed.{IsWellFormed}

@@ -1,5 +1,5 @@
 -- What fields, lines and programs are told as, and that nothing else is.
-use Rattle.std.specs.Prelude.{◌≡◌, ℕ, ◌<◌, ◌^◌, ℤ, ◌==◌, ◌||◌, Bool, false, not, List, [], ◌∷◌, ◌++◌, Some, IsTrue}
+use Rattle.std.specs.Prelude.{◌≡◌, ℕ, ◌<◌, ◌^◌, ℤ, ◌==◌, ◌||◌, Bool, not, List, [], ◌∷◌, ◌++◌, Some, IsTrue}
 use Rattle.std.specs.Fmt.{decimal, signed_decimal}
 use Rattle.std.specs.List.{list_all}
 use Rattle.spec_value.specs.Datum.{Text, in_number_range, Datum, is_value}

@@ -1,8 +1,8 @@
 -- Worlds in reach of readers: values nest no deeper than values are read, and verbs want sets of prepositions that there are.
-use Rattle.std.specs.Prelude.{ℕ, nat_le, Bool, true, ◌&&◌, Option, Some, None}
+use Rattle.std.specs.Prelude.{nat_le, Bool, true, ◌&&◌, Option, Some, None}
 use Rattle.std.specs.List.{list_all}
 use Rattle.spec_value.specs.Datum.{Datum, list, of_list}
-use Rattle.spec_world.specs.World.{World, Slot, PrepositionPart, no_preposition, any_preposition, preposition_set, Verb, Object, Frame, Native, Entry, frame_entry, native_entry, Waiting, forked, timed, idle, reading_on, Task}
+use Rattle.spec_world.specs.World.{World, PrepositionPart, no_preposition, any_preposition, preposition_set, Object, Frame, Entry, frame_entry, native_entry, Waiting, forked, timed, idle, reading_on, Task}
 use Rattle.spec_world.specs.Checkpoint.{values_held}
 use Rattle.spec_faults.specs.Literals.{nests, deepest}
 

@@ -1,5 +1,5 @@
 -- Worked rows, true by computation: texts, the line of the first fault, and the fault.
-use Rattle.std.specs.Prelude.{◌≡◌, ℕ, ◌-◌, List, [], ◌∷◌, ◌++◌, take, drop, Option, Some, None, codes}
+use Rattle.std.specs.Prelude.{◌≡◌, ℕ, ◌-◌, List, [], ◌∷◌, ◌++◌, take, drop, None, codes}
 use Rattle.spec_value.specs.Datum.{Text}
 use Rattle.spec_world.specs.Checkpoint as fault
 use Rattle.spec_world.specs.Checkpoint.{CheckpointFault, with_line_ends}

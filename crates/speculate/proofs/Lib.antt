@@ -1,5 +1,4 @@
 pub mod Crossing
-pub mod Again
 pub mod Alone
 pub mod Honest
 pub mod Places

@@ -26,11 +26,6 @@ const RECENT: usize = 128;
 const TRIED: usize = 4096;
 // How many steps are run at once without guesses where these seldom hold.
 const STRETCH: usize = 1024;
-// Where of so many guesses that held at most one did not, a worker may go so much farther ahead.
-const CALM: usize = 8;
-
-const FARTHER: usize = 8;
-
 /// A list of steps under way. The steps are committed in their order: what is committed is what they do one after another.
 #[derive(Drop)]
 pub struct Board {

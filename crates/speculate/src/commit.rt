@@ -1,6 +1,6 @@
 //! The commit of one position.
-ghost use Rattle.std.specs.Prelude.{◌≡◌, ◌≢◌, false, IsTrue, IfOk, IfErr, IfSome};
-ghost use Rattle.spec_world.specs.Questions.{Agrees};
+ghost use Rattle.std.specs.Prelude.{◌≡◌, ◌≢◌, ◌+◌, IsTrue, IfOk, IfErr, IfSome, OnOk, OnErr};
+ghost use Rattle.spec_world.specs.Questions.{Agrees, apply_all};
 ghost use Rattle.spec_world.specs.Step.{in_range};
 ghost use Rattle.view.specs.Sound.{IsSound};
 ghost use Rattle.speculate.specs.BoardState.{FitsStep};
@@ -8,14 +8,16 @@ ghost use Rattle.speculate.specs.Right.{IsRight, after_guess};
 ghost use Rattle.speculate.specs.Progress.{Ran, Committed, IsUndone};
 ghost use Rattle.speculate.specs.Verbs.{SameVerbs, IsWithin, KnowsVerbs};
 
-use crate::guesses::{Guess, Spent};
-use crate::guessing::guess;
+use crate::guesses::{Guess, Spent, all_leave_verbs};
 use crate::held::{Held, Mark};
-use std::alloc::Global;
-use task_run::list::play_step;
+use crate::trying::try_on;
+use std::alloc::{AllocError, Global};
 use task_step::outcome::Outcome;
 use task_step::step::Step;
+use view::reads::Changes;
 use world::count::Count;
+use world::draft::Draft;
+use world::live::Live;
 use world::worlds::World;
 
 /// A step that is committed: its outcome, how it came, whether it is known to have left all verbs as they were, and what is left of its guess.
@@ -55,7 +57,7 @@ pub(crate) fn commit(
                 keep(world, guess, seen)
             } else {
                 let held = Held::Holds(guess, seen);
-                run_again(alloc, world, undone, held, step)
+                run(alloc, world, undone, held, step, Mark::Rerun)
             }
         }
     }
@@ -91,52 +93,7 @@ fn keep(world: &mut World, guess: Guess, seen: Option<usize>) -> Result<Done, He
     }
 }
 
-// The step is run on the world as it is now, so that what it changes is known, and its changes are made through a view of the world.
-fn run_again(
-    alloc: Global,
-    world: &mut World,
-    undone: &mut Count,
-    held: Held,
-    step: &Step,
-) -> Result<Done, Held>
-    requires { IsTrue (in_range step.now) }
-    ensures ok { IfOk result (λ d. Ran world.old step.now world.new d.outcome × (d.mark ≡ Mark.Rerun) × (undone.new ≡ undone.old)) }
-    ensures verbs { IfOk result (λ d. IsTrue d.leaves_verbs → SameVerbs world.old.plain world.new.plain) }
-    ensures err { IfErr result (λ h. (h ≡ held) × IsUndone world.old undone.old world.new undone.new) }
-{
-    world.know();
-    let Some(guess) = guess_now(alloc, world, step) else {
-        return Err(held);
-    };
-    let leaves_verbs = guess.leaves_verbs();
-    match guess.put_through(world) {
-        Some(outcome) => Ok(Done {
-            outcome,
-            mark: Mark::Rerun,
-            leaves_verbs,
-            spent: held.into_spent(),
-        }),
-        None => {
-            undone.tick();
-            Err(held)
-        }
-    }
-}
-
-// A guess on the world as it is.
-fn guess_now(alloc: Global, world: &World, step: &Step) -> Option<Guess>
-    requires { IsTrue (in_range step.now) }
-    ensures step { IfSome result (λ g. g.step ≡ step.now) }
-    ensures right { IfSome result (λ g. IsRight g) }
-    ensures agrees { IfSome result (λ g. Agrees world.now.plain g.reads) }
-{
-    let Ok(snapshot) = world.snapshot() else {
-        return None;
-    };
-    guess(alloc, &snapshot, step).ok()
-}
-
-// The step is run on the world.
+// The step is run on the world, and its changes are made through a view that is opened on it.
 fn run(
     alloc: Global,
     world: &mut World,
@@ -146,19 +103,33 @@ fn run(
     mark: Mark,
 ) -> Result<Done, Held>
     requires { IsTrue (in_range step.now) }
-    ensures ok { IfOk result (λ d. Ran world.old step.now world.new d.outcome × (d.mark ≡ mark) × (d.leaves_verbs ≡ false) × (undone.new ≡ undone.old)) }
+    ensures ok { IfOk result (λ d. Ran world.old step.now world.new d.outcome × (d.mark ≡ mark) × (undone.new ≡ undone.old)) }
+    ensures verbs { IfOk result (λ d. IsTrue d.leaves_verbs → SameVerbs world.old.plain world.new.plain) }
     ensures err { IfErr result (λ h. (h ≡ held) × IsUndone world.old undone.old world.new undone.new) }
 {
-    match play_step(alloc, world, step) {
-        Ok(outcome) => Ok(Done {
-            outcome,
-            mark,
-            leaves_verbs: false,
-            spent: held.into_spent(),
-        }),
-        Err(_) => {
-            undone.tick();
-            Err(held)
-        }
+    let Ok((outcome, changes, after)) = try_on(alloc, world, step) else {
+        return Err(held);
+    };
+    if put_through(world, &changes, after).is_err() {
+        undone.tick();
+        return Err(held);
     }
+    Ok(Done {
+        outcome,
+        mark,
+        leaves_verbs: all_leave_verbs(changes.as_slice()),
+        spent: held.into_spent(),
+    })
+}
+
+// The world has these changes, which these records have too, where they were made, through a view that is opened on it. After want of memory it is as it was,
+// but for that view.
+fn put_through(world: &mut World, changes: &Changes, after: Option<Draft>) -> Result<(), AllocError>
+    requires sound { IsSound (apply_all changes.now world.old.plain) }
+    requires after { IfSome after (λ d. d ≡ apply_all changes.now world.old.plain) }
+    ensures ok { OnOk result (world.new.plain ≡ apply_all changes.now world.old.plain) }
+    ensures err { OnErr result (world.new.plain ≡ world.old.plain) }
+    ensures opened { world.new.opened ≡ world.old.opened + 1 }
+{
+    Live::open(world).keep_with(changes, after)
 }

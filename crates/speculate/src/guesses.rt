@@ -1,5 +1,5 @@
 //! Guesses.
-ghost use Rattle.std.specs.Prelude.{◌≡◌, ◌↔◌, ◌+◌, map, IsTrue, IfOk, IfErr, MatchOption};
+ghost use Rattle.std.specs.Prelude.{◌≡◌, ◌↔◌, ◌+◌, map, IsTrue, IfOk, IfErr};
 ghost use Rattle.spec_world.specs.World.{World as Plain};
 ghost use Rattle.spec_world.specs.Questions.{Agrees};
 ghost use Rattle.view.specs.Sound.{IsSound};
@@ -14,7 +14,6 @@ use task_step::step::Step;
 use view::change::Change;
 use view::part::Part;
 use view::reads::{Changes, Reads};
-use world::live::Live;
 use world::worlds::{Snapshot, World};
 
 /// What a step reads, changes and answers, found on a snapshot. It is so on each world that gives the answers that were read.
@@ -120,25 +119,6 @@ impl Guess {
         Ok((outcome, spent))
     }
 
-    /// The world has the changes through a view that is opened on it. After want of memory nothing has changed, but the view was opened.
-    pub(crate) fn put_through(self, world: &mut World) -> Option<Outcome>
-        requires { IsSound (after_guess self world.old.plain) }
-        ensures opened { world.new.opened ≡ world.old.opened + 1 }
-        ensures plain { MatchOption result (world.new.plain ≡ world.old.plain) (λ o. (world.new.plain ≡ after_guess self world.old.plain) × (o ≡ self.outcome)) }
-    {
-        let Guess {
-            step: _,
-            reads: _,
-            changes,
-            outcome,
-            before: _,
-        } = self;
-        let mut live = Live::open(world);
-        live.put_all(&changes).ok()?;
-        live.keep();
-        Some(outcome)
-    }
-
     /// What is left of the guess without its outcome.
     pub(crate) fn into_spent(self) -> Spent {
         let Guess {
@@ -156,8 +136,8 @@ impl Guess {
     }
 }
 
-// Whether no change is to verbs.
-fn all_leave_verbs(changes: &[Change]) -> bool
+/// Whether no change is to verbs.
+pub(crate) fn all_leave_verbs(changes: &[Change]) -> bool
     ensures { IsTrue result → IsTrue (all_leave (map change_of changes.now)) }
 {
     for change in changes {

@@ -10,14 +10,13 @@ use crate::gate::Gate;
 use crate::guesses::Guess;
 use crate::held::Mark;
 use crate::report::Report;
+use crate::trying::try_on;
 use std::alloc::{AllocError, Global};
 use task_run::list::play_step;
-use task_run::step::run_step;
 use task_step::outcome::Outcome;
 use task_step::partial::{Partial, Refusal, refused};
 use task_step::step::Step;
 use view::reads::Changes;
-use world::alone::Alone;
 use world::draft::Draft;
 use world::worlds::World;
 
@@ -161,31 +160,13 @@ fn keep_tried(alloc: Global, world: &mut World, step: &Step) -> Option<Outcome>
     requires { IsTrue (in_range step.now) }
     ensures { MatchOption result (world.new ≡ world.old) (λ o. (play1 world.old.plain step.now ≡ (world.new.plain, o)) × (world.new.opened ≡ world.old.opened)) }
 {
-    let Ok((outcome, changes, after)) = try_here(alloc, world, step) else {
+    let Ok((outcome, changes, after)) = try_on(alloc, world, step) else {
         return None;
     };
     match take_over(world, &changes, after) {
         Ok(()) => Some(outcome),
         Err(_) => None,
     }
-}
-
-// What the step makes of the world: its outcome, the changes, and the records with them, where they were made. The world stays as it is.
-#[inline(always)]
-fn try_here(
-    alloc: Global,
-    world: &World,
-    step: &Step,
-) -> Result<(Outcome, Changes, Option<Draft>), AllocError>
-    requires { IsTrue (in_range step.now) }
-    ensures played { IfOk result (λ r. play1 world.now.plain step.now ≡ (apply_all r.1 world.now.plain, r.0)) }
-    ensures sound { IfOk result (λ r. IsSound (apply_all r.1 world.now.plain)) }
-    ensures after { IfOk result (λ r. IfSome r.2 (λ d. d ≡ apply_all r.1 world.now.plain)) }
-{
-    let mut view = Alone::over(alloc, world);
-    let outcome = run_step(alloc, &mut view, step)?;
-    let (changes, after) = view.finish();
-    Ok((outcome, changes, after))
 }
 
 // The world has these changes, which these records have too, where they were made. After want of memory nothing has changed.

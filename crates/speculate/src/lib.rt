@@ -15,3 +15,4 @@ pub mod report;
 pub mod schedules;
 pub mod shared;
 pub mod sight;
+mod trying;

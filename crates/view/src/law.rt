@@ -2,7 +2,7 @@
 ghost use Rattle.std.specs.Prelude.{◌≡◌, ℕ, option_map, IfOk, OnOk};
 ghost use Rattle.spec_world.specs.World.{World};
 ghost use Rattle.spec_world.specs.Inherit.{slot_at};
-ghost use Rattle.spec_world.specs.Questions.{ask, apply, header_at};
+ghost use Rattle.spec_world.specs.Questions.{ask, apply, header_at, about_header, about_slot};
 ghost use Rattle.view.specs.Meanings.{question_of, answer_of, change_of};
 ghost use Rattle.view.specs.Law.{Goes, Keeps, Lasts, Tells};
 
@@ -47,6 +47,11 @@ pub trait View {
     fn slot(&mut self, object: i32, name: &Text) -> Result<Option<Slot>, AllocError>
         ensures lasts { Lasts holds home anchor self.old self.new result }
         ensures left { IfOk result (λ s. Tells holds now self.old self.new (λ w. slot_at w object name.now ≡ s)) }
+
+        // A start that gives the home's answer to the question for this slot, at its start and now, stays.
+        ensures kept { OnOk result ((w : World) → holds self.old w →
+            ask w (about_slot object name.now) ≡ ask (home self.old) (about_slot object name.now) →
+            ask (now self.old w) (about_slot object name.now) ≡ ask (now self.old (home self.old)) (about_slot object name.now) → holds self.new w) }
     {
         match self.get(&Question::Slot(object, name.clone()?))? {
             Answer::Slot(Some(slot)) => Ok(slot),
@@ -60,6 +65,11 @@ pub trait View {
     fn parent(&mut self, object: i32) -> Result<Option<i32>, AllocError>
         ensures lasts { Lasts holds home anchor self.old self.new result }
         ensures left { IfOk result (λ p. Tells holds now self.old self.new (λ w. option_map (λ h. h.parent) (header_at w object) ≡ p)) }
+
+        // A start that gives the home's answer to the question for this header, at its start and now, stays.
+        ensures kept { OnOk result ((w : World) → holds self.old w →
+            ask w (about_header object) ≡ ask (home self.old) (about_header object) →
+            ask (now self.old w) (about_header object) ≡ ask (now self.old (home self.old)) (about_header object) → holds self.new w) }
     {
         match self.get(&Question::Header(object))? {
             Answer::Header(Some(header)) => Ok(Some(header.parent)),

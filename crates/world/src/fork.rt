@@ -1,5 +1,5 @@
 //! A world with changes that are kept or forgotten at their end.
-ghost use Rattle.std.specs.Prelude.{◌≡◌, ◌+◌, IfOk, OnOk};
+ghost use Rattle.std.specs.Prelude.{◌≡◌, ◌+◌, IfOk, IfSome, OnOk, OnErr};
 ghost use Rattle.spec_world.specs.Questions.{ask, apply, apply_all};
 ghost use Rattle.view.specs.Meanings.{question_of, answer_of, change_of};
 ghost use Rattle.view.specs.Sound.{IsSound};
@@ -75,20 +75,6 @@ impl<'w> Forked<'w, Draft> {
         Ok(())
     }
 
-    /// Changes more, one after another, that somebody else keeps. After an `Err` it is as it was.
-    pub fn put_all(&mut self, changes: &Changes) -> Result<(), AllocError>
-        ensures same_reference { borrow_of self.new ≡ borrow_of self.old }
-        ensures start { start_of self.new ≡ start_of self.old }
-        ensures changed { OnOk result (changed_in self.new ≡ apply_all changes.now (changed_in self.old)) }
-    {
-        let changed = match &self.fork {
-            Some(draft) => draft.changed(changes)?,
-            None => self.world.changed(changes)?,
-        };
-        self.fork = Some(changed);
-        Ok(())
-    }
-
     /// The world has the changes.
     pub fn keep(self)
         requires { IsKeepable self }
@@ -101,8 +87,39 @@ impl<'w> Forked<'w, Draft> {
         }
     }
 
+    /// The world has changes more, one after another, which these records have too, where they were made. What no snapshot shares is changed where it lies.
+    /// After want of memory the world is as it was.
+    pub fn keep_with(self, changes: &Changes, after: Option<Draft>) -> Result<(), AllocError>
+        requires sound { IsSound (apply_all changes.now (changed_in self)) }
+        requires after { IfSome after (λ d. d ≡ apply_all changes.now (changed_in self)) }
+        ensures plain { OnOk result (self.exit.0.now.plain ≡ apply_all changes.now (changed_in self.entry)) }
+        ensures err { OnErr result (self.exit.0.now.plain ≡ (start_of self.entry).plain) }
+        ensures opened { self.exit.0.now.opened ≡ (start_of self.entry).opened }
+    {
+        let Forked { world, fork } = self;
+        if let Some(draft) = after {
+            world.replace(draft);
+            return Ok(());
+        }
+        match fork {
+            Some(draft) => change_over(world, draft, changes),
+            None => world.change(changes),
+        }
+    }
+
     /// The world is as it was.
     pub fn undo(self)
         ensures { self.exit.0.now ≡ start_of self.entry }
     {}
+}
+
+// The world has these records with changes. After want of memory it is as it was.
+fn change_over(world: &mut World, mut draft: Draft, changes: &Changes) -> Result<(), AllocError>
+    requires { IsSound (apply_all changes.now draft) }
+    ensures ok { OnOk result (world.new ≡ record { plain = apply_all changes.now draft; opened = world.old.opened }) }
+    ensures err { OnErr result (world.new ≡ world.old) }
+{
+    draft.change(changes)?;
+    world.replace(draft);
+    Ok(())
 }

@@ -2,7 +2,7 @@ use Rattle.std.proofs.Common.{sym, subst}
 use Rattle.view.specs.Sound.{IsSound}
 use Rattle.world.specs.Amended.{Amended, amended_now}
 use Rattle.speculate.proofs.Alone.{tried, tried_sound, tried_records}
-use Rattle.speculate.proofs.here.try_here.Goals as goal
+use Rattle.speculate.proofs.trying.try_on.Goals as goal
 
 pub run_step-requires-clause-sound : goal.run_step-requires-clause-sound
 run_step-requires-clause-sound c = λ w is. subst (λ (a : Amended). IsSound (amended_now a)) (sym c.over-view.ensures.empty) c.over-view.ensures.sound

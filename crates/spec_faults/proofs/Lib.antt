@@ -11,3 +11,4 @@ pub mod ObjectsFine
 pub mod Helds
 pub mod TasksFine
 pub mod WorldsFine
+pub mod FixtureTold

@@ -4,6 +4,7 @@ use Rattle.spec_value.specs.Datum.{Text}
 use Rattle.spec_world.specs.World.{World}
 use Rattle.spec_world.specs.WellFormed.{IsWellFormed}
 use Rattle.spec_world.specs.Checkpoint.{checkpoint_text}
+use Rattle.spec_fixture.specs.Fixture.{fixture}
 use Rattle.spec_checkpoint.specs.Holding.{world_holds}
 use Rattle.spec_faults.specs.Faults.{LineFault, first_fault, IsFirstFault}
 use Rattle.spec_faults.specs.Reach.{is_in_reach}
@@ -25,3 +26,7 @@ WorldsHaveNone = (w : World) → IsTold w → first_fault (checkpoint_text w) �
 -- nor is its last line told to be that of no world
 abbrev pub WorldsHaveNoFault : Type 0
 WorldsHaveNoFault = (w : World) (f : LineFault) → IsTold w → IsFirstFault (checkpoint_text w) f → ⊥
+
+-- the world that tests start with
+abbrev pub FixtureIsTold : Type 0
+FixtureIsTold = IsTold fixture

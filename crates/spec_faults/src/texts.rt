@@ -16,3 +16,11 @@ pub fn worlds()
     ensures lines { WorldsHaveNone }
     ensures none { WorldsHaveNoFault }
 {}
+
+ghost use Rattle.spec_faults.specs.TextLaws.{FixtureIsTold};
+
+/// The built-in world is one of these.
+#[tactic(auto, using(crate::proofs::FixtureTold::fixture_is_told))]
+pub fn fixture()
+    ensures { FixtureIsTold }
+{}

@@ -1,9 +1,9 @@
 -- By computation.
-use Rattle.std.proofs.Common.{ℕ, ◌<◌, ◌^◌, length, refl, arith, ltb-true}
+use Rattle.std.proofs.Common.{◌<◌, ◌^◌, length, refl, ltb-true}
 use Rattle.std.specs.Fmt.{digits}
 use Rattle.spec_fixture.specs.Fixture.{fixture}
 use Rattle.spec_fixture.proofs.FixtureFits.{fixture_fits}
-use Rattle.spec_world.specs.Inherit.{ancestors, line, slot_at}
+use Rattle.spec_world.specs.Inherit.{ancestors, line}
 use Rattle.spec_world.specs.Checkpoint.{checkpoint_text}
 use Rattle.spec_checkpoint.proofs.FixtureHolds.{fixture_holds}
 use Rattle.spec_faults.specs.TextLaws.{FixtureIsTold}

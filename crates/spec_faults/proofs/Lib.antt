@@ -12,3 +12,4 @@ pub mod Helds
 pub mod TasksFine
 pub mod WorldsFine
 pub mod FixtureTold
+pub mod Staying

@@ -1,10 +1,11 @@
 //! Laws of the faults of texts.
-ghost use Rattle.spec_faults.specs.TextLaws.{OneFault};
+ghost use Rattle.spec_faults.specs.TextLaws.{OneFault, FaultStays};
 
-/// A text has at most one first fault.
-#[tactic(auto, using(crate::proofs::OneFault::one_fault))]
+/// A text has at most one first fault; and it keeps it whatever comes behind the text, but for the want of a line end.
+#[tactic(auto, using(crate::proofs::OneFault::one_fault, crate::proofs::Staying::fault_stays))]
 pub fn faults()
-    ensures { OneFault }
+    ensures one { OneFault }
+    ensures stays { FaultStays }
 {}
 
 ghost use Rattle.spec_faults.specs.TextLaws.{WorldsHaveNone, WorldsHaveNoFault};
@@ -15,6 +16,14 @@ ghost use Rattle.spec_faults.specs.TextLaws.{WorldsHaveNone, WorldsHaveNoFault};
 pub fn worlds()
     ensures lines { WorldsHaveNone }
     ensures none { WorldsHaveNoFault }
+{}
+
+ghost use Rattle.spec_faults.specs.TextLaws.{BeginningsEnd};
+
+/// A text that begins the text of such a world has no fault but that it ends.
+#[tactic(auto, using(crate::proofs::Staying::beginnings_end))]
+pub fn beginnings()
+    ensures { BeginningsEnd }
 {}
 
 ghost use Rattle.spec_faults.specs.TextLaws.{FixtureIsTold};

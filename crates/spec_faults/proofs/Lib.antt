@@ -13,3 +13,4 @@ pub mod TasksFine
 pub mod WorldsFine
 pub mod FixtureTold
 pub mod Staying
+pub mod OutOfOrder

@@ -10,3 +10,4 @@ pub mod Opened
 pub mod FieldLaws
 pub mod TextLaws
 pub mod Reach
+pub mod WorldRows

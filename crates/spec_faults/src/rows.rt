@@ -70,3 +70,11 @@ pub fn unfaulted()
     ensures worlds { UnfaultedWorlds }
     ensures others { UnfaultedOthers }
 {}
+
+ghost use Rattle.spec_faults.specs.WorldRows.{OutOfOrder};
+
+/// A text whose lines have no fault and that no well-formed world has.
+#[tactic(auto, using(crate::proofs::OutOfOrder::links_out_of_order))]
+pub fn worlds()
+    ensures { OutOfOrder }
+{}

@@ -1,0 +1,16 @@
+pub mod Spelling
+pub mod LiteralsBack
+pub mod LinesBack
+pub mod FieldsBack
+pub mod Suiting
+pub mod Fine
+pub mod OneFault
+pub mod FieldsSuit
+pub mod Entering
+pub mod ObjectsFine
+pub mod Helds
+pub mod TasksFine
+pub mod WorldsFine
+pub mod FixtureTold
+pub mod Staying
+pub mod OutOfOrder

@@ -1,0 +1,13 @@
+pub mod Cutting
+pub mod Plain
+pub mod Literals
+pub mod Forms
+pub mod Codes
+pub mod Awaited
+pub mod Faults
+pub mod Rows
+pub mod Opened
+pub mod FieldLaws
+pub mod TextLaws
+pub mod Reach
+pub mod WorldRows

@@ -17,3 +17,4 @@ pub mod Tops
 pub mod Onward
 pub mod Appending
 pub mod Numbers
+pub mod Asked

@@ -9,3 +9,4 @@ pub mod Stopping
 pub mod Onward
 pub mod Appending
 pub mod Numbers
+pub mod Asked

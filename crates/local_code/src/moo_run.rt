@@ -1,6 +1,8 @@
 //! The loop of the machine as far as it asks nothing of the world: instructions one after another, where a run stops, and the verbs
 //! that are then under way.
+mod ahead;
 mod append;
+pub mod asked;
 mod numbers;
 pub mod onward;
 pub mod parts;

@@ -6,3 +6,4 @@ pub mod Asked
 pub mod Calls
 pub mod Steps
 pub mod AskingOn
+pub mod Named

@@ -80,7 +80,7 @@ impl Pace {
         if left / 2 < next {
             left
         } else {
-            next.clamp(1, left)
+            next.max(1).min(left)
         }
     }
 
@@ -150,7 +150,9 @@ impl Pace {
 // How many nanoseconds lie between two moments: very many where they are not known, so that several workers go on.
 fn nanoseconds(start: Option<Instant>, end: Option<Instant>) -> u64 {
     match (start, end) {
-        (Some(start), Some(end)) => end.duration_since(start).as_nanos() as u64,
+        (Some(start), Some(end)) => {
+            u64::try_from(end.duration_since(start).as_nanos()).unwrap_or(u64::MAX)
+        }
         _ => u64::MAX,
     }
 }

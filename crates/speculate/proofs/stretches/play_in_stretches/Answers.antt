@@ -24,8 +24,8 @@ stretch-init g c =
     }
 
 pub go_on-requires-clause-runs : goal.go_on-requires-clause-runs
-go_on-requires-clause-runs g c =
-    part_runs_on c.args.world.plain c.stretch.report.world.plain c.args.steps.now _ c.stretch.at (c.stretch.at + c.count-count.result) c.know.ensures c.stretch.invariant.inside
+go_on-requires-clause-runs g c = λ κs.
+    part_runs_on c.args.world.plain c.stretch.report.world.plain c.args.steps.now (vec_items c.stretch.report.outcomes) c.stretch.at (c.stretch.at + c.count-count.result) c.know.ensures c.stretch.invariant.inside
     c.requires.runs.0 c.requires.runs.1 c.stretch.invariant.played
 
 pub returns-in-Err-go_on-clause-part : goal.returns-in-Err-go_on-clause-part

@@ -1,4 +1,4 @@
-use Rattle.std.proofs.Common.{◌≡◌, ℕ, ◌+◌, ◌-◌, ◌≤◌, List, length, take, drop, slice_range, vec_items, sym, ap, ◌∙◌, subst, arith, length-take, length-drop}
+use Rattle.std.proofs.Common.{◌≡◌, ℕ, ◌+◌, ◌-◌, ◌≤◌, List, length, take, drop, slice_range, vec_items, sym, ap, ◌∙◌, subst, arith, length-take, length-drop, rules}
 use Rattle.spec_world.specs.Outcome.{Outcome}
 use Rattle.spec_moo.specs.Steps.{play}
 use Rattle.speculate.specs.BoardState.{runs}
@@ -24,9 +24,11 @@ stretch-init g c =
     }
 
 pub go_on-requires-clause-runs : goal.go_on-requires-clause-runs
-go_on-requires-clause-runs g c = λ κs.
-    part_runs_on c.args.world.plain c.stretch.report.world.plain c.args.steps.now (vec_items c.stretch.report.outcomes) c.stretch.at (c.stretch.at + c.count-count.result) c.know.ensures c.stretch.invariant.inside
-    c.requires.runs.0 c.requires.runs.1 c.stretch.invariant.played
+go_on-requires-clause-runs g c =
+    let runs_on =
+    part_runs_on c.args.world.plain c.stretch.report.world.plain c.args.steps.now (vec_items c.stretch.report.outcomes) c.stretch.at (c.stretch.at + c.count-count.result) c.know.ensures
+    c.stretch.invariant.inside c.requires.runs.0 c.requires.runs.1 c.stretch.invariant.played
+    in search (rules, runs_on)
 
 pub returns-in-Err-go_on-clause-part : goal.returns-in-Err-go_on-clause-part
 returns-in-Err-go_on-clause-part g c =

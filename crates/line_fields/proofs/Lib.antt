@@ -10,3 +10,4 @@ pub mod Cuts
 pub mod Dots
 pub mod Readable
 pub mod Quotes
+pub mod PlainNumbers

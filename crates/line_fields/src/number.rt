@@ -1,12 +1,14 @@
 //! Numbers and objects as fields write them: no needless zeros, and a minus sign only before what is below zero.
-ghost use Rattle.std.specs.Prelude.{◌≡◌, ◌↔◌, ◌≤◌, ◌≤ℤ◌, ℕ, ℤ, pos, List, [], ◌∷◌, map, length, Some, IsTrue, IfOk, MatchOption};
+ghost use Rattle.std.specs.Prelude.{◌≡◌, ◌↔◌, ◌≤◌, ◌<◌, ◌^◌, ◌≤ℤ◌, ℕ, ℤ, pos, List, [], ◌∷◌, map, length, drop, Some, IsTrue, IfOk, IfSome, MatchOption};
 ghost use Rattle.std.specs.List.{list_all};
 ghost use Rattle.std.specs.Fmt.{decimal, signed_decimal};
 ghost use Rattle.spec_value.specs.Datum.{in_number_range};
 ghost use Rattle.spec_world.specs.Checkpoint as text_of;
 ghost use Rattle.moo_value.specs.Read.{digit_run, numeral_length, IsNoLonger, FindsNumber};
 ghost use Rattle.spec_program.specs.Names.{is_digit};
+ghost use Rattle.spec_faults.specs.Plain.{number_of, integer_of, is_number, is_integer, is_object};
 ghost use Rattle.line_fields.specs.Values.{are_places};
+ghost use Rattle.line_fields.specs.Said.{Says};
 ghost use Rattle.line_fields.specs.Numbers.{is_plain_number, is_signed, behind_sign, magnitude_behind};
 
 use crate::cut::cut_at;
@@ -19,6 +21,7 @@ const GREATEST_PART: u64 = 9_223_372_036_854_775_807;
 /// The number that is spelled so, if it is at least the first and at most the second.
 pub fn natural(text: &[u8], least: u64, most: u64) -> Option<u64>
     ensures reads { (n : ℕ) → least ≤ n → n ≤ most → text.now ≡ decimal n → result ≡ Some n }
+    ensures fault { Says result (is_number least most text.now) (number_of text.now) }
 {
     if !is_plain(text) {
         return None;
@@ -35,6 +38,7 @@ pub fn natural(text: &[u8], least: u64, most: u64) -> Option<u64>
 /// The integer of 32 bits that is spelled so.
 pub fn integer(text: &[u8]) -> Option<i32>
     ensures reads { (z : ℤ) → IsTrue (in_number_range z) → text.now ≡ signed_decimal z → result ≡ Some z }
+    ensures fault { result ≡ integer_of text.now }
 {
     if has_sign(text) {
         signed(text)
@@ -54,6 +58,7 @@ fn has_sign(text: &[u8]) -> bool
 
 fn unsigned(text: &[u8]) -> Option<i32>
     ensures reads { (n : ℕ) → IsTrue (in_number_range (pos n)) → text.now ≡ decimal n → result ≡ Some (pos n) }
+    ensures tells { IfSome result (λ z. (text.now ≡ signed_decimal z) × IsTrue (in_number_range z)) }
 {
     if !is_plain(text) {
         return None;
@@ -62,7 +67,8 @@ fn unsigned(text: &[u8]) -> Option<i32>
 }
 
 fn positive(number: u64) -> Option<i32>
-    ensures { IsTrue (in_number_range (pos number)) → result ≡ Some (pos number) }
+    ensures reads { IsTrue (in_number_range (pos number)) → result ≡ Some (pos number) }
+    ensures tells { IfSome result (λ z. (z ≡ pos number) × (number < 2 ^ 31)) }
 {
     if number < 2_147_483_648 {
         Some(number as i32)
@@ -85,6 +91,7 @@ fn magnitude(digits: &[u8]) -> u64
 
 fn signed(text: &[u8]) -> Option<i32>
     ensures reads { (z : ℤ) → IsTrue (in_number_range z) → text.now ≡ signed_decimal z → result ≡ Some z }
+    ensures tells { IfSome result (λ z. (text.now ≡ signed_decimal z) × IsTrue (in_number_range z)) }
 {
     if !is_plain(digits_behind_sign(text)) {
         return None;
@@ -142,6 +149,7 @@ fn digits_end(bytes: &[u8]) -> usize
 /// The integer that is spelled so, if it is at least the first and at most the second.
 pub fn integer_between(text: &[u8], least: i32, most: i32) -> Option<i32>
     ensures reads { (z : ℤ) → IsTrue (in_number_range z) → least ≤ℤ z → z ≤ℤ most → text.now ≡ signed_decimal z → result ≡ Some z }
+    ensures fault { Says result (is_integer least most text.now) (integer_of text.now) }
 {
     match integer(text) {
         Some(number) if least <= number && number <= most => Some(number),
@@ -152,6 +160,7 @@ pub fn integer_between(text: &[u8], least: i32, most: i32) -> Option<i32>
 /// The object that is spelled so, `#` before its number.
 pub fn object(text: &[u8]) -> Option<i32>
     ensures reads { (z : ℤ) → IsTrue (in_number_range z) → text.now ≡ text_of.object_text z → result ≡ Some z }
+    ensures fault { Says result (is_object text.now) (integer_of (drop 1 text.now)) }
 {
     match text {
         [b'#', number @ ..] => integer(number),
@@ -216,7 +225,7 @@ fn digits_behind_sign(text: &[u8]) -> &[u8]
 }
 
 fn is_minus_zero(text: &[u8]) -> bool
-    ensures { IsTrue result → text.now ≡ 45 ∷ 48 ∷ [] }
+    ensures { IsTrue result ↔ text.now ≡ 45 ∷ 48 ∷ [] }
 {
     match text {
         [b'-', b'0'] => true,

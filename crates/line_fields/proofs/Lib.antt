@@ -11,3 +11,4 @@ pub mod Dots
 pub mod Readable
 pub mod Quotes
 pub mod PlainNumbers
+pub mod LettersSet

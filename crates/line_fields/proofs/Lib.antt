@@ -12,3 +12,4 @@ pub mod Readable
 pub mod Quotes
 pub mod PlainNumbers
 pub mod LettersSet
+pub mod FieldEnds

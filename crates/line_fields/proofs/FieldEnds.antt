@@ -4,6 +4,8 @@ use Rattle.std.proofs.lemmas.Bool.Decides.{nat_tests}
 use Rattle.spec_value.specs.Datum.{Text}
 use Rattle.spec_faults.specs.Cutting as spot
 use Rattle.spec_faults.specs.Cutting.{Spot, among, quoted, onto_first, with_next, spot_behind, fields_from, fields_in}
+use Rattle.spec_faults.proofs.FieldsBack.{fields_spelled}
+use Rattle.line_fields.specs.Cutting.{first_fields}
 use Rattle.line_fields.specs.declared.fields.Place.{Place}
 use Rattle.line_fields.specs.Places.{ends_field, behind, behind_mark, behind_character, lists_behind}
 use Rattle.line_fields.proofs.Places.{at, end_from}
@@ -167,3 +169,25 @@ cut_further line rest field behind found e f = e ∙ ap (λ ts. found ++ ts) f �
 
 pub cut_whole : (line rest : Text) (found : List Text) → fields_in line ≡ found ++ fields_in rest → fields_in rest ≡ rest ∷ [] → found ++ rest ∷ [] ≡ fields_in line
 cut_whole line rest found e f = sym (e ∙ ap (λ ts. found ++ ts) f)
+
+-- ---- the first ones
+
+one_first : (n : ℕ) (t : Text) (ts : List Text) → 1 ≤ length ts → first_fields (suc n) (t ∷ ts) ≡ t ∷ first_fields n ts
+one_first n t [] h = absurd (omega (arith, h))
+one_first n t (u ∷ ts) h = refl
+
+pub first_further : (m n : ℕ) (line rest field behind : Text) (found all : List Text) → m ≡ suc n → all ≡ found ++ first_fields m (fields_in rest) → fields_in rest ≡ field ∷ fields_in behind
+    → all ≡ (found ++ field ∷ []) ++ first_fields n (fields_in behind)
+first_further m n line rest field behind found all s e f =
+    e
+    ∙ ap (λ k. found ++ first_fields k (fields_in rest)) s
+    ∙ ap (λ ts. found ++ first_fields (suc n) ts) f
+    ∙ ap (λ ts. found ++ ts) (one_first n field (fields_in behind) (some_fields (among 0) behind))
+    ∙ sym (append_assoc found (field ∷ []) (first_fields n (fields_in behind)))
+
+pub first_ends : (m : ℕ) (rest : Text) (found all : List Text) → 0 < m → all ≡ found ++ first_fields m (fields_in rest) → fields_in rest ≡ rest ∷ [] → found ++ rest ∷ [] ≡ all
+first_ends zero rest found all h e f = absurd (omega (arith, h))
+first_ends (suc m) rest found all h e f = sym (e ∙ ap (λ ts. found ++ first_fields (suc m) ts) f)
+
+pub first_over : (m : ℕ) (rest : Text) (found all : List Text) → m ≡ 0 → all ≡ found ++ first_fields m (fields_in rest) → found ++ rest ∷ [] ≡ all
+first_over m rest found all z e = sym (e ∙ ap (λ k. found ++ first_fields k (fields_in rest)) z ∙ ap (λ t. found ++ t ∷ []) (fields_spelled rest))

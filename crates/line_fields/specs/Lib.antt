@@ -5,3 +5,4 @@ pub mod Places
 pub mod Numbers
 pub mod Quoted
 pub mod Said
+pub mod Cutting

@@ -4,6 +4,7 @@ ghost use Rattle.spec_value.specs.Datum.{Text};
 ghost use Rattle.spec_world.specs.Checkpoint.{fields as joined};
 ghost use Rattle.spec_faults.specs.Cutting.{fields_in};
 ghost use Rattle.line_fields.specs.Fields.{Field, spelled, all_spelled, is_field, are_fields};
+ghost use Rattle.line_fields.specs.Cutting.{first_fields};
 ghost use Rattle.line_fields.specs.Places as place;
 
 use std::alloc::{AllocError, Global};
@@ -80,6 +81,7 @@ pub fn split(alloc: Global, line: &[u8]) -> Result<Vec<&[u8]>, AllocError>
 /// The fields of a line that has so many behind the first. The last is all that stands behind the others, which may be several fields.
 pub fn split_first(alloc: Global, line: &[u8], count: usize) -> Result<Vec<&[u8]>, AllocError>
     ensures reads { (f : Field) (fs : List Field) → IsTrue (are_fields (f ∷ fs)) → length fs ≡ count → line.now ≡ joined (all_spelled (f ∷ fs)) → IfOk result (λ v. map (λ b. b.now) v.items ≡ all_spelled (f ∷ fs)) }
+    ensures cuts { IfOk result (λ v. map (λ b. b.now) v.items ≡ first_fields count (fields_in line.now)) }
 {
     let mut fields = Vec::with_capacity(alloc, count.saturating_add(1))?;
     let mut rest = line;

@@ -13,3 +13,4 @@ pub mod Quotes
 pub mod PlainNumbers
 pub mod LettersSet
 pub mod FieldEnds
+pub mod DotsSaid

@@ -1,14 +1,14 @@
 //! Numbers and objects as fields write them: no needless zeros, and a minus sign only before what is below zero.
-ghost use Rattle.std.specs.Prelude.{◌≡◌, ◌↔◌, ◌≤◌, ◌<◌, ◌^◌, ◌≤ℤ◌, ℕ, ℤ, pos, List, [], ◌∷◌, map, length, drop, Some, IsTrue, IfOk, IfSome, MatchOption};
+ghost use Rattle.std.specs.Prelude.{◌≡◌, ◌↔◌, ◌≤◌, ◌<◌, ◌^◌, ◌≤ℤ◌, ℕ, ℤ, pos, List, [], ◌∷◌, map, length, drop, Some, IsTrue, IfOk, IfSome, MatchOption, option_map};
 ghost use Rattle.std.specs.List.{list_all};
 ghost use Rattle.std.specs.Fmt.{decimal, signed_decimal};
 ghost use Rattle.spec_value.specs.Datum.{in_number_range};
 ghost use Rattle.spec_world.specs.Checkpoint as text_of;
 ghost use Rattle.moo_value.specs.Read.{digit_run, numeral_length, IsNoLonger, FindsNumber};
 ghost use Rattle.spec_program.specs.Names.{is_digit};
-ghost use Rattle.spec_faults.specs.Plain.{number_of, integer_of, is_number, is_integer, is_object};
+ghost use Rattle.spec_faults.specs.Plain.{number_of, integer_of, is_number, is_integer, is_object, number_in, between_dots, is_path, path_in};
 ghost use Rattle.line_fields.specs.Values.{are_places};
-ghost use Rattle.line_fields.specs.Said.{Says};
+ghost use Rattle.line_fields.specs.Said.{Says, are_parts};
 ghost use Rattle.line_fields.specs.Numbers.{is_plain_number, is_signed, behind_sign, magnitude_behind};
 
 use crate::cut::cut_at;
@@ -171,6 +171,7 @@ pub fn object(text: &[u8]) -> Option<i32>
 /// The numbers from 1 on that are spelled so, with dots between them, or none where the text is 0.
 pub fn path(alloc: Global, text: &[u8]) -> Result<Option<Vec<usize>>, AllocError>
     ensures reads { (ns : List ℕ) → IsTrue (are_places ns) → text.now ≡ text_of.path (map decimal ns) → IfOk result (λ o. MatchOption o ⊥ (λ v. v.items ≡ ns)) }
+    ensures fault { IfOk result (λ o. Says (option_map (λ v. v.items) o) (is_path text.now) (Some (path_in text.now))) }
 {
     if is_zero(text) {
         return Ok(Some(Vec::new(alloc)));
@@ -181,6 +182,7 @@ pub fn path(alloc: Global, text: &[u8]) -> Result<Option<Vec<usize>>, AllocError
 // The numbers from 1 on that are spelled so, with dots between them.
 fn dotted(alloc: Global, text: &[u8]) -> Result<Option<Vec<usize>>, AllocError>
     ensures reads { (m : ℕ) (ms : List ℕ) → IsTrue (are_places (m ∷ ms)) → text.now ≡ text_of.with_dots (decimal m) (map decimal ms) → IfOk result (λ o. MatchOption o ⊥ (λ v. v.items ≡ m ∷ ms)) }
+    ensures fault { IfOk result (λ o. Says (option_map (λ v. v.items) o) (are_parts (between_dots text.now)) (Some (map number_in (between_dots text.now)))) }
 {
     let mut numbers = Vec::new(alloc);
     let mut rest = text;

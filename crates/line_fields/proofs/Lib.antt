@@ -14,3 +14,4 @@ pub mod PlainNumbers
 pub mod LettersSet
 pub mod FieldEnds
 pub mod DotsSaid
+pub mod ValuesTold

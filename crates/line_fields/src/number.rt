@@ -8,7 +8,7 @@ ghost use Rattle.moo_value.specs.Read.{digit_run, numeral_length, IsNoLonger, Fi
 ghost use Rattle.spec_program.specs.Names.{is_digit};
 ghost use Rattle.spec_faults.specs.Plain.{number_of, integer_of, is_number, is_integer, is_object, number_in, between_dots, is_path, path_in};
 ghost use Rattle.line_fields.specs.Values.{are_places};
-ghost use Rattle.line_fields.specs.Said.{Says, are_parts};
+ghost use Rattle.line_fields.specs.Said.{Says, are_parts, TellsNumber};
 ghost use Rattle.line_fields.specs.Numbers.{is_plain_number, is_signed, behind_sign, magnitude_behind};
 
 use crate::cut::cut_at;
@@ -112,6 +112,7 @@ fn signed(text: &[u8]) -> Option<i32>
 pub fn front_integer(bytes: &[u8]) -> Option<(i32, &[u8])>
     ensures shorter { IsNoLonger bytes.now result }
     ensures finds { FindsNumber bytes.now result }
+    ensures tells { TellsNumber bytes.now result }
 {
     let (digits, rest) = bytes.split_at(numeral_end(bytes));
     match integer(digits) {

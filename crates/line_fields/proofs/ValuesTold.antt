@@ -1,0 +1,228 @@
+-- What is read at the front of some bytes stands there.
+use Rattle.std.proofs.Common.{◌≡◌, ℕ, zero, suc, ◌+◌, ◌-◌, ◌==◌, ◌&&◌, ◌||◌, not, Bool, true, false, if◌then◌else◌, List, [], ◌∷◌, ◌++◌, take, drop, Option, Some, None, IsTrue, refl, ap, sym, subst, ◌∙◌, arith, append_assoc, eqb-true}
+use Rattle.std.specs.Prelude.{ℤ, IfSome, option_map}
+use Rattle.std.proofs.lemmas.Bool.Decides.{nat_tests}
+use Rattle.std.proofs.lemmas.List.{append-nil, take-append-drop}
+use Rattle.std.specs.List.{list_all}
+use Rattle.std.specs.Fmt.{signed_decimal}
+use Rattle.spec_value.specs.Datum.{Text, in_number_range, Datum, integer, object, text, error, list, ErrorCode, Data, no_data, item, of_list}
+use Rattle.spec_value.specs.Literal.{error_name, escape, escaped, literal, data_text, more_text}
+use Rattle.spec_value.proofs.Entries.{first_holds, second_holds, both_hold}
+use Rattle.spec_faults.specs.Plain.{integer_of}
+use Rattle.spec_faults.specs.Literals.{nests, all_nest}
+use Rattle.spec_faults.proofs.Spelling.{integers_spelled}
+use Rattle.moo_value.specs.Read.{after_name, mark, space}
+use Rattle.moo_value.proofs.EscapedTexts.{first_same, second_same}
+use Rattle.line_fields.specs.Quoted.{is_ordinary, ordinary_run, quote_mark, behind_backslash}
+
+-- ---- numbers and names
+
+pub number_there : (bytes front rest : Text) (z : ℤ) → front ++ rest ≡ bytes → Some z ≡ integer_of front → (bytes ≡ signed_decimal z ++ rest) × IsTrue (in_number_range z)
+number_there bytes front rest z e i = let s = integers_spelled front z (sym i) in (sym e ∙ ap (λ t. t ++ rest) (sym s.spelled), s.range)
+
+pub name_there : (name bytes rest : Text) → after_name name bytes ≡ Some rest → bytes ≡ name ++ rest
+name_there [] bytes rest e = let same : bytes ≡ rest = cc in same
+name_there (c ∷ name) [] rest e = cc
+name_there (c ∷ name) (b ∷ bytes) rest e = go (c == b) refl e (λ k. name_there name bytes rest k)
+  where
+    same : (c == b) ≡ true → b ≡ c
+    same h = grind (arith, nat_tests)
+
+    go : (d : Bool) → (c == b) ≡ d → (if d then after_name name bytes else None) ≡ Some rest → (after_name name bytes ≡ Some rest → bytes ≡ name ++ rest) → b ∷ bytes ≡ (c ∷ name) ++ rest
+    go true h k later = let one = same h in let more = later k in λ i. one i ∷ more i
+    go false h k later = cc
+
+-- ---- texts
+
+ordinary_itself : (c : ℕ) → is_ordinary c ≡ true → escape c ≡ c ∷ []
+ordinary_itself c h = rw (no_mark h) refl
+  where
+    no_mark : is_ordinary c ≡ true → (c == 34 || c == 92) ≡ false
+    no_mark k = grind (arith, nat_tests)
+
+run_escaped : (bytes : Text) → escaped (take (ordinary_run bytes) bytes) ≡ take (ordinary_run bytes) bytes
+run_escaped [] = refl
+run_escaped (c ∷ t) = go (is_ordinary c) refl (run_escaped t)
+  where
+    go : (b : Bool) → is_ordinary c ≡ b → escaped (take (ordinary_run t) t) ≡ take (ordinary_run t) t
+        → escaped (take (if b then suc (ordinary_run t) else 0) (c ∷ t)) ≡ take (if b then suc (ordinary_run t) else 0) (c ∷ t)
+    go true h e = (λ i. ordinary_itself c h i ++ e i)
+    go false h e = refl
+
+pub escaped_then : (t u : Text) → escaped (t ++ u) ≡ escaped t ++ escaped u
+escaped_then [] u = refl
+escaped_then (c ∷ t) u = ap (λ x. escape c ++ x) (escaped_then t u) ∙ sym (append_assoc (escape c) (escaped t) (escaped u))
+
+is_it : (c d : ℕ) → (c == d) ≡ true → c ≡ d
+is_it c d h = eqb-true c d h
+
+rest_same : (o p : Option ℕ) (x y : Text) → ◌≡◌ {A = Option (Option ℕ × List ℕ)} (Some (o, x)) (Some (p, y)) → (o ≡ p) × (x ≡ y)
+rest_same o p x y e = (first_same o p x y e, second_same o p x y e)
+
+-- a quote, or what an escaped character is spelled with
+abbrev marked : Option ℕ → Text → Text
+marked None rest = 34 ∷ rest
+marked (Some c) rest = escape c ++ rest
+
+behind_mark : (t : Text) (o : Option ℕ) (rest : Text) → behind_backslash t ≡ Some (o, rest) → 92 ∷ t ≡ marked o rest
+behind_mark [] o rest e = cc
+behind_mark (c ∷ t) o rest e = go (c == 34 || c == 92) refl e
+  where
+    go : (b : Bool) → (c == 34 || c == 92) ≡ b → ◌≡◌ {A = Option (Option ℕ × List ℕ)} (if b then Some (Some c, t) else None) (Some (o, rest)) → 92 ∷ c ∷ t ≡ marked o rest
+    go true h k =
+        let same = rest_same (Some c) o t rest k in
+        let spelled : escape c ++ t ≡ 92 ∷ c ∷ t = rw h refl in
+        sym spelled ∙ (λ i. marked (same.0 i) (same.1 i))
+    go false h k = cc
+
+pub mark_there : (back : Text) (o : Option ℕ) (rest : Text) → quote_mark back ≡ Some (o, rest) → back ≡ marked o rest
+mark_there [] o rest e = cc
+mark_there (c ∷ t) o rest e = go (c == 34) (c == 92) refl refl e
+  where
+    go : (q b : Bool) → (c == 34) ≡ q → (c == 92) ≡ b → ◌≡◌ {A = Option (Option ℕ × List ℕ)} (if q then Some (None, t) else (if b then behind_backslash t else None)) (Some (o, rest)) → c ∷ t ≡ marked o rest
+    go true b h k d =
+        let same = rest_same None o t rest d in ap (λ x. x ∷ t) (is_it c 34 h) ∙ (λ i. marked (same.0 i) (same.1 i))
+    go false true h k d = ap (λ x. x ∷ t) (is_it c 92 k) ∙ behind_mark t o rest d
+    go false false h k d = cc
+
+-- up to a quote
+pub plain_there : (bytes front back rest : Text) (k : ℕ) → k ≡ ordinary_run bytes → front ≡ take k bytes → back ≡ drop k bytes → quote_mark back ≡ Some (None, rest) → bytes ≡ escaped front ++ 34 ∷ rest
+plain_there bytes front back rest k run f b e =
+    let part : escaped front ≡ front = ap escaped (f ∙ ap (λ n. take n bytes) run) ∙ run_escaped bytes ∙ sym (f ∙ ap (λ n. take n bytes) run) in
+    sym (take-append-drop k bytes) ∙ (λ i. sym f i ++ (sym b ∙ mark_there back None rest e) i) ∙ ap (λ t. t ++ 34 ∷ rest) (sym part)
+
+-- characters that were read, some that a text has as they are, and a mark
+pub mark_further : (bytes found rest front back behind : Text) (k : ℕ) (o : Option ℕ) → bytes ≡ escaped found ++ rest → k ≡ ordinary_run rest → front ≡ take k rest → back ≡ drop k rest
+    → quote_mark back ≡ Some (o, behind) → bytes ≡ escaped (found ++ front) ++ marked o behind
+mark_further bytes found rest front back behind k o so run f b e =
+    let part : escaped front ≡ front = ap escaped (f ∙ ap (λ n. take n rest) run) ∙ run_escaped rest ∙ sym (f ∙ ap (λ n. take n rest) run) in
+    let left : rest ≡ escaped front ++ marked o behind = sym (take-append-drop k rest) ∙ (λ i. sym f i ++ (sym b ∙ mark_there back o behind e) i) ∙ ap (λ t. t ++ marked o behind) (sym part) in
+    so ∙ ap (λ t. escaped found ++ t) left ∙ sym (append_assoc (escaped found) (escaped front) (marked o behind)) ∙ ap (λ t. t ++ marked o behind) (sym (escaped_then found front))
+
+pub character_further : (bytes found behind : Text) (c : ℕ) → bytes ≡ escaped found ++ marked (Some c) behind → bytes ≡ escaped (found ++ c ∷ []) ++ behind
+character_further bytes found behind c e =
+    e ∙ sym (append_assoc (escaped found) (escape c) behind) ∙ ap (λ t. (escaped found ++ t) ++ behind) (sym (append-nil (escape c))) ∙ ap (λ t. t ++ behind) (sym (escaped_then found (c ∷ [])))
+
+-- ---- lists
+
+nests_list : (room : ℕ) (xs : Data) → (room == 0) ≡ false → IsTrue (all_nest (room - 1) xs) → IsTrue (nests room (list xs))
+nests_list zero xs h k = cc
+nests_list (suc n) xs h k = let same : suc n - 1 ≡ n = omega arith in subst (λ m. IsTrue (all_nest m xs)) same k
+
+pub more_then : (xs : List Datum) (v : Datum) → more_text (of_list (xs ++ v ∷ [])) ≡ more_text (of_list xs) ++ 44 ∷ 32 ∷ literal v
+more_then [] v = ap (λ t. 44 ∷ 32 ∷ t) (append-nil (literal v))
+more_then (x ∷ xs) v = ap (λ t. 44 ∷ 32 ∷ (literal x ++ t)) (more_then xs v) ∙ ap (λ t. 44 ∷ 32 ∷ t) (sym (append_assoc (literal x) (more_text (of_list xs)) (44 ∷ 32 ∷ literal v)))
+
+nest_then : (n : ℕ) (xs : List Datum) (v : Datum) → IsTrue (all_nest n (of_list xs)) → IsTrue (nests n v) → IsTrue (all_nest n (of_list (xs ++ v ∷ [])))
+nest_then n [] v h k = both_hold (nests n v) true k refl
+nest_then n (x ∷ xs) v h k = both_hold (nests n x) (all_nest n (of_list (xs ++ v ∷ []))) (first_holds (nests n x) (all_nest n (of_list xs)) h) (nest_then n xs v (second_holds (nests n x) (all_nest n (of_list xs)) h) k)
+
+abbrev pub behind : List Datum → Text → Text
+behind [] rest = rest
+behind (x ∷ xs) rest = data_text (of_list (x ∷ xs)) ++ 44 ∷ 32 ∷ rest
+
+-- items that were read, with a comma and a space behind them if there are any
+pub record Led (room : ℕ) (bytes : Text) (items : List Datum) (rest : Text) : Type 0 where
+  pub told : bytes ≡ behind items rest
+  pub nest : IsTrue (all_nest room (of_list items))
+
+one_more : (items : List Datum) (v : Datum) (after : Text) → behind items (literal v ++ after) ≡ data_text (of_list (items ++ v ∷ [])) ++ after
+one_more [] v after = ap (λ t. t ++ after) (sym (append-nil (literal v)))
+one_more (x ∷ xs) v after =
+    sym (append_assoc (literal x ++ more_text (of_list xs)) (44 ∷ 32 ∷ literal v) after)
+    ∙ ap (λ t. t ++ after) (append_assoc (literal x) (more_text (of_list xs)) (44 ∷ 32 ∷ literal v) ∙ ap (λ t. literal x ++ t) (sym (more_then xs v)))
+
+abbrev Item : ℕ → Text → Datum → Text → Type 0
+Item room rest v after = (rest ≡ literal v ++ after) × IsTrue (nests room v)
+
+pub item_told : (room : ℕ) (bytes rest after : Text) (items : List Datum) (v : Datum) → Led room bytes items rest → Item room rest v after
+    → (bytes ≡ data_text (of_list (items ++ v ∷ [])) ++ after) × IsTrue (all_nest room (of_list (items ++ v ∷ [])))
+item_told room bytes rest after items v led told = (led.told ∙ ap (behind items) told.0 ∙ one_more items v after, nest_then room items v led.nest told.1)
+
+behind_some : (items : List Datum) (v : Datum) (rest : Text) → behind (items ++ v ∷ []) rest ≡ data_text (of_list (items ++ v ∷ [])) ++ 44 ∷ 32 ∷ rest
+behind_some [] v rest = refl
+behind_some (x ∷ xs) v rest = refl
+
+space_there : (t more : Text) (b : Bool) → space t ≡ Some (b, more) → (b ≡ false) × (t ≡ 32 ∷ more)
+space_there [] more b e = cc
+space_there (c ∷ t) more b e = go (c == 32) refl e
+  where
+    go : (d : Bool) → (c == 32) ≡ d → ◌≡◌ {A = Option (Bool × List ℕ)} (if d then Some (false, t) else None) (Some (b, more)) → (b ≡ false) × (c ∷ t ≡ 32 ∷ more)
+    go true h k = (sym (first_same false b t more k), (λ i. is_it c 32 h i ∷ second_same false b t more k i))
+    go false h k = cc
+
+after_mark : Bool → Text → Text
+after_mark true more = 125 ∷ more
+after_mark false more = 44 ∷ 32 ∷ more
+
+mark_is : (after more : Text) (b : Bool) → mark after ≡ Some (b, more) → after ≡ after_mark b more
+unfolding after_mark
+mark_is [] more b e = cc
+mark_is (c ∷ t) more b e = go (c == 125) (c == 44) refl refl e
+  where
+    go : (q d : Bool) → (c == 125) ≡ q → (c == 44) ≡ d → ◌≡◌ {A = Option (Bool × List ℕ)} (if q then Some (true, t) else (if d then space t else None)) (Some (b, more)) → c ∷ t ≡ after_mark b more
+    go true d h k m = ap (λ x. x ∷ t) (is_it c 125 h) ∙ (λ i. after_mark (first_same true b t more m i) (second_same true b t more m i))
+    go false true h k m =
+        let s = space_there t more b m in
+        ap (λ x. x ∷ t) (is_it c 44 k) ∙ ap (λ u. 44 ∷ u) s.1 ∙ ap (λ x. after_mark x more) (sym s.0)
+    go false false h k m = cc
+
+pub closing_mark : (after more : Text) → mark after ≡ Some (true, more) → after ≡ 125 ∷ more
+unfolding after_mark
+closing_mark after more e = mark_is after more true e
+
+pub comma_mark : (after more : Text) → mark after ≡ Some (false, more) → after ≡ 44 ∷ 32 ∷ more
+unfolding after_mark
+comma_mark after more e = mark_is after more false e
+
+pub led_begun : (room : ℕ) (bytes : Text) (items : List Datum) → items ≡ [] → Led room bytes items bytes
+led_begun room bytes items e = record { told = ap (λ xs. behind xs bytes) (sym e); nest = ap (λ xs. all_nest room (of_list xs)) e }
+
+pub led_on : (room : ℕ) (bytes rest after more : Text) (items all : List Datum) (v : Datum) → Led room bytes items rest → Item room rest v after → after ≡ 44 ∷ 32 ∷ more → all ≡ items ++ v ∷ [] → Led room bytes all more
+led_on room bytes rest after more items all v led told comma pushed =
+    let t = item_told room bytes rest after items v led told in
+    subst (λ xs. Led room bytes xs more) (sym pushed) (record { told = t.0 ∙ ap (λ u. data_text (of_list (items ++ v ∷ [])) ++ u) comma ∙ sym (behind_some items v more); nest = t.1 })
+
+pub led_ends : (room : ℕ) (bytes rest after more : Text) (items all : List Datum) (v : Datum) → Led room bytes items rest → Item room rest v after → after ≡ 125 ∷ more → all ≡ items ++ v ∷ []
+    → (bytes ≡ data_text (of_list all) ++ 125 ∷ more) × IsTrue (all_nest room (of_list all))
+led_ends room bytes rest after more items all v led told brace pushed =
+    let t = item_told room bytes rest after items v led told in
+    subst (λ xs. (bytes ≡ data_text (of_list xs) ++ 125 ∷ more) × IsTrue (all_nest room (of_list xs))) (sym pushed) (t.0 ∙ ap (λ u. data_text (of_list (items ++ v ∷ [])) ++ u) brace, t.1)
+
+-- ---- values
+
+pub list_told : (room c : ℕ) (bytes rest after : Text) (items : List Datum) → bytes ≡ c ∷ rest → c ≡ 123 → (room == 0) ≡ false
+    → (rest ≡ data_text (of_list items) ++ 125 ∷ after) × IsTrue (all_nest (room - 1) (of_list items)) → Item room bytes (list (of_list items)) after
+list_told room c bytes rest after items e k some told =
+    (e ∙ (λ i. k i ∷ told.0 i) ∙ ap (λ t. 123 ∷ t) (sym (append_assoc (data_text (of_list items)) (125 ∷ []) after)), nests_list room (of_list items) some told.1)
+
+no_list : (room : ℕ) (v : Datum) → IsTrue (nests room v) → IsTrue (nests room v)
+no_list room v h = h
+
+pub text_told : (room c : ℕ) (bytes rest after t : Text) → bytes ≡ c ∷ rest → c ≡ 34 → rest ≡ escaped t ++ 34 ∷ after → Item room bytes (text t) after
+text_told room c bytes rest after t e k told = (e ∙ (λ i. k i ∷ told i) ∙ ap (λ u. 34 ∷ u) (sym (append_assoc (escaped t) (34 ∷ []) after)), deep room)
+  where
+    deep : (n : ℕ) → IsTrue (nests n (text t))
+    deep zero = refl
+    deep (suc n) = refl
+
+pub object_told : (room c : ℕ) (bytes rest after : Text) (z : ℤ) → bytes ≡ c ∷ rest → c ≡ 35 → rest ≡ signed_decimal z ++ after → Item room bytes (object z) after
+object_told room c bytes rest after z e k told = (e ∙ (λ i. k i ∷ told i), deep room)
+  where
+    deep : (n : ℕ) → IsTrue (nests n (object z))
+    deep zero = refl
+    deep (suc n) = refl
+
+pub error_told : (room : ℕ) (bytes after : Text) (x : ErrorCode) → bytes ≡ error_name x ++ after → Item room bytes (error x) after
+error_told room bytes after x told = (told, deep room)
+  where
+    deep : (n : ℕ) → IsTrue (nests n (error x))
+    deep zero = refl
+    deep (suc n) = refl
+
+pub integer_told : (room : ℕ) (bytes after : Text) (z : ℤ) → bytes ≡ signed_decimal z ++ after → Item room bytes (integer z) after
+integer_told room bytes after z told = (told, deep room)
+  where
+    deep : (n : ℕ) → IsTrue (nests n (integer z))
+    deep zero = refl
+    deep (suc n) = refl

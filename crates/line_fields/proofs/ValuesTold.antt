@@ -11,7 +11,8 @@ use Rattle.spec_value.proofs.Entries.{first_holds, second_holds, both_hold}
 use Rattle.spec_faults.specs.Plain.{integer_of}
 use Rattle.spec_faults.specs.Literals.{nests, all_nest}
 use Rattle.spec_faults.proofs.Spelling.{integers_spelled}
-use Rattle.moo_value.specs.Read.{after_name, mark, space}
+use Rattle.moo_value.specs.Read.{Found, after_name, mark, space}
+use Rattle.line_fields.specs.Said.{TellsText}
 use Rattle.moo_value.proofs.EscapedTexts.{first_same, second_same}
 use Rattle.line_fields.specs.Quoted.{is_ordinary, ordinary_run, quote_mark, behind_backslash}
 
@@ -60,7 +61,7 @@ rest_same : (o p : Option ℕ) (x y : Text) → ◌≡◌ {A = Option (Option �
 rest_same o p x y e = (first_same o p x y e, second_same o p x y e)
 
 -- a quote, or what an escaped character is spelled with
-abbrev marked : Option ℕ → Text → Text
+abbrev pub marked : Option ℕ → Text → Text
 marked None rest = 34 ∷ rest
 marked (Some c) rest = escape c ++ rest
 
@@ -226,3 +227,9 @@ integer_told room bytes after z told = (told, deep room)
     deep : (n : ℕ) → IsTrue (nests n (integer z))
     deep zero = refl
     deep (suc n) = refl
+
+-- ---- texts that were closed
+
+pub closed_told : (bytes characters rest : Text) (o : Found Text) → IfSome o (λ p. (p.0 ≡ characters) × (p.1.now ≡ rest)) → bytes ≡ escaped characters ++ 34 ∷ rest → TellsText bytes o
+closed_told bytes characters rest None h e = h
+closed_told bytes characters rest (Some p) h e = e ∙ (λ i. escaped (sym h.0 i) ++ 34 ∷ sym h.1 i)

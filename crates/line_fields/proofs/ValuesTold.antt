@@ -1,5 +1,5 @@
 -- What is read at the front of some bytes stands there.
-use Rattle.std.proofs.Common.{◌≡◌, ℕ, zero, suc, ◌+◌, ◌-◌, ◌==◌, ◌&&◌, ◌||◌, not, Bool, true, false, if◌then◌else◌, List, [], ◌∷◌, ◌++◌, take, drop, Option, Some, None, IsTrue, refl, ap, sym, subst, ◌∙◌, arith, append_assoc, eqb-true}
+use Rattle.std.proofs.Common.{◌≡◌, ℕ, zero, suc, ◌+◌, ◌-◌, ◌<◌, ◌==◌, ◌&&◌, ◌||◌, not, Bool, true, false, if◌then◌else◌, List, [], ◌∷◌, ◌++◌, take, drop, Option, Some, None, IsTrue, refl, ap, sym, subst, ◌∙◌, arith, append_assoc, eqb-true}
 use Rattle.std.specs.Prelude.{ℤ, IfSome, option_map}
 use Rattle.std.proofs.lemmas.Bool.Decides.{nat_tests}
 use Rattle.std.proofs.lemmas.List.{append-nil, take-append-drop}
@@ -106,8 +106,8 @@ character_further bytes found behind c e =
 
 -- ---- lists
 
-nests_list : (room : ℕ) (xs : Data) → (room == 0) ≡ false → IsTrue (all_nest (room - 1) xs) → IsTrue (nests room (list xs))
-nests_list zero xs h k = cc
+nests_list : (room : ℕ) (xs : Data) → 0 < room → IsTrue (all_nest (room - 1) xs) → IsTrue (nests room (list xs))
+nests_list zero xs h k = absurd (omega (arith, h))
 nests_list (suc n) xs h k = let same : suc n - 1 ≡ n = omega arith in subst (λ m. IsTrue (all_nest m xs)) same k
 
 pub more_then : (xs : List Datum) (v : Datum) → more_text (of_list (xs ++ v ∷ [])) ≡ more_text (of_list xs) ++ 44 ∷ 32 ∷ literal v
@@ -192,13 +192,14 @@ led_ends room bytes rest after more items all v led told brace pushed =
 
 -- ---- values
 
-pub list_told : (room c : ℕ) (bytes rest after : Text) (items : List Datum) → bytes ≡ c ∷ rest → c ≡ 123 → (room == 0) ≡ false
+pub list_told : (room c : ℕ) (bytes rest after : Text) (items : List Datum) → bytes ≡ c ∷ rest → c ≡ 123 → 0 < room
     → (rest ≡ data_text (of_list items) ++ 125 ∷ after) × IsTrue (all_nest (room - 1) (of_list items)) → Item room bytes (list (of_list items)) after
 list_told room c bytes rest after items e k some told =
     (e ∙ (λ i. k i ∷ told.0 i) ∙ ap (λ t. 123 ∷ t) (sym (append_assoc (data_text (of_list items)) (125 ∷ []) after)), nests_list room (of_list items) some told.1)
 
-no_list : (room : ℕ) (v : Datum) → IsTrue (nests room v) → IsTrue (nests room v)
-no_list room v h = h
+pub none_told : (room c : ℕ) (bytes rest : Text) (items : List Datum) → bytes ≡ c ∷ rest → c ≡ 125 → items ≡ [] → (bytes ≡ data_text (of_list items) ++ 125 ∷ rest) × IsTrue (all_nest room (of_list items))
+none_told room c bytes rest items e k none =
+    subst (λ xs. (bytes ≡ data_text (of_list xs) ++ 125 ∷ rest) × IsTrue (all_nest room (of_list xs))) (sym none) (e ∙ ap (λ d. d ∷ rest) k, refl)
 
 pub text_told : (room c : ℕ) (bytes rest after t : Text) → bytes ≡ c ∷ rest → c ≡ 34 → rest ≡ escaped t ++ 34 ∷ after → Item room bytes (text t) after
 text_told room c bytes rest after t e k told = (e ∙ (λ i. k i ∷ told i) ∙ ap (λ u. 34 ∷ u) (sym (append_assoc (escaped t) (34 ∷ []) after)), deep room)

@@ -1,18 +1,22 @@
 -- What is read at the front of some bytes stands there.
-use Rattle.std.proofs.Common.{◌≡◌, ℕ, zero, suc, ◌+◌, ◌-◌, ◌<◌, ◌==◌, ◌&&◌, ◌||◌, not, Bool, true, false, if◌then◌else◌, List, [], ◌∷◌, ◌++◌, take, drop, Option, Some, None, IsTrue, refl, ap, sym, subst, ◌∙◌, arith, append_assoc, eqb-true}
+use Rattle.std.proofs.Common.{◌≡◌, ℕ, zero, suc, ◌+◌, ◌-◌, ◌<◌, ◌≤◌, length, ◌==◌, ◌&&◌, ◌||◌, not, Bool, true, false, if◌then◌else◌, List, [], ◌∷◌, ◌++◌, take, drop, Option, Some, None, IsTrue, refl, ap, sym, subst, ◌∙◌, arith, append_assoc, eqb-true}
 use Rattle.std.specs.Prelude.{ℤ, IfSome, option_map}
 use Rattle.std.proofs.lemmas.Bool.Decides.{nat_tests}
 use Rattle.std.proofs.lemmas.List.{append-nil, take-append-drop}
 use Rattle.std.specs.List.{list_all}
 use Rattle.std.specs.Fmt.{signed_decimal}
-use Rattle.spec_value.specs.Datum.{Text, in_number_range, Datum, integer, object, text, error, list, ErrorCode, Data, no_data, item, of_list}
+use Rattle.spec_value.specs.Datum.{Text, in_number_range, Datum, integer, object, text, error, list, ErrorCode, Data, no_data, item, of_list, is_value}
 use Rattle.spec_value.specs.Literal.{error_name, escape, escaped, literal, data_text, more_text}
 use Rattle.spec_value.proofs.Entries.{first_holds, second_holds, both_hold}
 use Rattle.spec_faults.specs.Plain.{integer_of}
-use Rattle.spec_faults.specs.Literals.{nests, all_nest}
-use Rattle.spec_faults.proofs.Spelling.{integers_spelled}
-use Rattle.moo_value.specs.Read.{Found, after_name, mark, space}
-use Rattle.line_fields.specs.Said.{TellsText}
+use Rattle.spec_faults.specs.Literals.{nests, all_nest, value_of}
+use Rattle.spec_faults.proofs.Spelling.{integers_spelled, values_spelled}
+use Rattle.spec_faults.proofs.LiteralsBack.{values_told}
+use Rattle.line_fields.proofs.LettersSet.{empty_is}
+use Rattle.moo_value.specs.Read.{Found, FindsValue, after_name, mark, space}
+use Rattle.moo_value.specs.Depth.{depth, data_depth}
+use Rattle.std.specs.Borrow.{Bor}
+use Rattle.line_fields.specs.Said.{TellsText, TellsValue}
 use Rattle.moo_value.proofs.EscapedTexts.{first_same, second_same}
 use Rattle.line_fields.specs.Quoted.{is_ordinary, ordinary_run, quote_mark, behind_backslash}
 
@@ -234,3 +238,45 @@ integer_told room bytes after z told = (told, deep room)
 pub closed_told : (bytes characters rest : Text) (o : Found Text) → IfSome o (λ p. (p.0 ≡ characters) × (p.1.now ≡ rest)) → bytes ≡ escaped characters ++ 34 ∷ rest → TellsText bytes o
 closed_told bytes characters rest None h e = h
 closed_told bytes characters rest (Some p) h e = e ∙ (λ i. escaped (sym h.0 i) ++ 34 ∷ sym h.1 i)
+
+-- ---- whole literals
+
+mutual
+  depth_of : (v : Datum) (n : ℕ) → IsTrue (nests n v) → depth v ≤ n
+  depth_of (integer z) n h = omega arith
+  depth_of (object z) n h = omega arith
+  depth_of (text t) n h = omega arith
+  depth_of (error x) n h = omega arith
+  depth_of (list xs) zero h = cc
+  depth_of (list xs) (suc n) h = let d = data_depth_of xs n h in omega (arith, d)
+
+  data_depth_of : (xs : Data) (n : ℕ) → IsTrue (all_nest n xs) → data_depth xs ≤ n
+  data_depth_of no_data n h = omega arith
+  data_depth_of (item x xs) n h =
+      let a = depth_of x n (first_holds (nests n x) (all_nest n xs) h) in
+      let b = data_depth_of xs n (second_holds (nests n x) (all_nest n xs) h) in
+      omega (arith, a, b)
+
+pub no_value : (t : Text) → ((v : Datum) → IsTrue (is_value v) → depth v ≤ 100000 → t ≡ literal v → ⊥) → value_of t ≡ None
+no_value t h = go (value_of t) refl
+  where
+    go : (o : Option Datum) → value_of t ≡ o → value_of t ≡ None
+    go None e = e
+    go (Some v) e = let l = values_spelled t v e in absurd (h v l.range (depth_of v 100000 l.depth) (sym l.spelled))
+
+-- nothing found, and no value
+pub no_value_found : (t : Text) → FindsValue 100000 t None → value_of t ≡ None
+no_value_found t f = no_value t (λ v h d e. let clash = f v [] h d refl (e ∙ sym (append-nil (literal v))) in cc)
+
+pub more_found : (t : Text) (v : Datum) (rest : Bor (List ℕ)) (b : Bool) → FindsValue 100000 t (Some (v, rest)) → b ≡ (length rest.now == 0) → b ≡ false → value_of t ≡ None
+more_found t v rest b f e k =
+    no_value t (λ u h d is. let found : ◌≡◌ {A = Option (Datum × List ℕ)} (Some (v, rest.now)) (Some (u, [])) = f u [] h d refl (is ∙ sym (append-nil (literal u))) in not_empty (second_same v u rest.now [] found))
+  where
+    not_empty : rest.now ≡ [] → ⊥
+    not_empty n = let z : (length rest.now == 0) ≡ true = ap (λ (x : List ℕ). length x == 0) n in cc
+
+pub whole_found : (t : Text) (v : Datum) (rest : Bor (List ℕ)) (b : Bool) → TellsValue 100000 t (Some (v, rest)) → b ≡ (length rest.now == 0) → b ≡ true → IsTrue (is_value v) → Some v ≡ value_of t
+whole_found t v rest b told e k range =
+    let none : rest.now ≡ [] = empty_is rest.now b e k in
+    let whole : t ≡ literal v = told.0 ∙ ap (λ u. literal v ++ u) none ∙ append-nil (literal v) in
+    sym (ap value_of whole ∙ values_told v range told.1)

@@ -2,7 +2,7 @@
 use Rattle.std.specs.Prelude.{◌≡◌, ℕ, ℤ, Bool, true, false, List, ◌∷◌, ◌++◌, Option, Some, None, IsTrue, IfSome}
 use Rattle.std.specs.Fmt.{signed_decimal}
 use Rattle.std.specs.List.{list_all}
-use Rattle.spec_value.specs.Datum.{Text, in_number_range, ErrorCode, Datum, of_list}
+use Rattle.spec_value.specs.Datum.{Text, in_number_range, ErrorCode, Datum, text, of_list}
 use Rattle.spec_value.specs.Literal.{error_name, escaped, literal, data_text}
 use Rattle.spec_faults.specs.Plain.{is_number}
 use Rattle.spec_faults.specs.Literals.{nests, all_nest}
@@ -38,3 +38,8 @@ TellsValue room bytes o = IfSome o (λ p. (bytes ≡ literal p.0 ++ p.1.now) × 
 -- behind the opening brace
 abbrev pub TellsItems : ℕ → List ℕ → Found (List Datum) → Type 0
 TellsItems room bytes o = IfSome o (λ p. (bytes ≡ data_text (of_list p.0) ++ 125 ∷ p.1.now) × IsTrue (all_nest room (of_list p.0)))
+
+-- the text that a literal is one of
+abbrev pub string_in : Option Datum → Option Text
+string_in (Some (text t)) = Some t
+string_in _ = None

@@ -4,6 +4,8 @@ ghost use Rattle.spec_value.specs.Datum as datum;
 ghost use Rattle.spec_value.specs.Datum.{Datum, is_text};
 ghost use Rattle.spec_value.specs.Literal as text_of;
 ghost use Rattle.spec_world.specs.Checkpoint.{object_list, text_list};
+ghost use Rattle.spec_faults.specs.Literals.{value_of};
+ghost use Rattle.line_fields.specs.Said.{string_in};
 ghost use Rattle.line_fields.specs.Values.{is_readable};
 
 use crate::quoted::front_text;
@@ -16,11 +18,13 @@ use std::alloc::{AllocError, Global};
 /// The value whose literal the text is.
 pub fn literal(alloc: Global, text: &[u8]) -> Result<Option<Value>, AllocError>
     ensures reads { (v : Datum) → IsTrue (is_readable v) → text.now ≡ text_of.literal v → IfOk result (λ o. o ≡ Some v) }
+    ensures fault { IfOk result (λ o. o ≡ value_of text.now) }
 {
     let Some((value, rest)) = front_value(alloc, text, NESTING_LIMIT)? else {
         return Ok(None);
     };
     if rest.is_empty() {
+        value.know();
         Ok(Some(value))
     } else {
         Ok(None)
@@ -30,6 +34,7 @@ pub fn literal(alloc: Global, text: &[u8]) -> Result<Option<Value>, AllocError>
 /// The text whose literal this is.
 pub fn text_literal(alloc: Global, text: &[u8]) -> Result<Option<Text>, AllocError>
     ensures reads { (t : datum.Text) → IsTrue (is_text t) → text.now ≡ text_of.literal (datum.text t) → IfOk result (λ o. o ≡ Some t) }
+    ensures fault { IfOk result (λ o. o ≡ string_in (value_of text.now)) }
 {
     let [b'"', behind @ ..] = text else {
         return Ok(None);

@@ -36,9 +36,13 @@ pub no_slot_bits : (t : Text) → ((s : Slot) → t ≡ slot_bits s → ⊥) →
 no_slot_bits t h =
     none_of (map or_dash (some_of (codes "rwc"))) t (
       h (slot_with true true true),
-      (h (slot_with true true false),
-      (h (slot_with true false true),
-      (h (slot_with true false false), (h (slot_with false true true), (h (slot_with false true false), (h (slot_with false false true), (h (slot_with false false false), tt))))))),
+      (
+        h (slot_with true true false),
+        (
+          h (slot_with true false true),
+          (h (slot_with true false false), (h (slot_with false true true), (h (slot_with false true false), (h (slot_with false false true), (h (slot_with false false false), tt))))),
+        ),
+      ),
     )
 
 pub some_slot_bits : (t l r w e : Text) (a b d : Bool) → t ≡ or_dash l → l ≡ letter_if (codes "r") a ++ r → r ≡ letter_if (codes "w") b ++ w → w ≡ letter_if (codes "c") d ++ e → e ≡ [] → are_bits (codes "rwc") t ≡ true
@@ -68,18 +72,40 @@ pub no_verb_bits : (t : Text) → ((v : Verb) → t ≡ verb_bits v → ⊥) →
 no_verb_bits t h =
     none_of (map or_dash (some_of (codes "rwxd"))) t (
       h (verb_with true true true true),
-      (h (verb_with true true true false),
-      (h (verb_with true true false true),
-      (h (verb_with true true false false),
-      (h (verb_with true false true true),
-      (h (verb_with true false true false),
-      (h (verb_with true false false true),
-      (h (verb_with true false false false),
-      (h (verb_with false true true true),
-      (h (verb_with false true true false),
-      (h (verb_with false true false true),
-      (h (verb_with false true false false),
-      (h (verb_with false false true true), (h (verb_with false false true false), (h (verb_with false false false true), (h (verb_with false false false false), tt))))))))))))))),
+      (
+        h (verb_with true true true false),
+        (
+          h (verb_with true true false true),
+          (
+            h (verb_with true true false false),
+            (
+              h (verb_with true false true true),
+              (
+                h (verb_with true false true false),
+                (
+                  h (verb_with true false false true),
+                  (
+                    h (verb_with true false false false),
+                    (
+                      h (verb_with false true true true),
+                      (
+                        h (verb_with false true true false),
+                        (
+                          h (verb_with false true false true),
+                          (
+                            h (verb_with false true false false),
+                            (h (verb_with false false true true), (h (verb_with false false true false), (h (verb_with false false false true), (h (verb_with false false false false), tt)))),
+                          ),
+                        ),
+                      ),
+                    ),
+                  ),
+                ),
+              ),
+            ),
+          ),
+        ),
+      ),
     )
 
 pub some_verb_bits : (t l r w x e : Text) (a b c d : Bool) → t ≡ or_dash l → l ≡ letter_if (codes "r") a ++ r → r ≡ letter_if (codes "w") b ++ w → w ≡ letter_if (codes "x") c ++ x

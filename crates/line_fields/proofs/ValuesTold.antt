@@ -5,7 +5,7 @@ use Rattle.std.proofs.lemmas.Bool.Decides.{nat_tests}
 use Rattle.std.proofs.lemmas.List.{append-nil, take-append-drop}
 use Rattle.std.specs.List.{list_all}
 use Rattle.std.specs.Fmt.{signed_decimal}
-use Rattle.spec_value.specs.Datum.{Text, in_number_range, Datum, integer, object, text, error, list, ErrorCode, Data, no_data, item, of_list, is_value}
+use Rattle.spec_value.specs.Datum.{Text, is_text, in_number_range, Datum, integer, object, text, error, list, ErrorCode, Data, no_data, item, of_list, is_value}
 use Rattle.spec_value.specs.Literal.{error_name, escape, escaped, literal, data_text, more_text}
 use Rattle.spec_value.proofs.Entries.{first_holds, second_holds, both_hold}
 use Rattle.spec_faults.specs.Plain.{integer_of}
@@ -13,10 +13,10 @@ use Rattle.spec_faults.specs.Literals.{nests, all_nest, value_of}
 use Rattle.spec_faults.proofs.Spelling.{integers_spelled, values_spelled}
 use Rattle.spec_faults.proofs.LiteralsBack.{values_told}
 use Rattle.line_fields.proofs.LettersSet.{empty_is}
-use Rattle.moo_value.specs.Read.{Found, FindsValue, after_name, mark, space}
+use Rattle.moo_value.specs.Read.{Found, FindsText, FindsValue, after_name, mark, space}
 use Rattle.moo_value.specs.Depth.{depth, data_depth}
 use Rattle.std.specs.Borrow.{Bor}
-use Rattle.line_fields.specs.Said.{TellsText, TellsValue}
+use Rattle.line_fields.specs.Said.{TellsText, TellsValue, string_in}
 use Rattle.moo_value.proofs.EscapedTexts.{first_same, second_same}
 use Rattle.line_fields.specs.Quoted.{is_ordinary, ordinary_run, quote_mark, behind_backslash}
 
@@ -280,3 +280,46 @@ whole_found t v rest b told e k range =
     let none : rest.now ≡ [] = empty_is rest.now b e k in
     let whole : t ≡ literal v = told.0 ∙ ap (λ u. literal v ++ u) none ∙ append-nil (literal v) in
     sym (ap value_of whole ∙ values_told v range told.1)
+
+-- ---- texts alone
+
+string_some : (t : Text) (s : Text) → string_in (value_of t) ≡ Some s → t ≡ literal (text s) × IsTrue (is_text s)
+string_some t s e = go (value_of t) refl e
+  where
+    go : (o : Option Datum) → value_of t ≡ o → string_in o ≡ Some s → t ≡ literal (text s) × IsTrue (is_text s)
+    go None k d = cc
+    go (Some (text u)) k d = let l = values_spelled t (text u) k in let same : u ≡ s = cc in (sym l.spelled ∙ ap (λ x. literal (text x)) same, subst (λ x. IsTrue (is_text x)) same l.range)
+    go (Some (integer z)) k d = cc
+    go (Some (object z)) k d = cc
+    go (Some (error x)) k d = cc
+    go (Some (list xs)) k d = cc
+
+pub no_string : (t : Text) → ((s : Text) → IsTrue (is_text s) → t ≡ literal (text s) → ⊥) → None ≡ string_in (value_of t)
+no_string t h = go (string_in (value_of t)) refl
+  where
+    go : (o : Option Text) → string_in (value_of t) ≡ o → None ≡ string_in (value_of t)
+    go None e = sym e
+    go (Some s) e = let l = string_some t s e in absurd (h s l.1 l.0)
+
+pub a_string : (t s : Text) → IsTrue (is_text s) → t ≡ literal (text s) → Some s ≡ string_in (value_of t)
+a_string t s h e = sym (ap (λ u. string_in (value_of u)) e ∙ ap string_in (values_told (text s) h refl))
+
+behind_same : (a b : ℕ) (t u : Text) → a ∷ t ≡ b ∷ u → t ≡ u
+behind_same a b t u e = cc
+
+-- behind a quote no text was found, or more than one
+pub no_text_found : (t behind : Text) → t ≡ 34 ∷ behind → FindsText behind None → None ≡ string_in (value_of t)
+no_text_found t behind e f = no_string t (λ s h is. let clash = f s [] h (behind_same 34 34 behind (escaped s ++ 34 ∷ []) (sym e ∙ is)) in cc)
+
+pub more_behind : (t behind s : Text) (rest : Bor (List ℕ)) (b : Bool) → t ≡ 34 ∷ behind → FindsText behind (Some (s, rest)) → b ≡ (length rest.now == 0) → b ≡ false → None ≡ string_in (value_of t)
+more_behind t behind s rest b e f d k =
+    no_string t (λ u h is. let found : ◌≡◌ {A = Option (List ℕ × List ℕ)} (Some (s, rest.now)) (Some (u, [])) = f u [] h (behind_same 34 34 behind (escaped u ++ 34 ∷ []) (sym e ∙ is)) in not_empty (second_same s u rest.now [] found))
+  where
+    not_empty : rest.now ≡ [] → ⊥
+    not_empty n = let z : (length rest.now == 0) ≡ true = ap (λ (x : List ℕ). length x == 0) n in cc
+
+pub whole_text : (t behind s : Text) (rest : Bor (List ℕ)) (b : Bool) → t ≡ 34 ∷ behind → TellsText behind (Some (s, rest)) → b ≡ (length rest.now == 0) → b ≡ true → IsTrue (is_text s) → Some s ≡ string_in (value_of t)
+whole_text t behind s rest b e told d k h = a_string t s h (e ∙ ap (λ u. 34 ∷ u) (told ∙ ap (λ u. escaped s ++ 34 ∷ u) (empty_is rest.now b d k)))
+
+pub no_quote : (t : Text) → ((u : Text) → t ≡ 34 ∷ u → ⊥) → None ≡ string_in (value_of t)
+no_quote t h = no_string t (λ s k e. h (escaped s ++ 34 ∷ []) e)

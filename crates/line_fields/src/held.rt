@@ -1,5 +1,5 @@
 //! Values as fields write them, and what is made of those of one kind.
-ghost use Rattle.std.specs.Prelude.{◌≡◌, ℤ, List, Some, IsTrue, IfOk, MatchOption};
+ghost use Rattle.std.specs.Prelude.{◌≡◌, ℤ, List, ◌∷◌, Some, IsTrue, IfOk, MatchOption};
 ghost use Rattle.spec_value.specs.Datum as datum;
 ghost use Rattle.spec_value.specs.Datum.{Datum, is_text};
 ghost use Rattle.spec_value.specs.Literal as text_of;
@@ -36,16 +36,27 @@ pub fn text_literal(alloc: Global, text: &[u8]) -> Result<Option<Text>, AllocErr
     ensures reads { (t : datum.Text) → IsTrue (is_text t) → text.now ≡ text_of.literal (datum.text t) → IfOk result (λ o. o ≡ Some t) }
     ensures fault { IfOk result (λ o. o ≡ string_in (value_of text.now)) }
 {
-    let [b'"', behind @ ..] = text else {
+    let Some(behind) = behind_quote(text) else {
         return Ok(None);
     };
     let Some((found, rest)) = front_text(alloc, behind)? else {
         return Ok(None);
     };
     if rest.is_empty() {
+        found.know();
         Ok(Some(found))
     } else {
         Ok(None)
+    }
+}
+
+// What stands behind the quote that a text begins with.
+fn behind_quote(text: &[u8]) -> Option<&[u8]>
+    ensures { MatchOption result ((t : datum.Text) → text.now ≡ 34 ∷ t → ⊥) (λ behind. text.now ≡ 34 ∷ behind.now) }
+{
+    match text {
+        [b'"', behind @ ..] => Some(behind),
+        _ => None,
     }
 }
 

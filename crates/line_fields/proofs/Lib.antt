@@ -15,3 +15,4 @@ pub mod LettersSet
 pub mod FieldEnds
 pub mod DotsSaid
 pub mod ValuesTold
+pub mod KindsTold

@@ -1,10 +1,10 @@
 //! Values as fields write them, and what is made of those of one kind.
-ghost use Rattle.std.specs.Prelude.{◌≡◌, ℤ, List, ◌∷◌, Some, IsTrue, IfOk, MatchOption};
+ghost use Rattle.std.specs.Prelude.{◌≡◌, ℤ, List, ◌∷◌, Some, IsTrue, IfOk, MatchOption, is_some};
 ghost use Rattle.spec_value.specs.Datum as datum;
 ghost use Rattle.spec_value.specs.Datum.{Datum, is_text};
 ghost use Rattle.spec_value.specs.Literal as text_of;
 ghost use Rattle.spec_world.specs.Checkpoint.{object_list, text_list};
-ghost use Rattle.spec_faults.specs.Literals.{value_of};
+ghost use Rattle.spec_faults.specs.Literals.{value_of, is_string, is_object_value, is_list_of};
 ghost use Rattle.line_fields.specs.Said.{string_in};
 ghost use Rattle.line_fields.specs.Values.{is_readable};
 
@@ -94,6 +94,7 @@ pub fn items_in(value: &Value) -> Option<&[Value]>
 /// The objects that a list holds, and nothing else.
 pub fn objects_in(alloc: Global, value: &Value) -> Result<Option<Vec<i32>>, AllocError>
     ensures reads { (os : List ℤ) → value.now ≡ datum.list (datum.of_list (object_list os)) → IfOk result (λ o. MatchOption o ⊥ (λ v. v.items ≡ os)) }
+    ensures fault { IfOk result (λ o. is_some o ≡ is_list_of is_object_value value.now) }
 {
     let Some(items) = items_in(value) else {
         return Ok(None);
@@ -112,6 +113,7 @@ pub fn objects_in(alloc: Global, value: &Value) -> Result<Option<Vec<i32>>, Allo
 /// The texts that a list holds, and nothing else.
 pub fn texts_in(alloc: Global, value: &Value) -> Result<Option<Vec<Text>>, AllocError>
     ensures reads { (ts : List datum.Text) → value.now ≡ datum.list (datum.of_list (text_list ts)) → IfOk result (λ o. MatchOption o ⊥ (λ v. v.items ≡ ts)) }
+    ensures fault { IfOk result (λ o. is_some o ≡ is_list_of is_string value.now) }
 {
     let Some(items) = items_in(value) else {
         return Ok(None);

@@ -1,5 +1,5 @@
 -- Where the first field of a line ends, and what the fields are.
-use Rattle.std.proofs.Common.{◌≡◌, ℕ, zero, suc, ◌+◌, ◌-◌, ◌<◌, ◌≤◌, ◌^◌, min, ◌==◌, ◌&&◌, ◌||◌, not, if◌then◌else◌, List, [], ◌∷◌, ◌++◌, map, length, take, drop, Option, Some, None, IsTrue, Bool, true, false, MatchOption, is_some, refl, ap, sym, subst, ◌∙◌, arith, append_assoc}
+use Rattle.std.proofs.Common.{◌≡◌, ℕ, zero, suc, ◌+◌, ◌-◌, ◌<◌, ◌≤◌, ◌^◌, min, ◌==◌, ◌&&◌, not, if◌then◌else◌, List, [], ◌∷◌, ◌++◌, length, take, drop, Option, Some, None, Bool, true, false, MatchOption, is_some, refl, ap, sym, subst, ◌∙◌, arith, append_assoc}
 use Rattle.std.proofs.lemmas.Bool.Decides.{nat_tests}
 use Rattle.spec_value.specs.Datum.{Text}
 use Rattle.spec_faults.specs.Cutting as spot
@@ -7,7 +7,7 @@ use Rattle.spec_faults.specs.Cutting.{Spot, among, quoted, onto_first, with_next
 use Rattle.spec_faults.proofs.FieldsBack.{fields_spelled}
 use Rattle.line_fields.specs.Cutting.{first_fields}
 use Rattle.line_fields.specs.declared.fields.Place.{Place}
-use Rattle.line_fields.specs.Places.{ends_field, behind, behind_mark, behind_character, lists_behind}
+use Rattle.line_fields.specs.Places.{ends_field, behind, behind_mark, behind_character}
 use Rattle.line_fields.proofs.Places.{at, end_from}
 
 -- ---- places and spots

@@ -1,8 +1,8 @@
 -- Lists whose items are all of one kind, or not.
-use Rattle.std.proofs.Common.{◌≡◌, ℕ, zero, suc, ◌<◌, ◌&&◌, Bool, true, false, List, [], ◌∷◌, length, get_or, IsTrue, refl, ap, sym, ◌∙◌, arith}
+use Rattle.std.proofs.Common.{◌≡◌, ℕ, zero, suc, ◌<◌, ◌&&◌, Bool, true, false, List, [], ◌∷◌, length, get_or, refl, ap, sym, ◌∙◌, arith}
 use Rattle.std.specs.Prelude.{ℤ}
 use Rattle.std.specs.List.{list_all}
-use Rattle.spec_value.specs.Datum.{Text, Datum, integer, object, text, error, list, Data, of_list, to_list}
+use Rattle.spec_value.specs.Datum.{Text, Datum, integer, object, text, error, list, Data, of_list}
 use Rattle.spec_world.specs.Checkpoint.{object_list, text_list}
 use Rattle.spec_checkpoint.proofs.Fields.{list_back}
 use Rattle.spec_faults.specs.Literals.{is_string, is_object_value, is_list_of}

@@ -1,6 +1,5 @@
 -- Which texts are letters of bits that are set.
-use Rattle.std.proofs.Common.{◌≡◌, ◌==◌, ◌||◌, pos, Bool, true, false, List, [], ◌∷◌, ◌++◌, length, Option, Some, None, IsTrue, refl, ap, sym, subst, ◌∙◌, codes, map, eqb-true, arith}
-use Rattle.std.specs.List.{list_any}
+use Rattle.std.proofs.Common.{◌≡◌, ◌==◌, ◌||◌, pos, Bool, true, false, List, [], ◌∷◌, ◌++◌, length, None, refl, ap, sym, ◌∙◌, codes, map, eqb-true, arith}
 use Rattle.std.proofs.lemmas.List.{append-nil}
 use Rattle.spec_value.specs.Datum.{Text, same_text}
 use Rattle.spec_value.proofs.Same.{same_texts}

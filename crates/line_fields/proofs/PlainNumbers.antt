@@ -1,5 +1,5 @@
 -- What a number that is read says, and what says none.
-use Rattle.std.proofs.Common.{◌≡◌, ℕ, zero, suc, ◌+◌, ◌-◌, ◌*◌, ◌<◌, ◌≤◌, ◌^◌, min, nat_le, nat_lt, ◌==◌, ◌&&◌, ℤ, pos, negsuc, neg_ℤ, ◌≤ℤ◌, int_le, Bool, true, false, if◌then◌else◌, List, [], ◌∷◌, length, get_or, drop, Option, Some, None, Result, Ok, Err, IsTrue, IfSome, refl, ap, sym, subst, ◌∙◌, cond, arith, leb-true, w32, nat_abs}
+use Rattle.std.proofs.Common.{◌≡◌, ℕ, zero, suc, ◌+◌, ◌-◌, ◌*◌, ◌<◌, ◌≤◌, ◌^◌, min, nat_le, ◌==◌, ◌&&◌, ℤ, pos, negsuc, neg_ℤ, int_le, Bool, true, false, if◌then◌else◌, [], ◌∷◌, length, get_or, Option, Some, None, Result, Ok, IsTrue, IfSome, refl, ap, sym, subst, ◌∙◌, arith, leb-true, w32}
 use Rattle.std.proofs.lemmas.Bool.{le-leb}
 use Rattle.std.proofs.lemmas.Bool.Decides.{nat_tests}
 use Rattle.std.proofs.lemmas.Int.{ints}
@@ -14,14 +14,10 @@ use Rattle.std.proofs.lemmas.Str.Parse.{IsNumeralModel, numerals_by_value, tells
 use Rattle.spec_value.specs.Datum.{Text, in_number_range}
 use Rattle.spec_value.proofs.Entries.{first_holds, second_holds, both_hold}
 use Rattle.spec_program.specs.Names.{is_digit}
-use Rattle.spec_world.specs.Checkpoint.{object_text}
 use Rattle.spec_checkpoint.proofs.Numbers.{are_digits, small}
-use Rattle.spec_faults.specs.Plain.{passes, number_of, integer_of, is_number, is_integer, is_object}
-use Rattle.spec_faults.specs.FieldLaws.{IsInteger}
+use Rattle.spec_faults.specs.Plain.{passes, number_of, integer_of, is_number, is_integer}
 use Rattle.spec_faults.proofs.Spelling.{numbers_told, numbers_spelled, integers_told, integers_spelled}
-use Rattle.line_fields.specs.Numbers.{is_over, leads, is_plain_number, is_signed, behind_sign, one_digit_more, magnitude_behind}
-use Rattle.line_fields.specs.Said.{Says}
-use Rattle.line_fields.proofs.Numbers.{plain_decimal}
+use Rattle.line_fields.specs.Numbers.{is_over, leads, is_plain_number, behind_sign, one_digit_more, magnitude_behind}
 
 -- ---- in a range or not
 

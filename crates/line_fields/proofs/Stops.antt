@@ -1,5 +1,5 @@
 -- Where a character stands first.
-use Rattle.std.proofs.Common.{◌≡◌, ℕ, zero, suc, ◌+◌, ◌<◌, ◌≤◌, take, drop, [], ◌∷◌, ◌++◌, length, get_or, false, ap, IsTrue, Bool, true, not, ◌==◌, nat_lt, cond, Option, Some, None, refl, sym, ◌∙◌, eq-eqb, eqb-true, ltb-true, leb-true, arith, length-append}
+use Rattle.std.proofs.Common.{◌≡◌, ℕ, zero, suc, ◌+◌, ◌<◌, ◌≤◌, take, drop, [], ◌∷◌, ◌++◌, length, get_or, false, ap, IsTrue, Bool, true, not, ◌==◌, nat_lt, cond, Option, Some, None, refl, sym, ◌∙◌, eq-eqb, eqb-true, ltb-true, arith, length-append}
 use Rattle.std.proofs.lemmas.Bool.Decides.{nat_tests}
 use Rattle.std.proofs.lemmas.List.Sums.{position_or_len_is}
 use Rattle.std.specs.List.{list_all, position, position_or_len}

@@ -1,4 +1,4 @@
-use Rattle.std.proofs.Common.{◌≡◌, ◌==◌, Some, None, ◌∷◌, ◌++◌, length, take, drop, ap, sym, ◌∙◌, ◌+◌}
+use Rattle.std.proofs.Common.{◌≡◌, ◌==◌, Some, None, ◌∷◌, ◌++◌, length, take, ap, sym, ◌∙◌, ◌+◌}
 use Rattle.std.proofs.lemmas.List.{take_rest}
 use Rattle.std.specs.List.{position}
 use Rattle.line_fields.proofs.Stops.{stop_found, no_stop, none_stops, some_stops}

@@ -6,7 +6,7 @@ use Rattle.spec_world.specs.Checkpoint.{object_list}
 use Rattle.moo_value.proofs.Numbers.{fits_number}
 use Rattle.line_fields.proofs.Lists.{items_same, objects_more, objects_same, object_there}
 use Rattle.spec_faults.specs.Literals.{is_object_value}
-use Rattle.line_fields.proofs.KindsTold.{no_list, not_all, no_object, objects_told}
+use Rattle.line_fields.proofs.KindsTold.{not_all, no_object, objects_told}
 use Rattle.line_fields.proofs.held.objects_in.Goals as goal
 
 pub returns-in-None : goal.returns-in-None

@@ -1,4 +1,4 @@
-use Rattle.line_fields.proofs.ValuesTold.{no_quote, no_text_found, more_behind, whole_text}
+use Rattle.line_fields.proofs.ValuesTold.{no_quote, whole_text}
 use Rattle.line_fields.proofs.held.text_literal.Goals as goal
 
 pub returns-in_default-clause-fault : goal.returns-in_default-clause-fault

@@ -3,7 +3,7 @@ use Rattle.std.proofs.Math.Seq.{take-suc, take-length}
 use Rattle.spec_world.specs.Checkpoint.{text_list}
 use Rattle.line_fields.proofs.Lists.{items_same, texts_more, texts_same, text_there}
 use Rattle.spec_faults.specs.Literals.{is_string}
-use Rattle.line_fields.proofs.KindsTold.{no_list, not_all, no_text, texts_told}
+use Rattle.line_fields.proofs.KindsTold.{not_all, no_text, texts_told}
 use Rattle.line_fields.proofs.held.texts_in.Goals as goal
 
 pub returns-in-None : goal.returns-in-None

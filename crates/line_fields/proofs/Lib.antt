@@ -10,3 +10,9 @@ pub mod Cuts
 pub mod Dots
 pub mod Readable
 pub mod Quotes
+pub mod PlainNumbers
+pub mod LettersSet
+pub mod FieldEnds
+pub mod DotsSaid
+pub mod ValuesTold
+pub mod KindsTold

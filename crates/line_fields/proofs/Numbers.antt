@@ -1,5 +1,5 @@
 -- Numbers are spelled without needless zeros.
-use Rattle.std.proofs.Common.{◌≡◌, ℕ, zero, suc, ◌+◌, ◌<◌, ◌/◌, ◌%◌, ◌^◌, pos, negsuc, ℤ, [], ◌∷◌, ◌++◌, sym, IsTrue, Bool, true, false, ◌==◌, ◌&&◌, if◌then◌else◌, refl, ap, subst, ◌∙◌, arith}
+use Rattle.std.proofs.Common.{◌≡◌, ℕ, zero, suc, ◌+◌, ◌<◌, ◌/◌, ◌%◌, ◌^◌, pos, negsuc, ℤ, [], ◌∷◌, ◌++◌, IsTrue, Bool, true, false, ◌==◌, ◌&&◌, if◌then◌else◌, refl, ap, subst, ◌∙◌, arith}
 use Rattle.std.proofs.lemmas.Bool.Decides.{nat_tests}
 use Rattle.std.specs.Fmt.{decimal, signed_decimal, digits}
 use Rattle.std.proofs.lemmas.Fmt.{decimal_by_steps}

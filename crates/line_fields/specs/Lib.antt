@@ -4,3 +4,5 @@ pub mod Values
 pub mod Places
 pub mod Numbers
 pub mod Quoted
+pub mod Said
+pub mod Cutting

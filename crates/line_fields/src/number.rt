@@ -1,12 +1,14 @@
 //! Numbers and objects as fields write them: no needless zeros, and a minus sign only before what is below zero.
-ghost use Rattle.std.specs.Prelude.{◌≡◌, ◌↔◌, ◌≤◌, ◌≤ℤ◌, ℕ, ℤ, pos, List, [], ◌∷◌, map, length, Some, IsTrue, IfOk, MatchOption};
+ghost use Rattle.std.specs.Prelude.{◌≡◌, ◌↔◌, ◌≤◌, ◌<◌, ◌^◌, ◌≤ℤ◌, ℕ, ℤ, pos, List, [], ◌∷◌, map, length, drop, Some, IsTrue, IfOk, IfSome, MatchOption, option_map};
 ghost use Rattle.std.specs.List.{list_all};
 ghost use Rattle.std.specs.Fmt.{decimal, signed_decimal};
 ghost use Rattle.spec_value.specs.Datum.{in_number_range};
 ghost use Rattle.spec_world.specs.Checkpoint as text_of;
 ghost use Rattle.moo_value.specs.Read.{digit_run, numeral_length, IsNoLonger, FindsNumber};
 ghost use Rattle.spec_program.specs.Names.{is_digit};
+ghost use Rattle.spec_faults.specs.Plain.{number_of, integer_of, is_number, is_integer, is_object, number_in, between_dots, is_path, path_in};
 ghost use Rattle.line_fields.specs.Values.{are_places};
+ghost use Rattle.line_fields.specs.Said.{Says, are_parts, TellsNumber};
 ghost use Rattle.line_fields.specs.Numbers.{is_plain_number, is_signed, behind_sign, magnitude_behind};
 
 use crate::cut::cut_at;
@@ -19,6 +21,7 @@ const GREATEST_PART: u64 = 9_223_372_036_854_775_807;
 /// The number that is spelled so, if it is at least the first and at most the second.
 pub fn natural(text: &[u8], least: u64, most: u64) -> Option<u64>
     ensures reads { (n : ℕ) → least ≤ n → n ≤ most → text.now ≡ decimal n → result ≡ Some n }
+    ensures fault { Says result (is_number least most text.now) (number_of text.now) }
 {
     if !is_plain(text) {
         return None;
@@ -35,6 +38,7 @@ pub fn natural(text: &[u8], least: u64, most: u64) -> Option<u64>
 /// The integer of 32 bits that is spelled so.
 pub fn integer(text: &[u8]) -> Option<i32>
     ensures reads { (z : ℤ) → IsTrue (in_number_range z) → text.now ≡ signed_decimal z → result ≡ Some z }
+    ensures fault { result ≡ integer_of text.now }
 {
     if has_sign(text) {
         signed(text)
@@ -54,6 +58,7 @@ fn has_sign(text: &[u8]) -> bool
 
 fn unsigned(text: &[u8]) -> Option<i32>
     ensures reads { (n : ℕ) → IsTrue (in_number_range (pos n)) → text.now ≡ decimal n → result ≡ Some (pos n) }
+    ensures tells { IfSome result (λ z. (text.now ≡ signed_decimal z) × IsTrue (in_number_range z)) }
 {
     if !is_plain(text) {
         return None;
@@ -62,7 +67,8 @@ fn unsigned(text: &[u8]) -> Option<i32>
 }
 
 fn positive(number: u64) -> Option<i32>
-    ensures { IsTrue (in_number_range (pos number)) → result ≡ Some (pos number) }
+    ensures reads { IsTrue (in_number_range (pos number)) → result ≡ Some (pos number) }
+    ensures tells { IfSome result (λ z. (z ≡ pos number) × (number < 2 ^ 31)) }
 {
     if number < 2_147_483_648 {
         Some(number as i32)
@@ -85,6 +91,7 @@ fn magnitude(digits: &[u8]) -> u64
 
 fn signed(text: &[u8]) -> Option<i32>
     ensures reads { (z : ℤ) → IsTrue (in_number_range z) → text.now ≡ signed_decimal z → result ≡ Some z }
+    ensures tells { IfSome result (λ z. (text.now ≡ signed_decimal z) × IsTrue (in_number_range z)) }
 {
     if !is_plain(digits_behind_sign(text)) {
         return None;
@@ -105,6 +112,7 @@ fn signed(text: &[u8]) -> Option<i32>
 pub fn front_integer(bytes: &[u8]) -> Option<(i32, &[u8])>
     ensures shorter { IsNoLonger bytes.now result }
     ensures finds { FindsNumber bytes.now result }
+    ensures tells { TellsNumber bytes.now result }
 {
     let (digits, rest) = bytes.split_at(numeral_end(bytes));
     match integer(digits) {
@@ -142,6 +150,7 @@ fn digits_end(bytes: &[u8]) -> usize
 /// The integer that is spelled so, if it is at least the first and at most the second.
 pub fn integer_between(text: &[u8], least: i32, most: i32) -> Option<i32>
     ensures reads { (z : ℤ) → IsTrue (in_number_range z) → least ≤ℤ z → z ≤ℤ most → text.now ≡ signed_decimal z → result ≡ Some z }
+    ensures fault { Says result (is_integer least most text.now) (integer_of text.now) }
 {
     match integer(text) {
         Some(number) if least <= number && number <= most => Some(number),
@@ -152,6 +161,7 @@ pub fn integer_between(text: &[u8], least: i32, most: i32) -> Option<i32>
 /// The object that is spelled so, `#` before its number.
 pub fn object(text: &[u8]) -> Option<i32>
     ensures reads { (z : ℤ) → IsTrue (in_number_range z) → text.now ≡ text_of.object_text z → result ≡ Some z }
+    ensures fault { Says result (is_object text.now) (integer_of (drop 1 text.now)) }
 {
     match text {
         [b'#', number @ ..] => integer(number),
@@ -162,6 +172,7 @@ pub fn object(text: &[u8]) -> Option<i32>
 /// The numbers from 1 on that are spelled so, with dots between them, or none where the text is 0.
 pub fn path(alloc: Global, text: &[u8]) -> Result<Option<Vec<usize>>, AllocError>
     ensures reads { (ns : List ℕ) → IsTrue (are_places ns) → text.now ≡ text_of.path (map decimal ns) → IfOk result (λ o. MatchOption o ⊥ (λ v. v.items ≡ ns)) }
+    ensures fault { IfOk result (λ o. Says (option_map (λ v. v.items) o) (is_path text.now) (Some (path_in text.now))) }
 {
     if is_zero(text) {
         return Ok(Some(Vec::new(alloc)));
@@ -172,6 +183,7 @@ pub fn path(alloc: Global, text: &[u8]) -> Result<Option<Vec<usize>>, AllocError
 // The numbers from 1 on that are spelled so, with dots between them.
 fn dotted(alloc: Global, text: &[u8]) -> Result<Option<Vec<usize>>, AllocError>
     ensures reads { (m : ℕ) (ms : List ℕ) → IsTrue (are_places (m ∷ ms)) → text.now ≡ text_of.with_dots (decimal m) (map decimal ms) → IfOk result (λ o. MatchOption o ⊥ (λ v. v.items ≡ m ∷ ms)) }
+    ensures fault { IfOk result (λ o. Says (option_map (λ v. v.items) o) (are_parts (between_dots text.now)) (Some (map number_in (between_dots text.now)))) }
 {
     let mut numbers = Vec::new(alloc);
     let mut rest = text;
@@ -216,7 +228,7 @@ fn digits_behind_sign(text: &[u8]) -> &[u8]
 }
 
 fn is_minus_zero(text: &[u8]) -> bool
-    ensures { IsTrue result → text.now ≡ 45 ∷ 48 ∷ [] }
+    ensures { IsTrue result ↔ text.now ≡ 45 ∷ 48 ∷ [] }
 {
     match text {
         [b'-', b'0'] => true,

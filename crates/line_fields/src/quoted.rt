@@ -5,6 +5,7 @@ ghost use Rattle.spec_value.specs.Datum.{is_text, is_character};
 ghost use Rattle.memchr.specs.Find.{is_byte2};
 ghost use Rattle.moo_value.specs.Read.{found, IsNoLonger, FindsText};
 ghost use Rattle.line_fields.specs.Quoted.{is_ordinary, ordinary_run, quote_mark};
+ghost use Rattle.line_fields.specs.Said.{TellsText};
 
 use memchr::memchr2;
 use moo_value::text::Text;
@@ -16,6 +17,7 @@ use std::str;
 pub fn front_text(alloc: Global, bytes: &[u8]) -> Result<Option<(Text, &[u8])>, AllocError>
     ensures shorter { IfOk result (λ o. IsNoLonger bytes.now o) }
     ensures finds { IfOk result (λ o. FindsText bytes.now o) }
+    ensures tells { IfOk result (λ o. TellsText bytes.now o) }
 {
     let (front, back) = bytes.split_at(ordinary_end(bytes));
     match quote_at_front(back) {
@@ -32,6 +34,7 @@ pub fn front_text(alloc: Global, bytes: &[u8]) -> Result<Option<(Text, &[u8])>, 
 fn escaped_text(alloc: Global, bytes: &[u8]) -> Result<Option<(Text, &[u8])>, AllocError>
     ensures shorter { IfOk result (λ o. IsNoLonger bytes.now o) }
     ensures finds { IfOk result (λ o. FindsText bytes.now o) }
+    ensures tells { IfOk result (λ o. TellsText bytes.now o) }
 {
     let mut characters = Vec::new(alloc);
     let mut rest = bytes;
@@ -60,6 +63,7 @@ fn closed<'a>(
 ) -> Result<Option<(Text, &'a [u8])>, AllocError>
     ensures shorter { IfOk result (λ o. IsNoLonger behind.now o) }
     ensures finds { IsTrue (is_text characters.now) → IfOk result (λ o. found o ≡ Some (characters.now, behind.now)) }
+    ensures tells { IfOk result (λ o. IfSome o (λ p. (p.0 ≡ characters.now) × (p.1.now ≡ behind.now))) }
 {
     let text = checked_text(alloc, characters)?;
     match text {
@@ -154,7 +158,8 @@ fn plain_text(alloc: Global, characters: &[u8]) -> Result<Text, AllocError>
 
 // The text of these characters, if a text may have them.
 fn checked_text(alloc: Global, characters: &[u8]) -> Result<Option<Text>, AllocError>
-    ensures { IsTrue (is_text characters.now) → IfOk result (λ o. o ≡ Some characters.now) }
+    ensures finds { IsTrue (is_text characters.now) → IfOk result (λ o. o ≡ Some characters.now) }
+    ensures tells { IfOk result (λ o. IfSome o (λ t. t ≡ characters.now)) }
 {
     let Ok(text) = str::from_utf8(characters) else {
         return Ok(None);

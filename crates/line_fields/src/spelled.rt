@@ -2,6 +2,7 @@
 ghost use Rattle.std.specs.Prelude.{◌≡◌, ◌<◌, ◌≤◌, length, IfSome, [], ◌∷◌, IfOk, MatchOption, option_map};
 ghost use Rattle.moo_value.specs.Errors.{code_of};
 ghost use Rattle.moo_value.specs.Read.{found, mark, after_name, IsNoLonger, FindsError, FindsValue, FindsItems};
+ghost use Rattle.line_fields.specs.Said.{TellsError, TellsValue, TellsItems};
 
 use crate::number::front_integer;
 use crate::quoted::front_text;
@@ -18,6 +19,7 @@ pub fn front_value(
 ) -> Result<Option<(Value, &[u8])>, AllocError>
     ensures shorter { IfOk result (λ o. IsNoLonger bytes.now o) }
     ensures finds { IfOk result (λ o. FindsValue room bytes.now o) }
+    ensures tells { IfOk result (λ o. TellsValue room bytes.now o) }
 {
     let Some((first, rest)) = byte_at_front(bytes) else {
         return Ok(None);
@@ -64,6 +66,7 @@ fn front_items(
 ) -> Result<Option<(Vec<Value>, &[u8])>, AllocError>
     ensures shorter { IfOk result (λ o. IsNoLonger bytes.now o) }
     ensures finds { IfOk result (λ o. FindsItems room bytes.now (option_map (λ p. (p.0.items, p.1)) o)) }
+    ensures tells { IfOk result (λ o. TellsItems room bytes.now (option_map (λ p. (p.0.items, p.1)) o)) }
 {
     let mut items = Vec::new(alloc);
     match byte_at_front(bytes) {
@@ -125,6 +128,7 @@ fn front_mark(bytes: &[u8]) -> Option<(bool, &[u8])>
 fn front_error(bytes: &[u8]) -> Option<(MooError, &[u8])>
     ensures shorter { IsNoLonger bytes.now result }
     ensures finds { FindsError bytes.now (option_map (λ p. (code_of p.0, p.1)) result) }
+    ensures tells { TellsError bytes.now (option_map (λ p. (code_of p.0, p.1)) result) }
 {
     for error in &MooError::ALL {
         if let Some(rest) = after(bytes, error.name().as_bytes()) {

@@ -1,7 +1,7 @@
-use Rattle.std.proofs.Common.{◌≡◌, ◌==◌, Some, None, length, ap, ◌∙◌, ◌+◌}
+use Rattle.std.proofs.Common.{◌≡◌, ◌==◌, Some, None, ◌∷◌, ◌++◌, length, take, ap, sym, ◌∙◌, ◌+◌}
 use Rattle.std.proofs.lemmas.List.{take_rest}
 use Rattle.std.specs.List.{position}
-use Rattle.line_fields.proofs.Stops.{stop_found, no_stop}
+use Rattle.line_fields.proofs.Stops.{stop_found, no_stop, none_stops, some_stops}
 use Rattle.line_fields.proofs.Seams.{before_seam, behind_seam}
 use Rattle.line_fields.proofs.cut.cut_at.Goals as goal
 
@@ -18,3 +18,11 @@ returns-clause-between c t r h e =
 pub returns-clause-last : goal.returns-clause-last
 returns-clause-last c t h e =
     let none : Some c.in-Some.end ≡ None = c.in-Some.ensures.value ∙ ap (position (λ d. d == c.args.stop)) e ∙ no_stop c.args.stop t h in absurd (cc)
+
+pub returns-in_default-clause-cuts : goal.returns-in_default-clause-cuts
+returns-in_default-clause-cuts c = none_stops (λ d. d == c.args.stop) c.args.text.now (sym c.in_default.ensures.value)
+
+pub returns-clause-cuts : goal.returns-clause-cuts
+returns-clause-cuts c =
+    let cut = some_stops c.args.stop c.args.text.now c.in-Some.end (sym c.in-Some.ensures.value) in
+    (cut.0, cut.1 ∙ ap (λ u. take c.in-Some.end c.args.text.now ++ c.args.stop ∷ u) (sym (take_rest c.args.text.now (c.in-Some.end + 1))))

@@ -5,6 +5,8 @@ use Rattle.spec_value.specs.Datum.{is_value}
 use Rattle.spec_world.specs.Checkpoint.{object_list}
 use Rattle.moo_value.proofs.Numbers.{fits_number}
 use Rattle.line_fields.proofs.Lists.{items_same, objects_more, objects_same, object_there}
+use Rattle.spec_faults.specs.Literals.{is_object_value}
+use Rattle.line_fields.proofs.KindsTold.{not_all, no_object, objects_told}
 use Rattle.line_fields.proofs.held.objects_in.Goals as goal
 
 pub returns-in-None : goal.returns-in-None
@@ -14,6 +16,7 @@ returns-in-None c = record {
       let l : c.loop-item.item-index < length (object_list os) = subst (λ vs. c.loop-item.item-index < length vs) same c.loop-item-test.true in
       let there = object_there os c.loop-item.item-index c.item-item.result l in
       c.in-None.ensures.reads there.0 (c.item-item.is ∙ ap (λ vs. get_or vs c.loop-item.item-index c.item-item.result) same ∙ there.1);
+  fault = sym (not_all is_object_value c.args.value.now c.in-Some.items.now c.loop-item.item-index c.item-item.result c.item-item.result c.in-Some.ensures.reads c.loop-item-test.true c.item-item.is (no_object c.item-item.result c.in-None.ensures.reads));
 }
 
 pub loop-item-preserved : goal.loop-item-preserved
@@ -34,4 +37,7 @@ returns c = record {
       let same = items_same c.in-Some.items.now (object_list os) (sym c.in-Some.ensures.reads ∙ e) in
       let all : c.loop-item.item-index ≡ length c.in-Some.items.now = omega arith in
       objects_same c.loop-item.objects.items os (c.loop-item.invariant ∙ ap (λ n. take n c.in-Some.items.now) all ∙ take-length c.in-Some.items.now ∙ same);
+  fault =
+      let all : c.loop-item.item-index ≡ length c.in-Some.items.now = omega arith in
+      sym (objects_told c.args.value.now c.in-Some.items.now c.loop-item.objects.items c.in-Some.ensures.reads (c.loop-item.invariant ∙ ap (λ n. take n c.in-Some.items.now) all ∙ take-length c.in-Some.items.now));
 }

@@ -1,4 +1,3 @@
-use Rattle.std.proofs.Common.{◌≡◌}
 use Rattle.speculate.specs.BoardState.{world_after}
 use Rattle.speculate.proofs.crew.guess_and_hand_in.Goals as goal
 

@@ -58,7 +58,9 @@ impl<'a> Row<'a> {
     }
 
     /// A fault of this line: Line where what stands as its last field is several.
-    pub fn fault(&self, kind: FaultKind) -> DecodeError {
+    pub fn fault(&self, kind: FaultKind) -> DecodeError
+        ensures { result ≡ row_fault self.now kind }
+    {
         let kind = if self.is_cut() { kind } else { FaultKind::Line };
         DecodeError::Line {
             line: self.line,
@@ -67,7 +69,9 @@ impl<'a> Row<'a> {
     }
 
     // Whether the last field is no more than one.
-    fn is_cut(&self) -> bool {
+    fn is_cut(&self) -> bool
+        ensures { result ≡ is_cut (row_fields self.now) }
+    {
         match self.fields.as_slice() {
             [.., last] => is_single(last),
             [] => true,
@@ -77,8 +81,6 @@ impl<'a> Row<'a> {
     // What was found, or a fault of this line.
     fn known<T>(&self, found: Option<T>, kind: FaultKind) -> Result<T, DecodeError>
         ensures { result ≡ ok_or found (row_fault self.now kind) }
-        ensures { result ≡ row_fault self.now kind }
-        ensures { result ≡ is_cut (row_fields self.now) }
     {
         match found {
             Some(found) => Ok(found),

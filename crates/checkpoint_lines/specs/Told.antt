@@ -191,6 +191,7 @@ IsCount a w after = IsRow a (λ _. counted_form w) (λ ts. goes_on (after (numbe
 
 -- ---- the end
 
-abbrev pub Ends : Result (Unit {0}) DecodeError → Lines → Lines → List Awaited → Type 0
-Ends (Ok u) l m awaited = HasRoom l → (fault_left l awaited ≡ None) × (lines_in l ≡ m.count)
+-- all that was awaited stood there, and nothing behind it; or the first fault
+abbrev pub Ends : {A : Type 0} → Result A DecodeError → Lines → Lines → List Awaited → Type 0
+Ends (Ok x) l m awaited = HasRoom l → (fault_left l awaited ≡ None) × (lines_in l ≡ m.count)
 Ends (Err e) l m awaited = HasRoom l → IsFault e (fault_left l awaited)

@@ -81,9 +81,9 @@ NextLine (Ok line) l m = HasRoom l → IsNext line.now l m
 NextLine (Err e) l m = HasRoom l → IsOver e l
 
 -- so many lines, with their line ends, and what is left behind them
-pub record AreNext (text : Text) (n : ℕ) (l m : Lines) : Type 0 where
+pub record AreNext (whole : Text) (n : ℕ) (l m : Lines) : Type 0 where
   pub lines : List Text
-  pub text : text ≡ with_line_ends lines
+  pub text : whole ≡ with_line_ends lines
   pub are : IsTrue (are_lines lines)
   pub many : length lines ≡ n
   pub cut : lines_of l.left.now ≡ record { lines = lines ++ (lines_of m.left.now).lines; rest = (lines_of m.left.now).rest }

@@ -2,3 +2,4 @@ pub mod Giving
 pub mod Filled
 pub mod Rests
 pub mod Programs
+pub mod Telling

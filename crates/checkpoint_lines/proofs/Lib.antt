@@ -3,3 +3,4 @@ pub mod Filled
 pub mod Rests
 pub mod Programs
 pub mod Telling
+pub mod Checking

@@ -1,13 +1,11 @@
 use Rattle.std.proofs.Common.{◌≡◌, ◌==◌, true, [], length, refl, ap, ◌∙◌}
 use Rattle.checkpoint_lines.proofs.lines.Lines.end.Goals as goal
 
-pub returns-then-is_empty : goal.returns-then-is_empty
-returns-then-is_empty c = record { reads = λ e. let row = c.in_ok-next_with.ensures.reads [] [] refl refl refl e in (tt, row.1) }
+pub returns-then-is_empty-clause-reads : goal.returns-then-is_empty-clause-reads
+returns-then-is_empty-clause-reads c = λ e. let row = c.in_ok-next_with.ensures.reads [] [] refl refl refl e in (tt, row.1)
 
-pub returns-in-Some : goal.returns-in-Some
-returns-in-Some c = record {
-  reads = λ e.
+pub returns-in-Some-clause-reads : goal.returns-in-Some-clause-reads
+returns-in-Some-clause-reads c = λ e.
       let row = c.in_ok-next_with.ensures.reads [] [] refl refl refl e in
       let empty : c.is_empty.result ≡ true = c.is_empty.ensures ∙ ap (λ t. length t == 0) row.1.0 in
-      absurd (cc (empty, c.if-is_empty.false));
-}
+      absurd (cc (empty, c.if-is_empty.false))

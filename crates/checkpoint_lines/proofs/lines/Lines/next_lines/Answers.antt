@@ -6,15 +6,13 @@ use Rattle.checkpoint_lines.proofs.Giving.{gives_passed}
 use Rattle.checkpoint_lines.proofs.Rests.{next_of, front_of}
 use Rattle.checkpoint_lines.proofs.lines.Lines.next_lines.Goals as goal
 
-pub returns-in_err-next_line : goal.returns-in_err-next_line
-returns-in_err-next_line c = record {
-  reads = λ ts rest h l e.
+pub returns-in_err-next_line-clause-reads : goal.returns-in_err-next_line-clause-reads
+returns-in_err-next_line-clause-reads c = λ ts rest h l e.
       let within : c.lines._line < length ts = omega arith in
       let at = next_of ts rest c.lines._line within h in
       let memory = c.in_err-next_line.ensures.reads at.0 (drop (suc c.lines._line) ts ++ rest) at.1 (subst (λ us. Left c.lines.self us) at.2 (c.lines.invariant ts rest h l e)) in
       let passed = err_from_is_err_and c.from_residual.result c.from_residual.ensures.1 in
-      gives_passed c.from_residual.result passed.0 _ passed.1 (cc (passed.2, memory));
-}
+      gives_passed c.from_residual.result passed.0 _ passed.1 (cc (passed.2, memory))
 
 pub lines-preserved : goal.lines-preserved
 lines-preserved c = λ ts rest h l e.
@@ -24,11 +22,9 @@ lines-preserved c = λ ts rest h l e.
     let next : suc c.lines._line ≡ c.lines._line + 1 = omega arith in
     subst (λ n. Left c.next_line.new.self (drop n ts ++ rest)) next row.1
 
-pub returns : goal.returns
-returns c = record {
-  reads = λ ts rest h l e.
+pub returns-clause-reads : goal.returns-clause-reads
+returns-clause-reads c = λ ts rest h l e.
       let over : drop c.lines._line ts ≡ [] = drop_of_length-le ts (omega arith) in
       let left : Left c.lines.self rest = subst (λ us. Left c.lines.self (us ++ rest)) over (c.lines.invariant ts rest h l e) in
       let size : c.saturating_sub-length.result ≡ length c.args.self.now.left.now - length c.lines.self.left.now = omega arith in
-      (front_of ts rest c.args.self.now.left.now c.lines.self.left.now c.saturating_sub-length.result e.0 left.0 size, left);
-}
+      (front_of ts rest c.args.self.now.left.now c.lines.self.left.now c.saturating_sub-length.result e.0 left.0 size, left)

@@ -9,17 +9,13 @@ use Rattle.std.proofs.lemmas.Result.{err_from_is_err_and}
 use Rattle.checkpoint_lines.proofs.Giving.{gives_ok, gives_passed}
 use Rattle.checkpoint_lines.proofs.lines.Lines.next_number.Goals as goal
 
-pub returns-in_err-row : goal.returns-in_err-row
-returns-in_err-row c = record {
-  reads = λ n rest w l m e.
+pub returns-in_err-row-clause-reads : goal.returns-in_err-row-clause-reads
+returns-in_err-row-clause-reads c = λ n rest w l m e.
       let small : n < 2 ^ 64 = omega arith in let memory = c.in_err-row.ensures.reads (word (decimal n) ∷ []) rest w (both_hold (is_field (word (decimal n))) true (word_decimal n small) refl) refl e in
       let passed = err_from_is_err_and c.from_residual.result c.from_residual.ensures.1 in
-      gives_passed c.from_residual.result passed.0 _ passed.1 (cc (passed.2, memory));
-}
+      gives_passed c.from_residual.result passed.0 _ passed.1 (cc (passed.2, memory))
 
-pub returns : goal.returns
-returns c = record {
-  reads = λ n rest w l m e.
+pub returns-clause-reads : goal.returns-clause-reads
+returns-clause-reads c = λ n rest w l m e.
       let small : n < 2 ^ 64 = omega arith in let row = c.in_ok-row.ensures.reads (word (decimal n) ∷ []) rest w (both_hold (is_field (word (decimal n))) true (word_decimal n small) refl) refl e in
-      gives_ok c.number.result n (λ y. (y ≡ n) × Left c.next_with.new.self rest) (c.number.ensures.reads n l m (ap (λ ts. field_at ts 1) row.0.0)) (refl, row.1);
-}
+      gives_ok c.number.result n (λ y. (y ≡ n) × Left c.next_with.new.self rest) (c.number.ensures.reads n l m (ap (λ ts. field_at ts 1) row.0.0)) (refl, row.1)

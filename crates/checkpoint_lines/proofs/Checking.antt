@@ -38,7 +38,7 @@ module _ {A B : Type 0} (o : Option A) (f : A → B) (res : Result A DecodeError
 
 -- want of memory tells nothing of the row
 pub checks_memory : {A : Type 0} (res : Result A DecodeError) (e : DecodeError) (r : Row) (k : FaultKind) (test : Bool) → res ≡ Err e → e ≡ Memory alloc_error → Checks res r k test
-checks_memory res e r k test was is = subst (λ s. Checks s r k test) (sym was) (subst (λ d. Checks (Err {T = A} d) r k test) (sym is) tt)
+checks_memory {A} res e r k test was is = subst (λ s. Checks s r k test) (sym was) (subst (λ d. Checks {A = A} (Err d) r k test) (sym is) tt)
 
 -- ---- literals
 
@@ -61,10 +61,8 @@ none_passes test (Some v) h = cc
 
 pub checks_less : {A B : Type 0} (res : Result A DecodeError) (last : Result B DecodeError) (e d : DecodeError) (r : Row) (k : FaultKind) (a b : Bool)
     → (a ≡ false → b ≡ false) → res ≡ Err e → last ≡ Err d → e ≡ d → Checks res r k a → Checks last r k b
-checks_less (Ok x) last e d r k a b on was is same c = cc
-checks_less {A} {B} (Err (Line n j)) last e d r k a b on was is same c =
-    let back : Err {T = B} (Line n j) ≡ last = cc in
-    subst (λ s. Checks s r k b) back (on c.0, c.1)
-checks_less {A} {B} (Err (Memory m)) last e d r k a b on was is same c =
-    let back : Err {T = B} (Memory m) ≡ last = cc in
-    subst (λ s. Checks s r k b) back tt
+checks_less {A} {B} res last e d r k a b on was is same c = subst (λ s. Checks s r k b) (sym is) (go d same)
+  where
+    go : (f : DecodeError) → e ≡ f → Checks {A = B} (Err f) r k b
+    go (Line n j) eq = let h = subst (λ s. Checks s r k a) (was ∙ ap Err eq) c in (on h.0, h.1)
+    go (Memory m) eq = tt

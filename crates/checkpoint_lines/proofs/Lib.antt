@@ -4,3 +4,7 @@ pub mod Rests
 pub mod Programs
 pub mod Telling
 pub mod Checking
+pub mod LinesLeft
+pub mod FirstFields
+pub mod RowsTold
+pub mod OneField

@@ -28,3 +28,9 @@ returns-clause-reads c = λ ts rest h l e.
       let left : Left c.lines.self rest = subst (λ us. Left c.lines.self (us ++ rest)) over (c.lines.invariant ts rest h l e) in
       let size : c.saturating_sub-length.result ≡ length c.args.self.now.left.now - length c.lines.self.left.now = omega arith in
       (front_of ts rest c.args.self.now.left.now c.lines.self.left.now c.saturating_sub-length.result e.0 left.0 size, left)
+
+pub returns-in_err-next_line-clause-tells : goal.returns-in_err-next_line-clause-tells
+returns-in_err-next_line-clause-tells c = ?
+
+pub returns-clause-tells : goal.returns-clause-tells
+returns-clause-tells c = ?

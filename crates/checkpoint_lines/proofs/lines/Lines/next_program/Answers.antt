@@ -23,3 +23,12 @@ returns-in-None-clause-reads c = λ p rest h l e.
       let text = c.in_ok-text.ensures.reads (canonical_lines p) rest (code_is_lines p h) l e in
       let is : c.in_ok-found.found ≡ Some p = c.in_ok-found.ensures.reads p h text.0 in
       absurd (cc (is, c.in-None.is))
+
+pub returns-in_err-text-clause-tells : goal.returns-in_err-text-clause-tells
+returns-in_err-text-clause-tells c = ?
+
+pub returns-in-Some-clause-tells : goal.returns-in-Some-clause-tells
+returns-in-Some-clause-tells c = ?
+
+pub returns-in-None-clause-tells : goal.returns-in-None-clause-tells
+returns-in-None-clause-tells c = ?

@@ -7,6 +7,7 @@ use Rattle.spec_faults.specs.Cutting.{is_filled}
 use Rattle.checkpoint_lines.proofs.Filled.{fields_line, fields_filled}
 use Rattle.std.proofs.lemmas.Result.{err_from_is_err_and}
 use Rattle.checkpoint_lines.proofs.Giving.{gives_map, gives_passed}
+use Rattle.checkpoint_lines.proofs.RowsTold.{row_next}
 use Rattle.checkpoint_lines.proofs.lines.Lines.next_row.Goals as goal
 
 pub returns-in_err-line-clause-reads : goal.returns-in_err-line-clause-reads
@@ -23,3 +24,7 @@ returns-clause-reads c = λ f fs rest h e.
       gives_map c.new.result (λ row. row_fields row ≡ map (λ b. b.now) c.in_ok-fields.fields.items)
       (λ row. ((row_fields row ≡ all_spelled (f ∷ fs)) × (length rest < 2 ^ 63)) × Left c.next_line.new.self rest) (c.new.ensures.reads filled)
       (λ row is. ((is ∙ cut, line.0.1), line.1))
+
+pub returns-clause-tells : goal.returns-clause-tells
+returns-clause-tells c =
+    row_next c.new.result c.args.self.now c.next_line.new.self c.in_ok-line.line.now (map (λ b. b.now) c.in_ok-fields.fields.items) c.in_ok-line.ensures.tells c.in_ok-fields.ensures.cuts c.new.ensures.tells

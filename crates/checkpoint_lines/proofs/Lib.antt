@@ -8,3 +8,6 @@ pub mod LinesLeft
 pub mod FirstFields
 pub mod RowsTold
 pub mod OneField
+pub mod TextEnd
+pub mod LinesPassed
+pub mod CodeTold

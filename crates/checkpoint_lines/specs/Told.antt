@@ -47,7 +47,7 @@ lines_in l = l.count + length (lines_of l.left.now).lines
 
 -- lines are counted in 64 bits
 abbrev pub HasRoom : Lines → Type 0
-HasRoom l = l.count + length l.left.now < 2 ^ 64
+HasRoom l = l.count + length l.left.now < 2 ^ 63
 
 -- what was awaited stood there without a fault, and now this is awaited of what is left
 pub record GoesOn (l m : Lines) (awaited after : List Awaited) : Type 0 where
@@ -81,9 +81,9 @@ NextLine (Ok line) l m = HasRoom l → IsNext line.now l m
 NextLine (Err e) l m = HasRoom l → IsOver e l
 
 -- so many lines, with their line ends, and what is left behind them
-pub record AreNext (text : Text) (n : ℕ) (l m : Lines) : Type 0 where
+pub record AreNext (whole : Text) (n : ℕ) (l m : Lines) : Type 0 where
   pub lines : List Text
-  pub text : text ≡ with_line_ends lines
+  pub text : whole ≡ with_line_ends lines
   pub are : IsTrue (are_lines lines)
   pub many : length lines ≡ n
   pub cut : lines_of l.left.now ≡ record { lines = lines ++ (lines_of m.left.now).lines; rest = (lines_of m.left.now).rest }

@@ -18,6 +18,14 @@ pub fn worlds()
     ensures none { WorldsHaveNoFault }
 {}
 
+ghost use Rattle.spec_faults.specs.TextLaws.{OnlyReachHasNone};
+
+/// And where the text of a well-formed world of values has none, its values nest no deeper, and its verbs want such sets.
+#[tactic(auto, using(crate::proofs::InReach::only_reach_has_none))]
+pub fn reach()
+    ensures { OnlyReachHasNone }
+{}
+
 ghost use Rattle.spec_faults.specs.TextLaws.{BeginningsEnd};
 
 /// A text that begins the text of such a world has no fault but that it ends.

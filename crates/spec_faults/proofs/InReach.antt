@@ -1,5 +1,5 @@
 -- A world whose text has no fault is in reach of readers.
-use Rattle.std.proofs.Common.{◌≡◌, ℕ, zero, suc, ◌+◌, ◌<◌, ◌≤◌, ◌^◌, ◌&&◌, ℤ, Bool, true, false, List, [], ◌∷◌, ◌++◌, length, codes, Some, None, IsTrue, refl, ap, sym, subst, ◌∙◌, arith, append_assoc, length-append}
+use Rattle.std.proofs.Common.{◌≡◌, ℕ, zero, suc, ◌+◌, ◌<◌, ◌^◌, ℤ, List, [], ◌∷◌, ◌++◌, length, codes, Some, IsTrue, refl, ap, sym, subst, ◌∙◌, arith, append_assoc, length-append}
 use Rattle.std.proofs.lemmas.List.{append-nil}
 use Rattle.std.specs.List.{list_all}
 use Rattle.spec_value.specs.Datum.{Text, is_text, in_number_range}
@@ -26,7 +26,7 @@ use Rattle.spec_faults.proofs.Entering.{EachIs, each_is}
 use Rattle.spec_faults.proofs.ObjectsFine.{as_many_links, verb_told, as_many_verbs, as_many_objects}
 use Rattle.spec_faults.proofs.TasksFine.{as_many_tasks}
 use Rattle.spec_faults.proofs.WorldsFine.{lines_short}
-use Rattle.spec_faults.proofs.Clear.{Clear, clear_same, clear_line, clear_fields, past, clear_counted, AllClear, clear_group, clear_code}
+use Rattle.spec_faults.proofs.Clear.{Clear, clear_same, clear_line, clear_fields, past, clear_counted, clear_group, clear_code}
 use Rattle.spec_faults.proofs.NearFields.{verb_near}
 use Rattle.spec_faults.proofs.NearSlots.{slots_near}
 use Rattle.spec_faults.proofs.NearTasks.{tasks_clear}

@@ -1,5 +1,5 @@
 -- Fields without a fault: values that nest no deeper than values are read, and sets of prepositions that there are.
-use Rattle.std.proofs.Common.{◌≡◌, ℕ, ◌<◌, ◌^◌, ◌&&◌, ◌||◌, nat_le, Bool, true, false, not, List, [], ◌∷◌, codes, Option, Some, None, IsTrue, refl, ap, sym, subst, ◌∙◌}
+use Rattle.std.proofs.Common.{◌≡◌, ℕ, ◌&&◌, ◌||◌, nat_le, Bool, true, false, not, List, [], ◌∷◌, codes, Option, Some, None, IsTrue, refl, ap, sym, subst, ◌∙◌}
 use Rattle.spec_value.specs.Datum.{Text, same_text, is_text, text, in_number_range, Datum, is_value}
 use Rattle.spec_value.specs.Literal.{literal}
 use Rattle.std.specs.Fmt.{decimal}

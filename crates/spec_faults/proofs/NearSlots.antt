@@ -1,10 +1,9 @@
 -- Slots whose lines have no fault.
-use Rattle.std.proofs.Common.{◌≡◌, ◌⊎◌, inl, inr, ℤ, ◌||◌, Bool, true, false, List, [], ◌∷◌, ◌++◌, map, Option, Some, None, IsTrue, is_some, is_lt, is_eq, cond, Ordering, Less, Equal, Greater, nat_cmp, refl, ap, sym, subst, ◌∙◌}
+use Rattle.std.proofs.Common.{◌≡◌, ◌⊎◌, inl, inr, ℤ, Bool, true, false, List, [], ◌∷◌, map, Option, Some, None, IsTrue, is_some, is_lt, is_eq, cond, Ordering, Less, Equal, Greater, nat_cmp, refl, ap, sym, subst, ◌∙◌}
 use Rattle.std.specs.List.{list_all}
 use Rattle.std.specs.Cmp.Lexicographic.{slice_cmp}
-use Rattle.std.specs.Ordering.{eq_by_cmp}
 use Rattle.std.specs.FinMap.Entries.{below_all}
-use Rattle.spec_value.specs.Datum.{Text, same_text, fold_case, is_text, in_number_range}
+use Rattle.spec_value.specs.Datum.{Text, same_text, fold_case}
 use Rattle.spec_value.specs.Table.{Named, named, is_named}
 use Rattle.spec_value.proofs.Entries.{first_holds, second_holds, both_hold}
 use Rattle.spec_value.proofs.Same.{same_texts, text_itself}
@@ -12,9 +11,9 @@ use Rattle.spec_world.specs.World.{World, Slot, Object, object_at}
 use Rattle.spec_world.specs.Inherit.{ancestors, slot_of, slot_at}
 use Rattle.spec_world.specs.WellFormed.{folded_names, defined_on, has_name, slot_names, IsWellFormed}
 use Rattle.spec_world.specs.Checkpoint.{slot_line, slots_named, names_defined, slots_along}
-use Rattle.spec_world.proofs.SlotTables.{text_or_not, sought, key_there, later_name, has_both}
+use Rattle.spec_world.proofs.SlotTables.{text_or_not, sought, key_there, here_name, later_name, has_both}
 use Rattle.spec_world.proofs.Households.{of_named}
-use Rattle.spec_checkpoint.specs.Holding.{slot_holds, verb_holds, header_holds, object_holds}
+use Rattle.spec_checkpoint.specs.Holding.{slot_holds}
 use Rattle.spec_checkpoint.proofs.SlotRecords.{found_holds, named_holds}
 use Rattle.spec_faults.specs.Forms as form
 use Rattle.spec_faults.specs.Reach.{content_near}
@@ -45,7 +44,7 @@ FoundNear es = (q : Text) → IsTrue (has_name (map (λ e. e.0) es) q) → IsTru
 
 first_near : (e : Text × Slot) (es : Named Slot) → FoundNear (e ∷ es) → IsTrue (content_near (e.1).content)
 first_near e es found =
-    subst (λ b. IsTrue (found_near (cond b (Some e.1) (named es e.0)))) (sought e.0 e.0 ∙ text_itself e.0) (found e.0 (ap (λ b. b || has_name (map (λ d. d.0) es) e.0) (text_itself e.0)))
+    subst (λ b. IsTrue (found_near (cond b (Some e.1) (named es e.0)))) (sought e.0 e.0 ∙ text_itself e.0) (found e.0 (here_name e.0 (map (λ d. d.0) es)))
 
 later_near : (e : Text × Slot) (es : Named Slot) → IsTrue (below_all (slice_cmp nat_cmp) e.0 es) → FoundNear (e ∷ es) → FoundNear es
 later_near e es below found q h = go (text_or_not q e.0)

@@ -1,10 +1,10 @@
 -- Tasks whose lines have no fault.
-use Rattle.std.proofs.Common.{◌≡◌, ℕ, zero, suc, ◌+◌, ◌<◌, ◌≤◌, ◌^◌, ◌==◌, ◌&&◌, ℤ, Bool, true, false, List, [], ◌∷◌, ◌++◌, length, codes, Option, Some, None, IsTrue, refl, ap, sym, subst, ◌∙◌, arith, append_assoc, length-append}
+use Rattle.std.proofs.Common.{◌≡◌, ℕ, zero, suc, ◌+◌, ◌<◌, ◌^◌, ◌==◌, ◌&&◌, ℤ, Bool, true, false, List, [], ◌∷◌, ◌++◌, length, codes, Option, Some, None, IsTrue, refl, ap, sym, subst, ◌∙◌, arith, append_assoc, length-append}
 use Rattle.std.proofs.lemmas.Bool.{eqb-true}
 use Rattle.std.proofs.lemmas.Fmt.{decimal_nonempty}
 use Rattle.std.specs.List.{list_all}
 use Rattle.std.specs.Fmt.{decimal, signed_decimal}
-use Rattle.spec_value.specs.Datum.{Text, same_text, is_text, text, in_number_range, Datum, list, of_list, is_value}
+use Rattle.spec_value.specs.Datum.{Text, same_text, is_text, in_number_range, Datum, list, of_list, is_value}
 use Rattle.spec_value.specs.Literal.{literal}
 use Rattle.spec_value.specs.Table.{Numbered, Named}
 use Rattle.spec_value.proofs.Entries.{first_holds, second_holds, both_hold}
@@ -18,7 +18,7 @@ use Rattle.spec_world.specs.Checkpoint.{fields, counted, object_text, list_liter
 use Rattle.spec_checkpoint.specs.Holding.{is_number, call_holds, piece_holds, frame_holds, native_holds, entry_holds, waiting_holds, task_holds, numbered_task_holds}
 use Rattle.spec_checkpoint.proofs.Fields.{number_small, values_hold}
 use Rattle.spec_checkpoint.proofs.FrameRecords.{held_are_values}
-use Rattle.spec_faults.specs.Cutting.{fields_in, field_at, is_filled}
+use Rattle.spec_faults.specs.Cutting.{fields_in, field_at}
 use Rattle.spec_faults.specs.Plain.{path_in}
 use Rattle.spec_faults.specs.Literals.{value_of}
 use Rattle.spec_faults.specs.Forms as form
@@ -26,11 +26,11 @@ use Rattle.spec_faults.specs.Forms.{Wanted, word, other, value, has_form, or_els
 use Rattle.spec_faults.specs.Codes.{total, begins_held}
 use Rattle.spec_faults.specs.Awaited as awaited
 use Rattle.spec_faults.specs.Awaited.{Awaited, Verdict, one, again, of_frame, code, entry, place, held, values, each_held, with_value, one_value, only_if, goes_on, told, verb_may_stand, native_may_stand, native_goes, one_entry, holds_at, behind_place, is_fork_line}
-use Rattle.spec_faults.specs.FieldLaws.{IsField, unmarked, spelled, AreFields}
+use Rattle.spec_faults.specs.FieldLaws.{unmarked, spelled, AreFields}
 use Rattle.spec_faults.specs.Reach.{is_near, frame_near, entry_near, waiting_near, task_near}
 use Rattle.spec_faults.proofs.LiteralsBack.{some_literal}
 use Rattle.spec_faults.proofs.FieldsBack.{decimal_unmarked, signed_unmarked, fields_told}
-use Rattle.spec_faults.proofs.Suiting.{Suits, AllSuit, form_had}
+use Rattle.spec_faults.proofs.Suiting.{Suits, AllSuit, are_fields, form_had}
 use Rattle.spec_faults.proofs.FieldsSuit.{filled, a_word, signed_filled, native_suits}
 use Rattle.spec_faults.proofs.TasksFine.{has_not, wait_form, fork_form, idle_form, read_form, behind_task, call_said, held_said, as_many_variables, as_many_values, as_many_entries, entries_told}
 use Rattle.spec_faults.proofs.Clear.{Clear, clear_same, clear_line, clear_only, clear_test, clear_fields, clear_next, never, past, clear_counted, AllClear, clear_group, clear_code}
@@ -38,20 +38,11 @@ use Rattle.spec_faults.proofs.NearFields.{none_passed, literal_near, variable_ne
 
 -- ---- lines of several forms
 
-any_text : Text → Bool
-any_text t = true
-
 a_literal : (v : Datum) → IsTrue (is_value v) → Suits (value (λ t. true)) (literal v)
 a_literal v h = record { field = spelled v; filled = filled (literal v) (some_literal v h); meets = refl }
 
 some_decimal : (n : ℕ) → IsTrue (is_number n) → Suits (other (λ t. true)) (decimal n)
 some_decimal n h = record { field = unmarked (decimal n) (decimal_unmarked n); filled = filled (decimal n) (decimal_nonempty n (number_small n h)); meets = refl }
-
-fields_are : (ws : List Wanted) (ts : List Text) → AllSuit ws ts → AreFields ts
-fields_are [] [] s = tt
-fields_are [] (t ∷ ts) s = absurd s
-fields_are (w ∷ ws) [] s = absurd s
-fields_are (w ∷ ws) (t ∷ ts) s = (s.0.field, fields_are ws ts s.1)
 
 -- the fault of a line with these fields, which have that form
 found_none : (forms : List (List Wanted)) (ws : List Wanted) (t : Text) (ts : List Text) → AreFields (t ∷ ts) → form_among forms (t ∷ ts) ≡ ws
@@ -75,7 +66,7 @@ timed_near i due v h k l e =
     let had : IsTrue (has_form wait_form (codes "task" ∷ ts)) = form_had loose_wait (codes "task" ∷ ts) s in
     let found : form_among form.task_forms (codes "task" ∷ ts) ≡ wait_form =
     has_not fork_form (wait_form ∷ idle_form ∷ read_form ∷ []) (codes "task" ∷ ts) refl ∙ ap (λ b. or_else b wait_form (form_among (idle_form ∷ read_form ∷ []) (codes "task" ∷ ts))) had in
-    let p = none_passed wait_form (codes "task" ∷ ts) (found_none form.task_forms wait_form (codes "task") ts (fields_are loose_wait (codes "task" ∷ ts) s) found e) in
+    let p = none_passed wait_form (codes "task" ∷ ts) (found_none form.task_forms wait_form (codes "task") ts (are_fields loose_wait (codes "task" ∷ ts) s) found e) in
     literal_near v l p.1.1.1.1.0
 
 waits_near : (i : ℤ) (x : Waiting) → IsTrue (in_number_range i) → IsTrue (waiting_holds x)
@@ -112,6 +103,16 @@ held_clear [] [] us more e h c = (refl, c)
 held_clear [] (v ∷ vs) us more e h c = absurd (omega (arith, e))
 held_clear (x ∷ hs) vs us more e h c = values_clear hs (held_clear hs) (held_count x.1) x.0 x.1 [] vs us more e h c
 
+-- as many as their line says
+held_lines_clear : (hs : List (ℕ × Holds)) (vs : List Datum) (us : List Text) (more : List Awaited) → length vs < 2 ^ 63 → IsTrue (list_all is_value vs)
+    → Clear (counted (codes "held") (length vs) ∷ (literal_lines vs ++ us)) (held hs ∷ more) → IsTrue (list_all is_near vs) × Clear us more
+held_lines_clear hs vs us more l h c =
+    let behind : List Text = literal_lines vs ++ us in
+    let says = held_said hs (length vs) l in
+    let as_many = clear_test (held hs) more (counted (codes "held") (length vs)) behind refl (length vs == total hs) fault.frame (each_held hs) says c in
+    let from_values = clear_only (held hs) more (counted (codes "held") (length vs)) behind refl (length vs == total hs) fault.frame (each_held hs) says c in
+    held_clear hs vs us more (sym (eqb-true (length vs) (total hs) as_many)) h from_values
+
 -- ---- verbs under way
 
 abbrev BehindPlace : List Text → List Awaited → Type 0
@@ -132,6 +133,12 @@ variables_near [] h c = refl
 variables_near (e ∷ es) h c =
     both_hold (is_near e.1) _ (variable_near e (second_holds (is_text e.0) (is_value e.1) (first_holds (is_text e.0 && is_value e.1) (list_all (λ d. is_text d.0 && is_value d.1) es) h)) c.0)
     (variables_near es (second_holds (is_text e.0 && is_value e.1) (list_all (λ d. is_text d.0 && is_value d.1) es) h) c.1)
+
+call_clear : (is_fork : Bool) (verbs : ℕ) (is_behind : Bool) (left : ℕ) (x : Call) (n : ℕ) (us : List Text) (more : List Awaited) → IsTrue (call_holds x) → n < 2 ^ 63
+    → Clear (call_line x n ∷ us) (entry is_fork verbs is_behind (suc left) ∷ more) → Clear us (code n [] (of_frame is_fork) ∷ entry is_fork (suc verbs) false left ∷ more)
+call_clear is_fork verbs is_behind left x n us more h l c =
+    clear_only (entry is_fork verbs is_behind (suc left)) more (call_line x n) us refl (verb_may_stand is_fork verbs) fault.frame (code n [] (of_frame is_fork) ∷ entry is_fork (suc verbs) false left ∷ [])
+    (call_said is_fork verbs is_behind left x n h l) c
 
 frame_clear : (is_fork : Bool) (verbs : ℕ) (is_behind : Bool) (left : ℕ) (f : Frame) (us : List Text) (more : List Awaited) → IsTrue (frame_holds f) → length (frame_lines f) < 2 ^ 63
     → Clear (frame_lines f ++ us) (entry is_fork verbs is_behind (suc left) ∷ more) → IsTrue (frame_near f) × Clear us (entry is_fork (suc verbs) false left ∷ more)
@@ -154,8 +161,7 @@ frame_clear is_fork verbs is_behind left f us more h l c =
     let next : List Awaited = entry is_fork (suc verbs) false left ∷ more in
     let behind_place_line : List Text = counted (codes "vars") (length f.variables) ∷ ((named ++ held_lines) ++ us) in
     let from_code : Clear ((lines ++ later) ++ us) (code n [] (of_frame is_fork) ∷ next) =
-    clear_only (entry is_fork verbs is_behind (suc left)) more (call_line f.call n) ((lines ++ later) ++ us) refl (verb_may_stand is_fork verbs) fault.frame (code n [] (of_frame is_fork) ∷ entry is_fork (suc verbs) false left ∷ [])
-    (call_said is_fork verbs is_behind left f.call n (first_holds (call_holds f.call) _ h) (omega arith)) c in
+    call_clear is_fork verbs is_behind left f.call n ((lines ++ later) ++ us) more (first_holds (call_holds f.call) _ h) (omega arith) c in
     let from_start = clear_code (of_frame is_fork) lines (later ++ us) next (subst (λ ts. Clear ts (code n [] (of_frame is_fork) ∷ next)) (append_assoc lines later us) from_code) in
     let p : Program = from_start.0 in
     let from_place : Clear (fields (codes "place" ∷ path (part_numbers f.pieces) ∷ []) ∷ behind_place_line) (place is_fork p ∷ next) = past from_start.1 in
@@ -167,10 +173,7 @@ frame_clear is_fork verbs is_behind left f us more h l c =
     subst (λ m. Clear (named ++ (held_lines ++ us)) (again m awaited.each_variable ∷ held hs ∷ next)) (sym many1)
     (subst (λ ts. Clear ts (again (length f.variables) awaited.each_variable ∷ held hs ∷ next)) (append_assoc named held_lines us) from_named) in
     let from_held = clear_group awaited.each_variable form.variable_form refl named (held_lines ++ us) (held hs ∷ next) grouped in
-    let says = held_said hs (length vs) (omega arith) in
-    let as_many = clear_test (held hs) next (counted (codes "held") (length vs)) (literal_lines vs ++ us) refl (length vs == total hs) fault.frame (each_held hs) says from_held.1 in
-    let from_values = clear_only (held hs) next (counted (codes "held") (length vs)) (literal_lines vs ++ us) refl (length vs == total hs) fault.frame (each_held hs) says from_held.1 in
-    let held_there = held_clear hs vs us next (sym (eqb-true (length vs) (total hs) as_many)) (held_are_values f.pieces hp) from_values in
+    let held_there = held_lines_clear hs vs us next (omega arith) (held_are_values f.pieces hp) from_held.1 in
     (both_hold (list_all (λ (q : Text × Datum). is_near q.1) f.variables) (list_all is_near vs) (variables_near f.variables hv from_held.0) held_there.0, held_there.1)
 
 -- ---- built-in functions that wait
@@ -193,7 +196,7 @@ native_clear is_fork verbs is_behind left n us more h c =
         (some_decimal n.stage (first_holds (is_number n.stage) (list_all is_value n.arguments) h), (a_literal (list (of_list n.arguments)) arguments, tt)),
       ),
     ) in
-    let all : AreFields (codes "native" ∷ ts) = fields_are loose_native (codes "native" ∷ ts) s in
+    let all : AreFields (codes "native" ∷ ts) = are_fields loose_native (codes "native" ∷ ts) s in
     let had : IsTrue (has_form form.native_form (codes "native" ∷ ts)) = form_had loose_native (codes "native" ∷ ts) s in
     let found : form_among forms (codes "native" ∷ ts) ≡ form.native_form = has_not form.frame_form (form.native_form ∷ []) (codes "native" ∷ ts) refl ∙ ap (λ b. or_else b form.native_form []) had in
     let next : List Text → Verdict = λ rs. one_entry is_fork verbs is_behind left (same_text (field_at rs 0) (codes "frame")) rs in
@@ -238,31 +241,38 @@ entries_clear is_fork (e ∷ es) us left more h room c =
 
 -- ---- tasks
 
+task_line_clear : (t : Text) (us : List Text) (more : List Awaited) → Clear (t ∷ us) (awaited.task ∷ more)
+    → (fault_of (form_among form.task_forms (fields_in t)) (fields_in t) ≡ None) × Clear us (one form.player_form ∷ awaited.entries (is_fork_line (fields_in t)) ∷ more)
+task_line_clear t us more c =
+    let ws : List Wanted = form_among form.task_forms (fields_in t) in (
+      clear_fields awaited.task more t us refl ws (fields_in t) behind_task refl c,
+      clear_line awaited.task more t us refl (one form.player_form ∷ awaited.entries (is_fork_line (fields_in t)) ∷ []) (clear_next awaited.task more t us refl ws (fields_in t) behind_task refl c) c,
+    )
+
+counted_entries_clear : (is_fork : Bool) (es : List Entry) (us : List Text) (more : List Awaited) → IsTrue (list_all entry_holds es) → length (each_entry es) < 2 ^ 63
+    → Clear (counted (codes "entries") (length es) ∷ (each_entry es ++ us)) (awaited.entries is_fork ∷ more) → IsTrue (list_all entry_near es) × Clear us more
+counted_entries_clear is_fork es us more h room c =
+    let n : ℕ = length es in
+    let many = as_many_entries es in
+    let behind : Clear (each_entry es ++ us) (entry is_fork 0 false n ∷ more) =
+    clear_line (awaited.entries is_fork) more (counted (codes "entries") n) (each_entry es ++ us) refl (entry is_fork 0 false n ∷ []) (entries_told is_fork n (omega (arith, many, room))) c in
+    let all : Left is_fork (each_entry es ++ us) n more = record { verbs = 0; is_behind = false; clear = behind } in
+    let there = entries_clear is_fork es us 0 more h room (subst (λ m. Left is_fork (each_entry es ++ us) m more) (no_more n) all) in
+    (there.0, clear_same (entry is_fork there.1.verbs there.1.is_behind 0 ∷ more) more us refl there.1.clear)
+  where
+    no_more : (m : ℕ) → m ≡ m + 0
+    no_more m = omega arith
+
 task_clear : (i : ℤ) (t : Task) (us : List Text) (more : List Awaited) → IsTrue (numbered_task_holds (i, t)) → length (task_lines i t) < 2 ^ 63 → Clear (task_lines i t ++ us) (awaited.task ∷ more)
     → IsTrue (task_near t) × Clear us more
 task_clear i t us more h room c =
     let holds = second_holds (in_number_range t.player) _ (second_holds (in_number_range i) (task_holds t) h) in
-    let many = as_many_entries t.entries in
-    let n : ℕ = length t.entries in
     let line : Text = fields (codes "task" ∷ signed_decimal i ∷ waiting_fields t.waiting) in
-    let behind : List Text = counted (codes "entries") n ∷ (each_entry t.entries ++ us) in
-    let player : List Text = fields (codes "player" ∷ object_text t.player ∷ []) ∷ behind in
-    let is_fork : Bool = is_fork_line (fields_in line) in
-    let none = clear_fields awaited.task more line player refl (form_among form.task_forms (fields_in line)) (fields_in line) behind_task refl c in
-    let says = clear_next awaited.task more line player refl (form_among form.task_forms (fields_in line)) (fields_in line) behind_task refl c in
-    let from_player : Clear player (one form.player_form ∷ awaited.entries is_fork ∷ more) = clear_line awaited.task more line player refl (one form.player_form ∷ awaited.entries is_fork ∷ []) says c in
-    let from_count : Clear behind (awaited.entries is_fork ∷ more) = past from_player in
-    let from_entries : Clear (each_entry t.entries ++ us) (entry is_fork 0 false n ∷ more) =
-    clear_line (awaited.entries is_fork) more (counted (codes "entries") n) (each_entry t.entries ++ us) refl (entry is_fork 0 false n ∷ []) (entries_told is_fork n (omega arith)) from_count in
-    let all : Left is_fork (each_entry t.entries ++ us) n more = record { verbs = 0; is_behind = false; clear = from_entries } in
-    let there = entries_clear is_fork t.entries us 0 more (second_holds (waiting_holds t.waiting) (list_all entry_holds t.entries) holds) (omega arith)
-    (subst (λ m. Left is_fork (each_entry t.entries ++ us) m more) (no_more n) all) in (
-      both_hold (waiting_near t.waiting) (list_all entry_near t.entries) (waits_near i t.waiting (first_holds (in_number_range i) (task_holds t) h) (first_holds (waiting_holds t.waiting) (list_all entry_holds t.entries) holds) none) there.0,
-      clear_same (entry is_fork there.1.verbs there.1.is_behind 0 ∷ more) more us refl there.1.clear,
-    )
-  where
-    no_more : (m : ℕ) → m ≡ m + 0
-    no_more m = omega arith
+    let behind : List Text = counted (codes "entries") (length t.entries) ∷ (each_entry t.entries ++ us) in
+    let from_player = task_line_clear line (fields (codes "player" ∷ object_text t.player ∷ []) ∷ behind) more c in
+    let there = counted_entries_clear (is_fork_line (fields_in line)) t.entries us more (second_holds (waiting_holds t.waiting) (list_all entry_holds t.entries) holds) (omega arith) (past from_player.1) in
+    let waits = waits_near i t.waiting (first_holds (in_number_range i) (task_holds t) h) (first_holds (waiting_holds t.waiting) (list_all entry_holds t.entries) holds) from_player.0 in
+    (both_hold (waiting_near t.waiting) (list_all entry_near t.entries) waits there.0, there.1)
 
 pub tasks_clear : (es : Numbered Task) (us : List Text) (more : List Awaited) → IsTrue (list_all numbered_task_holds es) → length (each_task es) < 2 ^ 63
     → Clear (each_task es ++ us) (again (length es) awaited.each_task ∷ more) → IsTrue (list_all (λ e. task_near e.1) es) × Clear us more

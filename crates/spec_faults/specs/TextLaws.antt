@@ -32,7 +32,7 @@ WorldsHaveNone = (w : World) → IsTold w → first_fault (checkpoint_text w) �
 abbrev pub WorldsHaveNoFault : Type 0
 WorldsHaveNoFault = (w : World) (f : LineFault) → IsTold w → IsFirstFault (checkpoint_text w) f → ⊥
 
--- and it is that of no well-formed world of values beyond the reach of readers
+-- and a well-formed world of values whose text has none is in reach of readers
 abbrev pub OnlyReachHasNone : Type 0
 OnlyReachHasNone = (w : World) → IsWellFormed w → IsTrue (world_holds w) → length (checkpoint_text w) < 2 ^ 63 → first_fault (checkpoint_text w) ≡ None → IsTrue (is_in_reach w)
 

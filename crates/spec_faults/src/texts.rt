@@ -20,7 +20,8 @@ pub fn worlds()
 
 ghost use Rattle.spec_faults.specs.TextLaws.{OnlyReachHasNone};
 
-/// And where the text of a well-formed world of values has none, its values nest no deeper, and its verbs want such sets.
+/// Only the texts of such worlds have none: where no line of the text of a well-formed world of values has a fault, its values nest no deeper than
+/// values are read, and its verbs want sets of prepositions that there are.
 #[tactic(auto, using(crate::proofs::InReach::only_reach_has_none))]
 pub fn reach()
     ensures { OnlyReachHasNone }

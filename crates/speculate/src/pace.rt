@@ -3,7 +3,8 @@ ghost use Rattle.std.specs.Prelude.{◌≤◌, ◌<◌};
 
 use std::time::Instant;
 
-// Several workers play so many steps at first; then so many, and twice as many each time up to the most.
+// Several workers play so many steps in each try; as long as they are the quicker they then play so many, and twice as many each time up to the
+// most.
 const FIRST: usize = 512;
 
 const TOGETHER: usize = 4096;
@@ -132,8 +133,9 @@ impl Pace {
         }
     }
 
-    // Several were slower than one: one goes on for a while.
+    // Several were slower than one: one goes on for a while, and the next try is a short one.
     fn begin_rest(&mut self) {
+        self.next_together = FIRST;
         self.rest = self.next_rest;
         self.next_rest = self.next_rest.saturating_mul(2);
     }
@@ -147,7 +149,7 @@ impl Pace {
     }
 }
 
-// How many nanoseconds lie between two moments: very many where they are not known, so that several workers go on.
+// How many nanoseconds lie between two moments: very many where they are not known. Then several workers and one take turns.
 fn nanoseconds(start: Option<Instant>, end: Option<Instant>) -> u64 {
     match (start, end) {
         (Some(start), Some(end)) => {

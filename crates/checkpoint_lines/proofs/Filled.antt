@@ -13,7 +13,7 @@ use Rattle.spec_checkpoint.proofs.Numbers.{small}
 use Rattle.spec_checkpoint.proofs.ValuesUnbroken.{line_then, value_line}
 use Rattle.line_fields.specs.Fields.{Field, word, held, spelled, all_spelled, is_plain, is_word, is_field, are_fields}
 use Rattle.line_fields.proofs.Words.{are_plain}
-use Rattle.checkpoint_lines.specs.Rows.{field_at, is_filled}
+use Rattle.spec_faults.specs.Cutting.{field_at, is_filled}
 
 -- ---- no line end
 

@@ -1,5 +1,5 @@
 -- A line's fields, and what is left of a text, as lines.
-use Rattle.std.specs.Prelude.{◌≡◌, ◌<◌, ◌^◌, ℕ, zero, suc, length, Bool, true, false, List, [], ◌∷◌, map, Result}
+use Rattle.std.specs.Prelude.{◌≡◌, ◌<◌, ◌^◌, length, List, map, Result}
 use Rattle.spec_value.specs.Datum.{Text}
 use Rattle.spec_world.specs.Checkpoint.{with_line_ends}
 use Rattle.checkpoint_lines.specs.declared.fault.DecodeError.{DecodeError}
@@ -9,16 +9,6 @@ use Rattle.checkpoint_lines.specs.declared.lines.Lines.{Lines}
 
 abbrev pub row_fields : Row → List Text
 row_fields r = map (λ b. b.now) r.fields.items
-
--- where no field is, it counts as one without a character
-abbrev pub field_at : List Text → ℕ → Text
-field_at [] n = []
-field_at (t ∷ ts) zero = t
-field_at (t ∷ ts) (suc n) = field_at ts n
-
-abbrev pub is_filled : Text → Bool
-is_filled [] = false
-is_filled (c ∷ t) = true
 
 -- these lines are left, and no more than a machine can hold
 abbrev pub Left : Lines → List Text → Type 0

@@ -6,7 +6,8 @@ ghost use Rattle.spec_world.specs.World.{Slot as Meant};
 ghost use Rattle.spec_world.specs.Checkpoint.{counted, content_text};
 ghost use Rattle.spec_checkpoint.specs.Holding.{content_holds};
 ghost use Rattle.checkpoint_lines.specs.Gives.{Gives};
-ghost use Rattle.checkpoint_lines.specs.Rows.{row_fields, field_at, Left, Reads};
+ghost use Rattle.checkpoint_lines.specs.Rows.{row_fields, Left, Reads};
+ghost use Rattle.spec_faults.specs.Cutting.{field_at};
 ghost use Rattle.object_lines.specs.Readable.{is_content_read, is_slot_read};
 ghost use Rattle.object_lines.specs.Parts.{one_slot_line, each_slot};
 

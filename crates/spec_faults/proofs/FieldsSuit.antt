@@ -48,7 +48,7 @@ a_count n h = a_number 0 9223372036854775807 n (omega arith) (in_count n h)
 pub count_said : (n : ℕ) → n < 2 ^ 63 → number_in (decimal n) ≡ n
 count_said n h = ap or_zero (numbers_told n (omega arith))
 
-signed_filled : (z : ℤ) → IsTrue (in_number_range z) → IsTrue (is_filled (signed_decimal z))
+pub signed_filled : (z : ℤ) → IsTrue (in_number_range z) → IsTrue (is_filled (signed_decimal z))
 signed_filled (pos n) h = filled (decimal n) (decimal_nonempty n (small n h))
 signed_filled (negsuc n) h = refl
 

@@ -14,3 +14,8 @@ pub mod WorldsFine
 pub mod FixtureTold
 pub mod Staying
 pub mod OutOfOrder
+pub mod Clear
+pub mod NearFields
+pub mod NearSlots
+pub mod NearTasks
+pub mod InReach

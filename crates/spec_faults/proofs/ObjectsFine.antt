@@ -37,12 +37,13 @@ use Rattle.spec_faults.proofs.Entering.{EachIs}
 pub fine_one : (ws : List Wanted) (t : Text) (ts us : List Text) (more : List Awaited) → AllSuit ws (t ∷ ts) → Fine us more → Fine (fields (t ∷ ts) ∷ us) (one ws ∷ more)
 fine_one ws t ts us more s f = fine_line (one ws) [] more (fields (t ∷ ts)) us refl (one_told ws t ts s) f
 
+pub counted_told : (w : Text) (g : Group) (n : ℕ) → IsTrue (list_all is_unmarked w) → IsTrue (is_filled w) → n < 2 ^ 63 → told (awaited.counted w g) (counted w n) ≡ goes_on (again n g ∷ [])
+counted_told w g n h k l =
+    form_told (form.counted_form w) w (decimal n ∷ []) (λ ts. goes_on (again (number_in (field_at ts 1)) g ∷ [])) (a_word w h k, (a_count n l, tt)) ∙ ap (λ m. goes_on (again m g ∷ [])) (count_said n l)
+
 pub fine_counted : (w : Text) (g : Group) (n : ℕ) (us : List Text) (more : List Awaited) → IsTrue (list_all is_unmarked w) → IsTrue (is_filled w) → n < 2 ^ 63
     → Fine us (again n g ∷ more) → Fine (counted w n ∷ us) (awaited.counted w g ∷ more)
-fine_counted w g n us more h k l f =
-    fine_line (awaited.counted w g) (again n g ∷ []) more (counted w n) us refl
-    (form_told (form.counted_form w) w (decimal n ∷ []) (λ ts. goes_on (again (number_in (field_at ts 1)) g ∷ [])) (a_word w h k, (a_count n l, tt)) ∙ ap (λ m. goes_on (again m g ∷ [])) (count_said n l))
-    f
+fine_counted w g n us more h k l f = fine_line (awaited.counted w g) (again n g ∷ []) more (counted w n) us refl (counted_told w g n h k l) f
 
 -- ---- links
 
@@ -58,7 +59,7 @@ links_told [] h l = tt
 links_told (e ∷ es) h l =
     told_then form.link_form (link_lines (e ∷ [])) (link_lines es) (link_told e.0 e.1 h.0 (first_holds (link_holds e) (list_all link_holds es) l)) (links_told es h.1 (second_holds (link_holds e) (list_all link_holds es) l))
 
-as_many_links : (es : Numbered Link) → length (link_lines es) ≡ length es
+pub as_many_links : (es : Numbered Link) → length (link_lines es) ≡ length es
 as_many_links [] = refl
 as_many_links (e ∷ es) = ap suc (as_many_links es)
 
@@ -137,7 +138,7 @@ code_fine whose p us more h f = code_there whose p (canonical_lines p) us more (
 
 -- ---- verbs
 
-verb_told : (v : Verb) (n : ℕ) → IsTrue (verb_holds v) → IsTrue (preposition_near v.preposition) → n < 2 ^ 63 → told awaited.verb (verb_line v n) ≡ goes_on (code n [] of_verb ∷ [])
+pub verb_told : (v : Verb) (n : ℕ) → IsTrue (verb_holds v) → IsTrue (preposition_near v.preposition) → n < 2 ^ 63 → told awaited.verb (verb_line v n) ≡ goes_on (code n [] of_verb ∷ [])
 verb_told v n h k l =
     form_told form.verb_form (codes "verb") (literal (text v.names) ∷ object_text v.owner ∷ verb_bits v ∷ part_text v.direct ∷ preposition_number v.preposition ∷ part_text v.indirect ∷ decimal n ∷ [])
     (λ ts. goes_on (code (number_in (field_at ts 7)) [] of_verb ∷ [])) (a_word (codes "verb") refl refl, (a_string v.names (first_holds (is_text v.names) _ h), (an_object v.owner (first_holds (in_number_range v.owner) _ (second_holds (is_text v.names) _ h)), (verb_bits_suit v, (part_suits v.direct, (preposition_suits v.preposition k, (part_suits v.indirect, (a_count n l, tt))))))))
@@ -159,7 +160,7 @@ verbs_fine (v ∷ vs) us more h k l f =
     (verb_told v n here (first_holds (preposition_near v.preposition) _ k) (omega arith))
     (subst (λ ts. Fine ts (code n [] of_verb ∷ again (length vs) awaited.each_verb ∷ more)) (sym (append_assoc (canonical_lines v.program) (each_verb vs) us)) below))
 
-as_many_verbs : (vs : List Verb) → length vs ≤ length (each_verb vs)
+pub as_many_verbs : (vs : List Verb) → length vs ≤ length (each_verb vs)
 as_many_verbs [] = omega arith
 as_many_verbs (v ∷ vs) = let later = as_many_verbs vs in let room = length-append (canonical_lines v.program) (each_verb vs) in omega (arith, later, room)
 

@@ -25,7 +25,7 @@ AllSuit [] [] = Unit {0}
 AllSuit (w ∷ ws) (t ∷ ts) = Suits w t × AllSuit ws ts
 AllSuit _ _ = ⊥
 
-are_fields : (ws : List Wanted) (ts : List Text) → AllSuit ws ts → AreFields ts
+pub are_fields : (ws : List Wanted) (ts : List Text) → AllSuit ws ts → AreFields ts
 are_fields [] [] s = tt
 are_fields [] (t ∷ ts) s = absurd s
 are_fields (w ∷ ws) [] s = absurd s

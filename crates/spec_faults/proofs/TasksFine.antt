@@ -46,7 +46,7 @@ use Rattle.spec_faults.proofs.Helds.{place_suits, place_said, holds_of, call_hol
 has_it : (ws : List Wanted) (more : List (List Wanted)) (ts : List Text) → AllSuit ws ts → form_among (ws ∷ more) ts ≡ ws
 has_it ws more ts s = ap (λ b. or_else b ws (form_among more ts)) (form_had ws ts s)
 
-has_not : (ws : List Wanted) (more : List (List Wanted)) (ts : List Text) → has_form ws ts ≡ false → form_among (ws ∷ more) ts ≡ form_among more ts
+pub has_not : (ws : List Wanted) (more : List (List Wanted)) (ts : List Text) → has_form ws ts ≡ false → form_among (ws ∷ more) ts ≡ form_among more ts
 has_not ws more ts e = ap (λ b. or_else b ws (form_among more ts)) e
 
 never : (b : Bool) → (b && false) ≡ false
@@ -61,16 +61,16 @@ form_found forms ws t ts next s e =
 
 -- ---- how a task waits
 
-abbrev fork_form : List Wanted
+abbrev pub fork_form : List Wanted
 fork_form = word (codes "task") ∷ form.task_id ∷ word (codes "fork") ∷ form.moment ∷ []
 
-abbrev wait_form : List Wanted
+abbrev pub wait_form : List Wanted
 wait_form = word (codes "task") ∷ form.task_id ∷ word (codes "wait") ∷ form.moment ∷ form.literal ∷ []
 
-abbrev idle_form : List Wanted
+abbrev pub idle_form : List Wanted
 idle_form = word (codes "task") ∷ form.task_id ∷ word (codes "idle") ∷ []
 
-abbrev read_form : List Wanted
+abbrev pub read_form : List Wanted
 read_form = word (codes "task") ∷ form.task_id ∷ word (codes "read") ∷ form.connection ∷ []
 
 abbrev pub IsTaskId : ℤ → Type 0
@@ -103,7 +103,7 @@ WaitsSo (timed due v) = IsTrue (is_moment due) × IsTrue (is_value v) × IsTrue 
 WaitsSo idle = Unit {0}
 WaitsSo (reading_on c) = IsTrue (is_connection c) × IsTrue (in_number_range c)
 
-abbrev behind_task : List Text → Verdict
+abbrev pub behind_task : List Text → Verdict
 behind_task ts = goes_on (one form.player_form ∷ awaited.entries (is_fork_line ts) ∷ [])
 
 not_fork : (n : ℕ) (c : ℤ) → has_form fork_form (codes "task" ∷ decimal n ∷ codes "read" ∷ signed_decimal c ∷ []) ≡ false
@@ -143,9 +143,9 @@ call_fields c n = object_text c.this ∷ object_text c.caller ∷ object_text c.
 entry_forms : List (List Wanted)
 entry_forms = form.frame_form ∷ form.native_form ∷ []
 
-call_told : (is_fork : Bool) (verbs : ℕ) (is_behind : Bool) (more : ℕ) (c : Call) (n : ℕ) → IsTrue (call_holds c) → n < 2 ^ 63 → IsTrue (verb_may_stand is_fork verbs)
-    → told (entry is_fork verbs is_behind (suc more)) (call_line c n) ≡ goes_on (code n [] (of_frame is_fork) ∷ entry is_fork (suc verbs) false more ∷ [])
-call_told is_fork verbs is_behind more c n h k l =
+pub call_said : (is_fork : Bool) (verbs : ℕ) (is_behind : Bool) (more : ℕ) (c : Call) (n : ℕ) → IsTrue (call_holds c) → n < 2 ^ 63
+    → told (entry is_fork verbs is_behind (suc more)) (call_line c n) ≡ only_if (verb_may_stand is_fork verbs) fault.frame (code n [] (of_frame is_fork) ∷ entry is_fork (suc verbs) false more ∷ [])
+call_said is_fork verbs is_behind more c n h k =
     let h1 = second_holds (in_number_range c.this) _ h in
     let h2 = second_holds (in_number_range c.caller) _ h1 in
     let h3 = second_holds (in_number_range c.definer) _ h2 in
@@ -167,8 +167,12 @@ call_told is_fork verbs is_behind more c n h k l =
     ) in
     form_found (form.frame_form ∷ form.native_form ∷ []) form.frame_form (codes "frame") (call_fields c n)
     (λ ts. one_entry is_fork verbs is_behind more (same_text (field_at ts 0) (codes "frame")) ts) s (has_it form.frame_form (form.native_form ∷ []) (codes "frame" ∷ call_fields c n) s)
-    ∙ ap (λ b. only_if b fault.frame (code (number_in (decimal n)) [] (of_frame is_fork) ∷ entry is_fork (suc verbs) false more ∷ [])) l
-    ∙ ap (λ m. goes_on (code m [] (of_frame is_fork) ∷ entry is_fork (suc verbs) false more ∷ [])) (count_said n k)
+    ∙ ap (λ m. only_if (verb_may_stand is_fork verbs) fault.frame (code m [] (of_frame is_fork) ∷ entry is_fork (suc verbs) false more ∷ [])) (count_said n k)
+
+call_told : (is_fork : Bool) (verbs : ℕ) (is_behind : Bool) (more : ℕ) (c : Call) (n : ℕ) → IsTrue (call_holds c) → n < 2 ^ 63 → IsTrue (verb_may_stand is_fork verbs)
+    → told (entry is_fork verbs is_behind (suc more)) (call_line c n) ≡ goes_on (code n [] (of_frame is_fork) ∷ entry is_fork (suc verbs) false more ∷ [])
+call_told is_fork verbs is_behind more c n h k l =
+    call_said is_fork verbs is_behind more c n h k ∙ ap (λ b. only_if b fault.frame (code n [] (of_frame is_fork) ∷ entry is_fork (suc verbs) false more ∷ [])) l
 
 variable_told : (e : Text × Datum) → IsTrue (is_text e.0) → IsTrue (is_value e.1) → IsTrue (is_near e.1) → told (one form.variable_form) (fields (codes "var" ∷ literal (text e.0) ∷ literal e.1 ∷ [])) ≡ goes_on []
 variable_told e h k l = one_told form.variable_form (codes "var") (literal (text e.0) ∷ literal e.1 ∷ []) (a_word (codes "var") refl refl, (a_string e.0 h, (a_value any e.1 k l refl, tt)))
@@ -181,11 +185,11 @@ variables_told (e ∷ es) h k =
       variables_told es (second_holds (is_text e.0 && is_value e.1) (list_all (λ d. is_text d.0 && is_value d.1) es) h) (second_holds (is_near e.1) _ k),
     )
 
-as_many_variables : (es : Named Datum) → length (variable_lines es) ≡ length es
+pub as_many_variables : (es : Named Datum) → length (variable_lines es) ≡ length es
 as_many_variables [] = refl
 as_many_variables (e ∷ es) = ap suc (as_many_variables es)
 
-as_many_values : (vs : List Datum) → length (literal_lines vs) ≡ length vs
+pub as_many_values : (vs : List Datum) → length (literal_lines vs) ≡ length vs
 as_many_values [] = refl
 as_many_values (v ∷ vs) = ap suc (as_many_values vs)
 
@@ -198,10 +202,13 @@ place_told is_fork p ps hs h e =
     form_told form.place_form (codes "place") (path (part_numbers ps) ∷ []) (λ ts. behind_place (holds_at is_fork p (path_in (field_at ts 1)))) (a_word (codes "place") refl refl, (place_suits ps h, tt))
     ∙ ap (λ ns. behind_place (holds_at is_fork p ns)) (place_said ps h) ∙ ap behind_place e
 
-held_told : (hs : List (ℕ × Holds)) (n : ℕ) → n < 2 ^ 63 → total hs ≡ n → told (held hs) (counted (codes "held") n) ≡ goes_on (each_held hs)
-held_told hs n h e =
+pub held_said : (hs : List (ℕ × Holds)) (n : ℕ) → n < 2 ^ 63 → told (held hs) (counted (codes "held") n) ≡ only_if (n == total hs) fault.frame (each_held hs)
+held_said hs n h =
     form_told (form.counted_form (codes "held")) (codes "held") (decimal n ∷ []) (λ ts. only_if (number_in (field_at ts 1) == total hs) fault.frame (each_held hs)) (a_word (codes "held") refl refl, (a_count n h, tt))
-    ∙ ap (λ m. only_if (m == total hs) fault.frame (each_held hs)) (count_said n h) ∙ ap (λ b. only_if b fault.frame (each_held hs)) (eq-eqb n (total hs) (sym e))
+    ∙ ap (λ m. only_if (m == total hs) fault.frame (each_held hs)) (count_said n h)
+
+held_told : (hs : List (ℕ × Holds)) (n : ℕ) → n < 2 ^ 63 → total hs ≡ n → told (held hs) (counted (codes "held") n) ≡ goes_on (each_held hs)
+held_told hs n h e = held_said hs n h ∙ ap (λ b. only_if b fault.frame (each_held hs)) (eq-eqb n (total hs) (sym e))
 
 -- where it stands, and what it holds there
 pub record Stands (is_fork : Bool) (f : Frame) (hs : List (ℕ × Holds)) : Type 0 where
@@ -429,12 +436,12 @@ entries_fine true es us more a h k fit room f = fork_fine es us more a h k room 
 entries_fine false es us more a h k fit room f =
     moved (length es + 0) (length es) 0 (each_entry es ++ us) false more (omega arith) (calls_fine es us 0 more a.0 a.1 a.2 h k fit room (none_left false (frames es) (behind_native es) us more f))
 
-as_many_entries : (es : List Entry) → length es ≤ length (each_entry es)
+pub as_many_entries : (es : List Entry) → length es ≤ length (each_entry es)
 as_many_entries [] = omega arith
 as_many_entries (frame_entry f ∷ es) = let later = as_many_entries es in let parts = length-append (each_entry es) (frame_lines f) in omega (arith, later, parts)
 as_many_entries (native_entry n ∷ es) = let later = as_many_entries es in let parts = length-append (each_entry es) (entry_lines (native_entry n)) in omega (arith, later, parts)
 
-entries_told : (is_fork : Bool) (n : ℕ) → n < 2 ^ 63 → told (awaited.entries is_fork) (counted (codes "entries") n) ≡ goes_on (entry is_fork 0 false n ∷ [])
+pub entries_told : (is_fork : Bool) (n : ℕ) → n < 2 ^ 63 → told (awaited.entries is_fork) (counted (codes "entries") n) ≡ goes_on (entry is_fork 0 false n ∷ [])
 entries_told is_fork n h =
     form_told (form.counted_form (codes "entries")) (codes "entries") (decimal n ∷ []) (λ ts. goes_on (entry is_fork 0 false (number_in (field_at ts 1)) ∷ [])) (a_word (codes "entries") refl refl, (a_count n h, tt))
     ∙ ap (λ m. goes_on (entry is_fork 0 false m ∷ [])) (count_said n h)

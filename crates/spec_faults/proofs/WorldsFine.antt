@@ -1,5 +1,5 @@
 -- The text of a world has no fault.
-use Rattle.std.proofs.Common.{◌≡◌, inl, inr, ℕ, suc, ◌-◌, ◌*◌, ◌<◌, ◌≤◌, ◌^◌, ◌&&◌, nat_le, ℤ, pos, negsuc, neg_ℤ, int_le, false, List, [], ◌∷◌, ◌++◌, length, codes, Option, Some, None, IsTrue, refl, ap, sym, ◌∙◌, arith, length-append, leb-true}
+use Rattle.std.proofs.Common.{◌≡◌, inl, inr, ℕ, ◌-◌, ◌*◌, ◌<◌, ◌≤◌, ◌^◌, ◌&&◌, nat_le, ℤ, pos, negsuc, neg_ℤ, int_le, false, List, [], ◌∷◌, ◌++◌, length, codes, Option, Some, None, IsTrue, refl, ap, sym, ◌∙◌, arith, length-append, leb-true}
 use Rattle.std.specs.Prelude.{is_some}
 use Rattle.std.proofs.lemmas.Bool.{le-leb}
 use Rattle.std.proofs.lemmas.List.{append-nil}
@@ -26,7 +26,7 @@ use Rattle.spec_faults.proofs.LinesBack.{lines_told}
 use Rattle.spec_faults.proofs.FieldsSuit.{a_word, a_number, an_integer, a_flag}
 use Rattle.spec_faults.proofs.Fine.{Fine, fine_line}
 use Rattle.spec_faults.proofs.Entering.{each_is}
-use Rattle.spec_faults.proofs.ObjectsFine.{fine_one, fine_counted, links_fine, in_range, IsNumber, objects_fine, as_many_objects}
+use Rattle.spec_faults.proofs.ObjectsFine.{fine_one, fine_counted, as_many_links, links_fine, in_range, IsNumber, objects_fine, as_many_objects}
 use Rattle.spec_faults.proofs.TasksFine.{IsTaskId, is_forked, WaitsSo, EntriesAre, TaskIs, tasks_fine, as_many_tasks}
 
 -- ---- its tasks
@@ -84,13 +84,9 @@ object_is w wf o x is =
 
 -- ---- as many lines as characters at most
 
-lines_short : (ts : List Text) → length ts ≤ length (with_line_ends ts)
+pub lines_short : (ts : List Text) → length ts ≤ length (with_line_ends ts)
 lines_short [] = omega arith
 lines_short (t ∷ ts) = let later = lines_short ts in let parts = length-append t (10 ∷ with_line_ends ts) in omega (arith, later, parts)
-
-as_many_links : (es : List (ℤ × Link)) → length (link_lines es) ≡ length es
-as_many_links [] = refl
-as_many_links (e ∷ es) = ap suc (as_many_links es)
 
 -- ---- all lines
 

@@ -32,6 +32,10 @@ WorldsHaveNone = (w : World) → IsTold w → first_fault (checkpoint_text w) �
 abbrev pub WorldsHaveNoFault : Type 0
 WorldsHaveNoFault = (w : World) (f : LineFault) → IsTold w → IsFirstFault (checkpoint_text w) f → ⊥
 
+-- and a well-formed world of values whose text has none is in reach of readers
+abbrev pub OnlyReachHasNone : Type 0
+OnlyReachHasNone = (w : World) → IsWellFormed w → IsTrue (world_holds w) → length (checkpoint_text w) < 2 ^ 63 → first_fault (checkpoint_text w) ≡ None → IsTrue (is_in_reach w)
+
 -- a text that begins a world's has no fault but that it ends
 abbrev pub BeginningsEnd : Type 0
 BeginningsEnd = (w : World) (t r : Text) (f : LineFault) → IsTold w → checkpoint_text w ≡ t ++ r → first_fault t ≡ Some f → f.kind ≡ fault.ended

@@ -18,6 +18,15 @@ pub fn worlds()
     ensures none { WorldsHaveNoFault }
 {}
 
+ghost use Rattle.spec_faults.specs.TextLaws.{OnlyReachHasNone};
+
+/// Only the texts of such worlds have none: where no line of the text of a well-formed world of values has a fault, its values nest no deeper than
+/// values are read, and its verbs want sets of prepositions that there are.
+#[tactic(auto, using(crate::proofs::InReach::only_reach_has_none))]
+pub fn reach()
+    ensures { OnlyReachHasNone }
+{}
+
 ghost use Rattle.spec_faults.specs.TextLaws.{BeginningsEnd};
 
 /// A text that begins the text of such a world has no fault but that it ends.

@@ -8,7 +8,7 @@ use Rattle.spec_world.specs.Checkpoint.{fields, entry_lines}
 use Rattle.moo_task.specs.declared.native.Native.{Native as StoredNative}
 use Rattle.moo_task.specs.Frames.{native_of}
 use Rattle.line_fields.specs.Fields.{Field, word, all_spelled, are_fields}
-use Rattle.checkpoint_lines.specs.Rows.{field_at}
+use Rattle.spec_faults.specs.Cutting.{field_at}
 use Rattle.task_lines.specs.declared.entry.Begun.{Begun}
 use Rattle.task_lines.specs.declared.entry.Begun.TheVariants.{Verb, Native as NativeBegun}
 use Rattle.task_lines.specs.declared.head.Head.{Head}

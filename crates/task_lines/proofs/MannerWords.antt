@@ -11,7 +11,7 @@ use Rattle.moo_task.specs.Frames.{native_name_of}
 use Rattle.moo_task.specs.declared.native.NativeName.{NativeName}
 use Rattle.moo_task.specs.declared.native.NativeName.TheVariants.{Move, Create, Recycle, Eval}
 use Rattle.line_fields.specs.Values.{is_readable}
-use Rattle.checkpoint_lines.specs.Rows.{field_at}
+use Rattle.spec_faults.specs.Cutting.{field_at}
 use Rattle.task_lines.specs.declared.waiting.Manner.TheVariants.{Fork, Wait, Idle, Read}
 use Rattle.task_lines.specs.Entries.{own_fields}
 use Rattle.task_lines.specs.Manners.{manner_for, manner_in, fields_of, name_in}

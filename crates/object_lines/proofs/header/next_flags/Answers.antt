@@ -4,7 +4,8 @@ use Rattle.spec_world.specs.Checkpoint.{flags_text}
 use Rattle.line_fields.specs.Bits.{flags_of}
 use Rattle.line_fields.specs.Fields.{word, is_field}
 use Rattle.line_fields.proofs.Words.{word_flags}
-use Rattle.checkpoint_lines.specs.Rows.{field_at, Left}
+use Rattle.checkpoint_lines.specs.Rows.{Left}
+use Rattle.spec_faults.specs.Cutting.{field_at}
 use Rattle.checkpoint_lines.proofs.Giving.{gives_ok}
 use Rattle.std.proofs.lemmas.Result.{err_from_is_err_and}
 use Rattle.checkpoint_lines.proofs.Giving.{gives_passed}

@@ -1,6 +1,6 @@
 use Rattle.std.proofs.Common.{rules, w32, SFits, to_z, of_z, ◌≡◌, refl, ap, sym, ◌∙◌}
 use Rattle.spec_world.specs.Checkpoint.{programming_held}
-use Rattle.checkpoint_lines.specs.Rows.{field_at}
+use Rattle.spec_faults.specs.Cutting.{field_at}
 use Rattle.object_lines.proofs.Ranges.{connection_number}
 use Rattle.object_lines.proofs.HeldParts.{nothing_is, programming_is, never_other}
 use Rattle.object_lines.proofs.Rows.{link_row, link_connection, link_number, link_person, link_value, link_fields}

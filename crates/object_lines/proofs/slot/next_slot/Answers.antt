@@ -1,6 +1,7 @@
 use Rattle.std.proofs.Common.{rules, w32, SFits, to_z, of_z, ◌≡◌, ◌∷◌, refl, ap, sym, subst, ◌∙◌}
 use Rattle.line_fields.specs.Bits.{bits_of_slot}
-use Rattle.checkpoint_lines.specs.Rows.{field_at, Left}
+use Rattle.checkpoint_lines.specs.Rows.{Left}
+use Rattle.spec_faults.specs.Cutting.{field_at}
 use Rattle.object_lines.proofs.Rows.{content_spelled, slot_row, slot_spelled, slot_owner, slot_content, slot_nests, slot_fields}
 use Rattle.std.proofs.lemmas.Int.{to_z-of_z}
 use Rattle.std.proofs.lemmas.Result.{err_from_is_err_and}

@@ -3,7 +3,7 @@ use Rattle.std.proofs.lemmas.Int.{to_z-of_z}
 use Rattle.std.proofs.lemmas.Result.{err_from_is_err_and}
 use Rattle.spec_value.specs.Datum.{in_number_range, is_text}
 use Rattle.spec_value.proofs.Entries.{first_holds, second_holds}
-use Rattle.checkpoint_lines.specs.Rows.{field_at}
+use Rattle.spec_faults.specs.Cutting.{field_at}
 use Rattle.checkpoint_lines.proofs.Giving.{gives_passed}
 use Rattle.task_lines.proofs.head.frame_head.Goals as goal
 

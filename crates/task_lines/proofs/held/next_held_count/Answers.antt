@@ -4,7 +4,7 @@ use Rattle.std.proofs.lemmas.Result.{err_from_is_err_and}
 use Rattle.spec_value.proofs.Entries.{both_hold}
 use Rattle.line_fields.specs.Fields.{word, is_field}
 use Rattle.line_fields.proofs.Words.{word_decimal}
-use Rattle.checkpoint_lines.specs.Rows.{field_at}
+use Rattle.spec_faults.specs.Cutting.{field_at}
 use Rattle.checkpoint_lines.proofs.Giving.{gives_passed}
 use Rattle.task_lines.proofs.held.next_held_count.Goals as goal
 

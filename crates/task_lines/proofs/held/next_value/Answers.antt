@@ -6,7 +6,7 @@ use Rattle.spec_value.proofs.Entries.{first_holds, both_hold}
 use Rattle.held_values.specs.Wanted.{wanted_fits}
 use Rattle.line_fields.specs.Fields.{held}
 use Rattle.line_fields.specs.Values.{nests_no_deeper}
-use Rattle.checkpoint_lines.specs.Rows.{field_at}
+use Rattle.spec_faults.specs.Cutting.{field_at}
 use Rattle.checkpoint_lines.proofs.Giving.{gives_passed}
 use Rattle.task_lines.proofs.held.next_value.Goals as goal
 

@@ -2,7 +2,7 @@ use Rattle.std.proofs.Common.{◌≡◌, ap, sym, ◌∙◌}
 use Rattle.spec_value.specs.Datum.{list, of_list}
 use Rattle.spec_world.specs.Checkpoint.{native_text}
 use Rattle.line_fields.proofs.Lists.{items_same}
-use Rattle.checkpoint_lines.specs.Rows.{field_at}
+use Rattle.spec_faults.specs.Cutting.{field_at}
 use Rattle.moo_task.specs.Frames.{native_name_of}
 use Rattle.task_lines.proofs.LineWords.{native_stage}
 use Rattle.task_lines.proofs.MannerWords.{stored_name}

@@ -5,7 +5,7 @@ use Rattle.moo_code.specs.Paths.{path_of}
 use Rattle.tree_parts.proofs.Told.{numbers_told}
 use Rattle.line_fields.specs.Fields.{word, is_field, is_word}
 use Rattle.line_fields.proofs.Words.{word_path}
-use Rattle.checkpoint_lines.specs.Rows.{field_at}
+use Rattle.spec_faults.specs.Cutting.{field_at}
 use Rattle.checkpoint_lines.proofs.Giving.{gives_and, gives_found}
 use Rattle.std.proofs.lemmas.Result.{err_from_is_err_and}
 use Rattle.checkpoint_lines.proofs.Giving.{gives_passed}

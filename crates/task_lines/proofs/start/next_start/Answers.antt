@@ -3,7 +3,7 @@ use Rattle.std.proofs.lemmas.Result.{err_from_is_err_and}
 use Rattle.spec_value.specs.Datum.{list, of_list}
 use Rattle.spec_world.specs.Checkpoint.{start_values}
 use Rattle.line_fields.specs.Fields.{held}
-use Rattle.checkpoint_lines.specs.Rows.{field_at}
+use Rattle.spec_faults.specs.Cutting.{field_at}
 use Rattle.checkpoint_lines.proofs.Giving.{gives_passed}
 use Rattle.task_lines.proofs.LineWords.{start_are, start_readable}
 use Rattle.task_lines.proofs.start.next_start.Goals as goal

@@ -3,7 +3,7 @@ use Rattle.std.proofs.lemmas.Result.{err_from_is_err_and}
 use Rattle.spec_value.proofs.Entries.{first_holds, second_holds}
 use Rattle.spec_value.specs.Datum.{is_text}
 use Rattle.line_fields.specs.Values.{is_readable}
-use Rattle.checkpoint_lines.specs.Rows.{field_at}
+use Rattle.spec_faults.specs.Cutting.{field_at}
 use Rattle.checkpoint_lines.proofs.Giving.{gives_passed}
 use Rattle.task_lines.proofs.LineWords.{variable_words, variable_are}
 use Rattle.task_lines.proofs.variables.next_variable.Goals as goal

@@ -4,7 +4,8 @@ use Rattle.std.proofs.lemmas.Int.{to_z-of_z}
 use Rattle.std.proofs.lemmas.Result.{err_from_is_err_and}
 use Rattle.spec_world.specs.Checkpoint.{fields}
 use Rattle.line_fields.specs.Fields.{word}
-use Rattle.checkpoint_lines.specs.Rows.{field_at, row_fields, Left}
+use Rattle.checkpoint_lines.specs.Rows.{row_fields, Left}
+use Rattle.spec_faults.specs.Cutting.{field_at}
 use Rattle.checkpoint_lines.proofs.Giving.{gives_passed}
 use Rattle.task_lines.specs.Entries.{own_fields}
 use Rattle.task_lines.specs.Manners.{manner_for}

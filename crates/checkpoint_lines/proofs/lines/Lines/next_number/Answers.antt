@@ -3,7 +3,8 @@ use Rattle.std.specs.Fmt.{decimal}
 use Rattle.spec_value.proofs.Entries.{both_hold}
 use Rattle.line_fields.specs.Fields.{word, is_field}
 use Rattle.line_fields.proofs.Words.{word_decimal}
-use Rattle.checkpoint_lines.specs.Rows.{field_at, Left}
+use Rattle.checkpoint_lines.specs.Rows.{Left}
+use Rattle.spec_faults.specs.Cutting.{field_at}
 use Rattle.std.proofs.lemmas.Result.{err_from_is_err_and}
 use Rattle.checkpoint_lines.proofs.Giving.{gives_ok, gives_passed}
 use Rattle.checkpoint_lines.proofs.lines.Lines.next_number.Goals as goal

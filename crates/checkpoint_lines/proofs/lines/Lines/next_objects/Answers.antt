@@ -4,7 +4,8 @@ use Rattle.spec_value.proofs.Entries.{both_hold}
 use Rattle.spec_world.specs.Checkpoint.{object_list}
 use Rattle.spec_checkpoint.proofs.Fields.{values_hold, objects_hold}
 use Rattle.line_fields.specs.Fields.{held, is_field}
-use Rattle.checkpoint_lines.specs.Rows.{field_at, Left}
+use Rattle.checkpoint_lines.specs.Rows.{Left}
+use Rattle.spec_faults.specs.Cutting.{field_at}
 use Rattle.std.proofs.lemmas.Result.{err_from_is_err_and}
 use Rattle.checkpoint_lines.proofs.Giving.{gives_and, gives_passed}
 use Rattle.checkpoint_lines.proofs.lines.Lines.next_objects.Goals as goal

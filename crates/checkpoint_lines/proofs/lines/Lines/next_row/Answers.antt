@@ -2,7 +2,8 @@ use Rattle.std.proofs.Common.{◌≡◌, ◌<◌, ◌^◌, ◌∷◌, length, ma
 use Rattle.std.specs.List.{list_all}
 use Rattle.spec_world.specs.Checkpoint.{fields}
 use Rattle.line_fields.specs.Fields.{all_spelled}
-use Rattle.checkpoint_lines.specs.Rows.{row_fields, is_filled, Left}
+use Rattle.checkpoint_lines.specs.Rows.{row_fields, Left}
+use Rattle.spec_faults.specs.Cutting.{is_filled}
 use Rattle.checkpoint_lines.proofs.Filled.{fields_line, fields_filled}
 use Rattle.std.proofs.lemmas.Result.{err_from_is_err_and}
 use Rattle.checkpoint_lines.proofs.Giving.{gives_map, gives_passed}

@@ -2,7 +2,8 @@ use Rattle.std.proofs.Common.{◌≡◌, [], ◌∷◌, true, refl, ap}
 use Rattle.spec_value.specs.Datum.{text}
 use Rattle.spec_value.proofs.Entries.{both_hold}
 use Rattle.line_fields.specs.Fields.{held, is_field}
-use Rattle.checkpoint_lines.specs.Rows.{field_at, Left}
+use Rattle.checkpoint_lines.specs.Rows.{Left}
+use Rattle.spec_faults.specs.Cutting.{field_at}
 use Rattle.std.proofs.lemmas.Result.{err_from_is_err_and}
 use Rattle.checkpoint_lines.proofs.Giving.{gives_and, gives_passed}
 use Rattle.checkpoint_lines.proofs.lines.Lines.next_text.Goals as goal

@@ -3,7 +3,8 @@ use Rattle.std.specs.List.{list_all}
 use Rattle.spec_value.proofs.Entries.{both_hold}
 use Rattle.spec_world.specs.Checkpoint.{fields}
 use Rattle.line_fields.specs.Fields.{word, is_word, all_spelled, are_fields}
-use Rattle.checkpoint_lines.specs.Rows.{row_fields, is_filled}
+use Rattle.checkpoint_lines.specs.Rows.{row_fields}
+use Rattle.spec_faults.specs.Cutting.{is_filled}
 use Rattle.checkpoint_lines.proofs.Filled.{fields_line, fields_filled, has_word}
 use Rattle.std.proofs.lemmas.Result.{err_from_is_err_and}
 use Rattle.checkpoint_lines.proofs.Giving.{gives_passed}

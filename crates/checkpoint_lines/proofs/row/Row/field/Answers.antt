@@ -1,5 +1,5 @@
 use Rattle.std.proofs.Common.{map, ap, sym, ◌∙◌}
-use Rattle.checkpoint_lines.specs.Rows.{field_at}
+use Rattle.spec_faults.specs.Cutting.{field_at}
 use Rattle.checkpoint_lines.proofs.Filled.{field_there, no_field}
 use Rattle.checkpoint_lines.proofs.row.Row.field.Goals as goal
 

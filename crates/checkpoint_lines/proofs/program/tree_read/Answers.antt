@@ -11,14 +11,14 @@ returns-in_default-clause-reads c = λ p h e. absurd (no_fault c.in_default.fiel
 
 pub returns-then-is_spelling-clause-reads : goal.returns-then-is_spelling-clause-reads
 returns-then-is_spelling-clause-reads c = λ p h e.
-      let got = rw c.in-Ok.is at c.in_ok-answer.ensures in ap Some (one_program c.in-Ok.tree p (sym got ∙ read_back p c.args.text.now h e))
+    let got = rw c.in-Ok.is at c.in_ok-answer.ensures in ap Some (one_program c.in-Ok.tree p (sym got ∙ read_back p c.args.text.now h e))
 
 pub returns-else-is_spelling-clause-reads : goal.returns-else-is_spelling-clause-reads
 returns-else-is_spelling-clause-reads c = λ p h e.
-      let got = rw c.in-Ok.is at c.in_ok-answer.ensures in
-      let same = one_program c.in-Ok.tree p (sym got ∙ read_back p c.args.text.now h e) in
-      let made : c.in_ok-is_spelling.is_spelling ≡ true = c.in_ok-is_spelling.ensures.1 (e ∙ ends_joined (canonical_lines p) ∙ ap (λ q. joined_lines (canonical_lines q)) (sym same)) in
-      absurd (cc (made, c.if-is_spelling.false))
+    let got = rw c.in-Ok.is at c.in_ok-answer.ensures in
+    let same = one_program c.in-Ok.tree p (sym got ∙ read_back p c.args.text.now h e) in
+    let made : c.in_ok-is_spelling.is_spelling ≡ true = c.in_ok-is_spelling.ensures.1 (e ∙ ends_joined (canonical_lines p) ∙ ap (λ q. joined_lines (canonical_lines q)) (sym same)) in
+    absurd (cc (made, c.if-is_spelling.false))
 
 pub returns-in_default-clause-tells : goal.returns-in_default-clause-tells
 returns-in_default-clause-tells c = λ ts lines e. no_program c.in_default.field-0 c.args.text.now ts (rw c.in_default.is at c.in_ok-answer.ensures) e

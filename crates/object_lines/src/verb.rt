@@ -113,7 +113,7 @@ fn next_head(alloc: Global, lines: &mut Lines<'_>) -> Result<Head, DecodeError>
 fn head_of(alloc: Global, row: &Row<'_>) -> Result<Head, DecodeError>
     ensures reads { (v : meant.Verb) (n : ℕ) → IsTrue (is_verb_read v) → n < 2 ^ 63 → row_fields row.now ≡ verb_fields v n → Gives result (λ h. IsHead h v n) }
     ensures tells { IsHeaded row.now (codes "verb") 7 → IsTrue (list_all is_filled (row_fields row.now)) → RowTells result row.now verb_form }
-    ensures many { IsHeaded row.now (codes "verb") 7 → IfOk result (λ h. number_in (field_at (line_fields row.now) 7) ≡ h.lines) }
+    ensures many { IsHeaded row.now (codes "verb") 7 → IsTrue (list_all is_filled (row_fields row.now)) → IfOk result (λ h. number_in (field_at (line_fields row.now) 7) ≡ h.lines) }
 {
     let owner = row.object(2)?;
     let bits = row.verb_bits(3)?;

@@ -5,13 +5,10 @@ use Rattle.spec_value.specs.Datum.{Text, same_text, Datum, integer, object, text
 use Rattle.spec_value.proofs.Same.{same_texts}
 use Rattle.spec_faults.specs.Plain.{passes, is_one_of, is_number}
 use Rattle.spec_faults.specs.Literals.{value_of, is_literal, any, is_string, is_list_of, are_lines_held, is_programming}
+use Rattle.checkpoint_lines.proofs.Checking.{none_passes}
 use Rattle.object_lines.specs.ObjectAwaited.{is_content, is_object_part, is_preposition}
 
 -- ---- literals
-
-none_passes : (test : Datum → Bool) (o : Option Datum) → passes any o ≡ false → passes test o ≡ false
-none_passes test None h = refl
-none_passes test (Some v) h = cc
 
 -- what is no literal at all is none that passes a test
 pub no_literal : (test : Datum → Bool) (t : Text) → is_literal any t ≡ false → is_literal test t ≡ false
@@ -101,7 +98,7 @@ lines_by_texts (list xs) h = refl
 
 -- ---- words
 
-not_same : (t u : Text) → (t ≡ u → ⊥) → same_text t u ≡ false
+pub not_same : (t u : Text) → (t ≡ u → ⊥) → same_text t u ≡ false
 not_same t u h = go (same_text t u) refl
   where
     go : (b : Bool) → same_text t u ≡ b → same_text t u ≡ false

@@ -5,7 +5,7 @@ use Rattle.spec_world.specs.Checkpoint.{fields, counted, flag}
 use Rattle.draft_lines.proofs.Fronts.{next_ranges, greatest_ranges}
 use Rattle.std.proofs.lemmas.Result.{err_from_is_err_and}
 use Rattle.checkpoint_lines.proofs.Giving.{gives_passed}
-use Rattle.object_lines.proofs.Going.{passed_on, first_fails, later_fails, then_goes, no_memory}
+use Rattle.checkpoint_lines.proofs.Going.{passed_on, first_fails, later_fails, then_goes, no_memory}
 use Rattle.spec_faults.specs.Awaited.{first_line, one}
 use Rattle.spec_faults.specs.Forms.{next_form, greatest_form, ending_form}
 use Rattle.draft_lines.proofs.read_front.Goals as goal

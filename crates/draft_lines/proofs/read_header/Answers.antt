@@ -1,7 +1,7 @@
 use Rattle.std.proofs.Common.{refl, codes, ◌∷◌, []}
 use Rattle.std.proofs.lemmas.Result.{err_from_is_err_and}
 use Rattle.checkpoint_lines.proofs.Giving.{gives_passed}
-use Rattle.object_lines.proofs.Going.{passed_on}
+use Rattle.checkpoint_lines.proofs.Going.{passed_on}
 use Rattle.draft_lines.proofs.FrontFaults.{header_over, header_stands, header_fails}
 use Rattle.spec_faults.specs.Awaited.{first_line}
 use Rattle.draft_lines.proofs.read_header.Goals as goal

@@ -4,7 +4,7 @@ use Rattle.draft_lines.proofs.Fronts.{links_counted}
 use Rattle.draft_lines.proofs.Links.{links_read}
 use Rattle.std.proofs.lemmas.Result.{err_from_is_err_and}
 use Rattle.checkpoint_lines.proofs.Giving.{gives_passed}
-use Rattle.object_lines.proofs.Going.{passed_on, count_row, tells_then}
+use Rattle.checkpoint_lines.proofs.Going.{passed_on, count_row, tells_then}
 use Rattle.spec_faults.specs.Awaited.{again}
 use Rattle.spec_faults.specs.Awaited as awaited
 use Rattle.draft_lines.proofs.read_links.Goals as goal

@@ -3,7 +3,7 @@ use Rattle.spec_world.specs.Checkpoint.{each_object}
 use Rattle.draft_lines.proofs.Fronts.{objects_counted}
 use Rattle.std.proofs.lemmas.Result.{err_from_is_err_and}
 use Rattle.checkpoint_lines.proofs.Giving.{gives_passed}
-use Rattle.object_lines.proofs.Going.{no_memory, passed_on, count_row, then_fails, then_goes}
+use Rattle.checkpoint_lines.proofs.Going.{no_memory, passed_on, count_row, then_fails, then_goes}
 use Rattle.spec_faults.specs.Awaited.{again}
 use Rattle.spec_faults.specs.Awaited as awaited
 use Rattle.draft_lines.proofs.read_objects.Goals as goal

@@ -13,7 +13,7 @@ use Rattle.checkpoint_lines.proofs.Giving.{gives_passed}
 use Rattle.object_lines.specs.Readable.{is_link_read}
 use Rattle.object_lines.proofs.Lists.{next_at, holds_at}
 use Rattle.draft_lines.proofs.Fronts.{link_put}
-use Rattle.object_lines.proofs.Going.{passed_on, none_yet, one_fails, one_of_them, all_of_them, no_memory}
+use Rattle.checkpoint_lines.proofs.Going.{passed_on, none_yet, one_fails, one_of_them, all_of_them, no_memory}
 use Rattle.spec_faults.specs.Awaited.{again}
 use Rattle.spec_faults.specs.Awaited as awaited
 use Rattle.draft_lines.proofs.so_many_links.Goals as goal

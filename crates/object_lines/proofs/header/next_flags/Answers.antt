@@ -9,7 +9,7 @@ use Rattle.spec_faults.specs.Cutting.{field_at}
 use Rattle.checkpoint_lines.proofs.Giving.{gives_ok}
 use Rattle.std.proofs.lemmas.Result.{err_from_is_err_and}
 use Rattle.checkpoint_lines.proofs.Giving.{gives_passed}
-use Rattle.object_lines.proofs.Going.{passed_on, one_row, row_read, row_by_check, if_always}
+use Rattle.checkpoint_lines.proofs.Going.{passed_on, one_row, row_read, row_by_check, if_always}
 use Rattle.object_lines.specs.ObjectAwaited.{flags_awaited}
 use Rattle.object_lines.proofs.RowFaults.{flags_form, flags_fail, flags_stand}
 use Rattle.spec_faults.specs.Awaited.{one, goes_on}

@@ -4,7 +4,7 @@ use Rattle.object_lines.proofs.ObjectParts.{naming_name, naming_owner, naming_pa
 use Rattle.std.proofs.lemmas.Int.{to_z-of_z}
 use Rattle.std.proofs.lemmas.Result.{err_from_is_err_and}
 use Rattle.checkpoint_lines.proofs.Giving.{gives_passed}
-use Rattle.object_lines.proofs.Going.{passed_on, first_fails, later_fails, then_goes}
+use Rattle.checkpoint_lines.proofs.Going.{passed_on, first_fails, later_fails, then_goes}
 use Rattle.object_lines.proofs.Families.{name_line, owner_line, parent_line, location_line}
 use Rattle.object_lines.specs.ObjectAwaited.{naming_awaited}
 use Rattle.object_lines.proofs.header.next_naming.Goals as goal

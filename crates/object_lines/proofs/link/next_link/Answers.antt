@@ -7,7 +7,7 @@ use Rattle.object_lines.proofs.Rows.{link_row, link_connection, link_number, lin
 use Rattle.std.proofs.lemmas.Int.{to_z-of_z}
 use Rattle.std.proofs.lemmas.Result.{err_from_is_err_and}
 use Rattle.checkpoint_lines.proofs.Giving.{gives_passed}
-use Rattle.object_lines.proofs.Going.{passed_on, one_fails_in_row, no_memory, one_row, one_stands, checks_fail, failed}
+use Rattle.checkpoint_lines.proofs.Going.{passed_on, one_fails_in_row, no_memory, one_row, one_stands, checks_fail, failed}
 use Rattle.object_lines.proofs.RowFaults.{link_number_fails, link_person_fails, link_value_fails, link_stands}
 use Rattle.object_lines.proofs.FieldKinds.{no_literal, literal_passes}
 use Rattle.spec_faults.specs.Awaited.{one, goes_on}

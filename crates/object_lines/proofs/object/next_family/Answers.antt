@@ -3,7 +3,7 @@ use Rattle.spec_world.specs.Checkpoint.{fields, object_list, text_list, list_lit
 use Rattle.object_lines.proofs.ObjectParts.{family_header, family_children, family_contents, family_defines}
 use Rattle.std.proofs.lemmas.Result.{err_from_is_err_and}
 use Rattle.checkpoint_lines.proofs.Giving.{gives_passed}
-use Rattle.object_lines.proofs.Going.{passed_on, first_fails, later_fails, then_goes}
+use Rattle.checkpoint_lines.proofs.Going.{passed_on, first_fails, later_fails, then_goes}
 use Rattle.object_lines.proofs.Families.{children_line, contents_line, flags_line, defines_line}
 use Rattle.object_lines.specs.ObjectAwaited.{naming_awaited, family_awaited}
 use Rattle.object_lines.proofs.object.next_family.Goals as goal

@@ -7,7 +7,7 @@ use Rattle.object_lines.proofs.ObjectParts.{slots_told, behind_number, object_pa
 use Rattle.std.proofs.lemmas.Int.{to_z-of_z}
 use Rattle.std.proofs.lemmas.Result.{err_from_is_err_and}
 use Rattle.checkpoint_lines.proofs.Giving.{gives_passed}
-use Rattle.object_lines.proofs.Going.{passed_on, first_fails, later_fails, then_goes}
+use Rattle.checkpoint_lines.proofs.Going.{passed_on, first_fails, later_fails, then_goes}
 use Rattle.object_lines.proofs.Families.{object_line, slots_line, verbs_line}
 use Rattle.object_lines.specs.ObjectAwaited.{family_awaited}
 use Rattle.spec_faults.specs.Awaited.{group}

@@ -11,7 +11,7 @@ use Rattle.named_objects.proofs.Tables.{found_at}
 use Rattle.object_lines.specs.Readable.{is_object_read}
 use Rattle.object_lines.proofs.Lists.{next_at, holds_at, one_read}
 use Rattle.object_lines.proofs.ObjectParts.{objects_on}
-use Rattle.object_lines.proofs.Going.{no_memory, passed_on, none_yet, one_fails, one_of_them, all_of_them}
+use Rattle.checkpoint_lines.proofs.Going.{no_memory, passed_on, none_yet, one_fails, one_of_them, all_of_them}
 use Rattle.spec_faults.specs.Awaited.{again}
 use Rattle.spec_faults.specs.Awaited as awaited
 use Rattle.object_lines.proofs.object.next_objects.Goals as goal

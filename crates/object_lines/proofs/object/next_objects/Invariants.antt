@@ -9,7 +9,7 @@ use Rattle.named_objects.specs.Told.{told, shown_object}
 use Rattle.object_lines.specs.Readable.{is_object_read}
 use Rattle.object_lines.proofs.object.next_objects.Given as goal
 use Rattle.spec_faults.specs.Awaited as awaited
-use Rattle.object_lines.proofs.Going.{Counts}
+use Rattle.checkpoint_lines.proofs.Going.{Counts}
 
 abbrev pub invariant-reading : goal.invariant-reading
 invariant-reading l =

@@ -6,7 +6,7 @@ use Rattle.object_lines.proofs.Rows.{content_spelled, slot_row, slot_spelled, sl
 use Rattle.std.proofs.lemmas.Int.{to_z-of_z}
 use Rattle.std.proofs.lemmas.Result.{err_from_is_err_and}
 use Rattle.checkpoint_lines.proofs.Giving.{gives_passed}
-use Rattle.object_lines.proofs.Going.{passed_on, one_fails_in_row, one_row, one_stands}
+use Rattle.checkpoint_lines.proofs.Going.{passed_on, one_fails_in_row, one_row, one_stands}
 use Rattle.object_lines.proofs.RowFaults.{slot_owner_fails, slot_bits_fail, slot_content_fails, slot_stands}
 use Rattle.spec_faults.specs.Awaited.{one, goes_on}
 use Rattle.spec_faults.specs.Forms.{other, object_number, content, slot_form}

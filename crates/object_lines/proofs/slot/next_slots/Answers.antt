@@ -3,7 +3,7 @@ use Rattle.object_lines.proofs.ObjectParts.{slots_counted}
 use Rattle.object_lines.specs.Parts.{each_slot}
 use Rattle.std.proofs.lemmas.Result.{err_from_is_err_and}
 use Rattle.checkpoint_lines.proofs.Giving.{gives_passed}
-use Rattle.object_lines.proofs.Going.{passed_on, count_row, tells_then}
+use Rattle.checkpoint_lines.proofs.Going.{passed_on, count_row, tells_then}
 use Rattle.spec_faults.specs.Awaited.{again, counted}
 use Rattle.spec_faults.specs.Awaited as awaited
 use Rattle.object_lines.proofs.slot.next_slots.Goals as goal

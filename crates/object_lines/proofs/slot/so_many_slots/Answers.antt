@@ -7,7 +7,7 @@ use Rattle.checkpoint_lines.proofs.Giving.{gives_passed}
 use Rattle.object_lines.specs.Readable.{is_slot_read}
 use Rattle.object_lines.specs.Parts.{each_slot}
 use Rattle.object_lines.proofs.Lists.{next_at, holds_at, one_read, all_read}
-use Rattle.object_lines.proofs.Going.{no_memory, passed_on, none_yet, one_fails, one_of_them, all_of_them}
+use Rattle.checkpoint_lines.proofs.Going.{no_memory, passed_on, none_yet, one_fails, one_of_them, all_of_them}
 use Rattle.spec_faults.specs.Awaited.{again}
 use Rattle.spec_faults.specs.Awaited as awaited
 use Rattle.object_lines.proofs.slot.so_many_slots.Goals as goal

@@ -7,7 +7,7 @@ use Rattle.object_lines.specs.Readable.{is_slot_read}
 use Rattle.object_lines.specs.Parts.{each_slot}
 use Rattle.object_lines.proofs.slot.so_many_slots.Given as goal
 use Rattle.spec_faults.specs.Awaited as awaited
-use Rattle.object_lines.proofs.Going.{Counts}
+use Rattle.checkpoint_lines.proofs.Going.{Counts}
 
 abbrev pub invariant-reading : goal.invariant-reading
 invariant-reading l =

@@ -1,5 +1,5 @@
 use Rattle.object_lines.proofs.RowFaults.{verb_owner_fails, verb_bits_fail, verb_direct_fails, verb_preposition_fails, verb_indirect_fails, verb_lines_fail, verb_names_fail, verb_stands}
-use Rattle.object_lines.proofs.Going.{row_fails}
+use Rattle.checkpoint_lines.proofs.Going.{row_fails}
 use Rattle.spec_faults.specs.Forms.{verb_form}
 use Rattle.spec_faults.specs.Plain.{number_in, or_zero}
 use Rattle.std.proofs.Common.{Err, refl, ap, ◌∙◌}

@@ -7,7 +7,7 @@ use Rattle.object_lines.specs.Parts.{IsHead}
 use Rattle.object_lines.proofs.Rows.{verb_row, verb_are_fields}
 use Rattle.std.proofs.lemmas.Result.{err_from_is_err_and}
 use Rattle.checkpoint_lines.proofs.Giving.{gives_passed}
-use Rattle.object_lines.proofs.Going.{passed_on, row_read, if_map}
+use Rattle.checkpoint_lines.proofs.Going.{passed_on, row_read, if_map}
 use Rattle.object_lines.proofs.RowFaults.{verb_next, verb_row_is}
 use Rattle.spec_faults.specs.Awaited.{verb, code, of_verb, goes_on}
 use Rattle.spec_faults.specs.Forms.{string, object_number, other, object_part, preposition, how_many, verb_form}

@@ -3,7 +3,7 @@ use Rattle.object_lines.proofs.ObjectParts.{verbs_counted}
 use Rattle.spec_world.specs.Checkpoint.{each_verb}
 use Rattle.std.proofs.lemmas.Result.{err_from_is_err_and}
 use Rattle.checkpoint_lines.proofs.Giving.{gives_passed}
-use Rattle.object_lines.proofs.Going.{passed_on, count_row, tells_then}
+use Rattle.checkpoint_lines.proofs.Going.{passed_on, count_row, tells_then}
 use Rattle.spec_faults.specs.Awaited.{again, counted}
 use Rattle.spec_faults.specs.Awaited as awaited
 use Rattle.object_lines.proofs.verb.next_verbs.Goals as goal

@@ -7,7 +7,7 @@ use Rattle.checkpoint_lines.specs.Rows.{Left}
 use Rattle.object_lines.specs.Readable.{is_verb_read}
 use Rattle.object_lines.proofs.verb.so_many_verbs.Given as goal
 use Rattle.spec_faults.specs.Awaited as awaited
-use Rattle.object_lines.proofs.Going.{Counts}
+use Rattle.checkpoint_lines.proofs.Going.{Counts}
 
 abbrev pub invariant-reading : goal.invariant-reading
 invariant-reading l =

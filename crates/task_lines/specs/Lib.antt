@@ -5,3 +5,4 @@ pub mod Manners
 pub mod Standing
 pub mod Begun
 pub mod Readable
+pub mod Wanting

@@ -45,8 +45,8 @@ pub record Reading (l m : Lines) (hs : List (ℕ × Holds)) (before : Option Dat
   pub left : ws ≡ next ++ wanted_for later
   pub goes : GoesOn l m (each_held hs) (values (length next) around here done ∷ each_held later)
 
-pub begins : (l : Lines) (hs : List (ℕ × Holds)) (ws : List Wanted) → HasRoom l → IsWantedBy hs ws → Reading l l hs None ws
-begins l hs ws room is =
+pub begins : (l : Lines) (hs : List (ℕ × Holds)) (ws : List Wanted) (before : Option Datum) → HasRoom l → IsWantedBy hs ws → Reading l l hs before ws
+begins l hs ws before room is =
     record {
       around = 0;
       here = holds [];
@@ -95,16 +95,16 @@ one_of l m hs before w ws around here done (x ∷ next) later f e g =
 pub one_more : (l m : Lines) (hs : List (ℕ × Holds)) (before : Option Datum) (w : Wanted) (ws us : List Wanted) → us ≡ w ∷ ws → Reading l m hs before us → OneMore l m hs before w ws
 one_more l m hs before w ws us is r = one_of l m hs before w ws r.around r.here r.done r.next r.later r.follows (sym is ∙ r.left) r.goes
 
-pub read_one : (l m k : Lines) (hs : List (ℕ × Holds)) (before : Option Datum) (w : Wanted) (ws : List Wanted) (o : OneMore l m hs before w ws) (v : Datum) → IsTrue (wanted_fits w before v)
-    → GoesOn m k (values (suc (length o.next)) o.around o.here o.done ∷ []) (values (length o.next) o.around o.here (o.done ++ v ∷ []) ∷ []) → Reading l k hs (Some v) ws
-read_one l m k hs before w ws o v fits g =
+pub read_one : (l m k : Lines) (hs : List (ℕ × Holds)) (before : Option Datum) (w : Wanted) (ws : List Wanted) (o : OneMore l m hs before w ws) (v : Datum) (now : Option Datum) → now ≡ Some v → IsTrue (wanted_fits w before v)
+    → GoesOn m k (values (suc (length o.next)) o.around o.here o.done ∷ []) (values (length o.next) o.around o.here (o.done ++ v ∷ []) ∷ []) → Reading l k hs now ws
+read_one l m k hs before w ws o v now is fits g =
     record {
       around = o.around;
       here = o.here;
       done = o.done ++ v ∷ [];
       next = o.next;
       later = o.later;
-      follows = o.follows v fits;
+      follows = subst (λ b. Follows o.around o.here (o.done ++ v ∷ []) b o.next) (sym is) (o.follows v fits);
       left = o.left;
       goes =
           goes_then l m k (each_held hs) (values (suc (length o.next)) o.around o.here o.done ∷ each_held o.later) (values (length o.next) o.around o.here (o.done ++ v ∷ []) ∷ each_held o.later) o.goes

@@ -64,12 +64,12 @@ no_literal : (test : Bool) → test ≡ false → (not test || false) ≡ true
 no_literal true h = cc
 no_literal false h = refl
 
-pub value_misspelt : {A : Type 0} (l m : Lines) (r : Row) (res : Result A DecodeError) (e : DecodeError) (more around : ℕ) (h : Holds) (vs : List Datum) → IsNextRow r l m → length (row_fields r) ≡ 1
-    → res ≡ Err e → Checks res r kind.Value (is_literal any (field_at (row_fields r) 0)) → TellsFault e l (values (suc more) around h vs ∷ [])
-value_misspelt l m r res e more around h vs n one was c =
+pub value_misspelt : (l m : Lines) (r : Row) (e : DecodeError) (more around : ℕ) (h : Holds) (vs : List Datum) → IsNextRow r l m → length (row_fields r) ≡ 1
+    → Checks {A = Datum} (Err e) r kind.Value (is_literal any (field_at (row_fields r) 0)) → TellsFault e l (values (suc more) around h vs ∷ [])
+value_misspelt l m r e more around h vs n one c =
     let t : Text = field_at (row_fields r) 0 in
     row_faulty e l m r (values (suc more) around h vs) (λ _. form.held_form) (λ ts. one_value more around h (with_value vs (value_of (field_at ts 0)))) n (value_row more around h vs)
-    (fails_value r form.held_form (t ∷ []) (listed 1 (row_fields r) one) refl n.filled refl res e (is_literal any t) was c refl (no_literal (is_literal any t)))
+    (fails_value r form.held_form (t ∷ []) (listed 1 (row_fields r) one) refl n.filled refl {A = Datum} (Err e) e (is_literal any t) refl c refl (no_literal (is_literal any t)))
 
 a_literal : (test : Bool) → test ≡ true → (not test || false) ≡ false
 a_literal true h = refl
@@ -120,10 +120,10 @@ spelt_there false h = cc
 
 module _ (l m : Lines) (r : Row) (w : Text) (test : Text → Bool) (n : IsNextRow r l m) (headed : IsHeaded r w 1) where
   -- the field is misspelt
-  pub headed_misspelt : {A : Type 0} (res : Result A DecodeError) (e : DecodeError) → res ≡ Err e → Checks res r kind.Number (test (field_at (row_fields r) 1)) → IsRowFault e r (fault_of (word w ∷ other test ∷ []) (line_fields r))
-  headed_misspelt res e was c =
+  pub headed_misspelt : (e : DecodeError) → Checks {A = ℕ} (Err e) r kind.Number (test (field_at (row_fields r) 1)) → IsRowFault e r (fault_of (word w ∷ other test ∷ []) (line_fields r))
+  headed_misspelt e c =
       let ts : List Text = field_at (row_fields r) 0 ∷ field_at (row_fields r) 1 ∷ [] in
-      fails_misspelt r (word w ∷ other test ∷ []) ts (listed 2 (row_fields r) headed.many) refl n.filled (word_there r w test headed) res e (test (field_at (row_fields r) 1)) was c (misspelt_there (test (field_at (row_fields r) 1)))
+      fails_misspelt r (word w ∷ other test ∷ []) ts (listed 2 (row_fields r) headed.many) refl n.filled (word_there r w test headed) {A = ℕ} (Err e) e (test (field_at (row_fields r) 1)) refl c (misspelt_there (test (field_at (row_fields r) 1)))
 
   -- or it is as it is wanted
   pub headed_meets : test (field_at (row_fields r) 1) ≡ true → is_cut (row_fields r) ≡ true
@@ -156,10 +156,10 @@ other_number : (n k : ℕ) → (n ≡ k → ⊥) → (n == k) ≡ false
 other_number n k h = grind (arith, nat_tests)
 
 module _ (l m : Lines) (r : Row) (hs : List (ℕ × Holds)) (n : IsNextRow r l m) (headed : IsHeaded r (codes "held") 1) where
-  pub count_misspelt : {A : Type 0} (res : Result A DecodeError) (e : DecodeError) → res ≡ Err e → Checks res r kind.Number (is_number 0 9223372036854775807 (field_at (row_fields r) 1)) → TellsFault e l (held hs ∷ [])
-  count_misspelt res e was c =
+  pub count_misspelt : (e : DecodeError) → Checks {A = ℕ} (Err e) r kind.Number (is_number 0 9223372036854775807 (field_at (row_fields r) 1)) → TellsFault e l (held hs ∷ [])
+  count_misspelt e c =
       row_faulty e l m r (held hs) (λ _. form.counted_form (codes "held")) (λ ts. only_if (number_in (field_at ts 1) == total hs) fault.frame (each_held hs)) n (count_row hs)
-      (headed_misspelt l m r (codes "held") (is_number 0 9223372036854775807) n headed res e was c)
+      (headed_misspelt l m r (codes "held") (is_number 0 9223372036854775807) n headed e c)
 
   count_meets : is_number 0 9223372036854775807 (field_at (row_fields r) 1) ≡ true
       → (line_fields r ≡ field_at (row_fields r) 0 ∷ field_at (row_fields r) 1 ∷ []) × (fault_of (form.counted_form (codes "held")) (line_fields r) ≡ None)
@@ -196,10 +196,10 @@ place_told path is_fork p r o are said is =
     ∙ ap behind_place is
 
 module _ (l m : Lines) (r : Row) (is_fork : Bool) (p : Program) (n : IsNextRow r l m) (headed : IsHeaded r (codes "place") 1) where
-  pub place_misspelt : {A : Type 0} (res : Result A DecodeError) (e : DecodeError) → res ≡ Err e → Checks res r kind.Number (is_path (field_at (row_fields r) 1)) → TellsFault e l (place is_fork p ∷ [])
-  place_misspelt res e was c =
+  pub place_misspelt : (e : DecodeError) → Checks {A = ℕ} (Err e) r kind.Number (is_path (field_at (row_fields r) 1)) → TellsFault e l (place is_fork p ∷ [])
+  place_misspelt e c =
       row_faulty e l m r (place is_fork p) (λ _. form.place_form) (λ ts. behind_place (holds_at is_fork p (path_in (field_at ts 1)))) n (place_row is_fork p)
-      (headed_misspelt l m r (codes "place") is_path n headed res e was c)
+      (headed_misspelt l m r (codes "place") is_path n headed e c)
 
   place_meets : is_path (field_at (row_fields r) 1) ≡ true → (line_fields r ≡ field_at (row_fields r) 0 ∷ field_at (row_fields r) 1 ∷ []) × (fault_of form.place_form (line_fields r) ≡ None)
   place_meets is = headed_meets l m r (codes "place") is_path n headed is (second_cut r (codes "place") headed (path_one (field_at (row_fields r) 1) is))

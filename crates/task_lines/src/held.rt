@@ -22,6 +22,8 @@ use moo_value::value::Value;
 use std::alloc::{AllocError, Global};
 
 /// What a verb holds, from the next lines: a value for each that is wanted, the outermost first.
+///
+/// Fault Frame where another number of values is told, or one is not what is wanted there.
 pub fn next_held(
     alloc: Global,
     lines: &mut Lines<'_>,

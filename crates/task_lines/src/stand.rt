@@ -32,6 +32,8 @@ pub struct Stand {
 }
 
 /// Where a verb with this program stands, from the next line: one that was forked at its beginning, any other at a call.
+///
+/// Fault Frame where it cannot stand there.
 pub fn next_stand(
     alloc: Global,
     lines: &mut Lines<'_>,

@@ -19,7 +19,7 @@ returns-in_err-row c = record {
       gives_passed c.from_residual.result passed.0 _ passed.1 (cc (passed.2, memory));
   tells = λ hs same.
       let passed = err_from_is_err_and c.from_residual.result c.from_residual.ensures.1 in
-      tells_passed c.from_residual.result passed.0 _ _ _ _ _ passed.1 (cc (passed.2)) (λ room. count_headed _ _ hs (c.in_err-row.ensures.tells room));
+      tells_passed c.from_residual.result passed.0 _ _ _ _ _ passed.1 (cc (passed.2)) (λ room. count_headed _ c.args.lines.now hs (c.in_err-row.ensures.tells room));
 }
 
 pub returns-in_err-count : goal.returns-in_err-count
@@ -31,7 +31,7 @@ returns-in_err-count c = record {
   tells = λ hs same.
       let passed = err_from_is_err_and c.from_residual-in_err-count.result c.from_residual-in_err-count.ensures.1 in
       tells_passed c.from_residual-in_err-count.result passed.0 _ _ _ _ _ passed.1 (cc (passed.2))
-      (λ room. let row = c.in_ok-row.ensures.tells room in count_misspelt _ _ c.in_ok-row.row hs row.0 row.1 _ _ refl c.in_err-count.ensures.tells);
+      (λ room. let row = c.in_ok-row.ensures.tells room in count_misspelt _ _ c.in_ok-row.row hs row.0 row.1 _ c.in_err-count.ensures.tells);
 }
 
 pub returns-then-count-wanted : goal.returns-then-count-wanted

@@ -25,7 +25,7 @@ returns-in_err-row c = record {
       subst (λ r. IfOk r (λ v. IsTrue (wanted_fits c.args.wanted (option_map (λ b. b.now) c.args.before) v))) (sym passed.1) tt;
   tells = λ around more h vs goes.
       let passed = err_from_is_err_and c.from_residual.result c.from_residual.ensures.1 in
-      tells_passed c.from_residual.result passed.0 _ _ _ _ _ passed.1 (cc (passed.2)) (λ room. value_none _ _ more around h vs (c.in_err-row.ensures.tells room));
+      tells_passed c.from_residual.result passed.0 _ _ _ _ _ passed.1 (cc (passed.2)) (λ room. value_none _ c.args.lines.now more around h vs (c.in_err-row.ensures.tells room));
 }
 
 pub returns-then-len-ne1 : goal.returns-then-len-ne1
@@ -55,7 +55,7 @@ returns-in_err-value c = record {
       let passed = err_from_is_err_and c.from_residual-in_err-value.result c.from_residual-in_err-value.ensures.1 in
       let one : length (row_fields c.in_ok-row.row) ≡ 1 = sym c.len.ensures ∙ c.if-len-ne1.false in
       tells_passed c.from_residual-in_err-value.result passed.0 _ _ _ _ _ passed.1 (cc (passed.2))
-      (λ room. value_misspelt _ _ c.in_ok-row.row _ _ more around h vs (c.in_ok-row.ensures.tells room).0 one refl c.in_err-value.ensures.tells);
+      (λ room. value_misspelt _ _ c.in_ok-row.row _ more around h vs (c.in_ok-row.ensures.tells room).0 one c.in_err-value.ensures.tells);
 }
 
 pub returns-then-fits : goal.returns-then-fits
@@ -84,5 +84,5 @@ returns c = record {
       let one : length (row_fields c.in_ok-row.row) ≡ 1 = sym c.len.ensures ∙ c.if-len-ne1.false in
       let unfit = if_not (wanted_fits c.args.wanted (option_map (λ b. b.now) c.args.before) c.in_ok-value.value) (λ so. cc (c.fits.ensures.finds so, c.if-fits.false)) in
       let t = value_unfit _ _ c.in_ok-row.row more around h vs c.args.wanted (option_map (λ b. b.now) c.args.before) c.in_ok-value.value goes row.0 row.1 one c.in_ok-value.ensures.tells c.in_ok-value.ensures.said unfit in
-      subst (λ e. TellsFault e c.args.lines.now (values (suc more) around h vs ∷ [])) (sym c.fault-in_else.ensures) t;
+      subst (λ e. TellsFault e c.args.lines.now (values (suc more) around h vs ∷ [])) (sym c.fault-else-fits.ensures) t;
 }

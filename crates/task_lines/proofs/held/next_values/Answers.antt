@@ -1,5 +1,6 @@
 use Rattle.std.proofs.Common.{◌+◌, ◌-◌, ◌∷◌, [], ◌++◌, length, drop, refl, sym, ap, subst, IsTrue, ◌∙◌, slice_index_or, append_assoc}
 use Rattle.std.specs.Prelude.{slice_get}
+use Rattle.std.proofs.Math.ListN.{drop_of_length-le}
 use Rattle.std.proofs.lemmas.Result.{err_from_is_err_and}
 use Rattle.spec_world.specs.Checkpoint.{literal_lines}
 use Rattle.held_values.specs.declared.fits.Wanted.TheVariants.{Any}
@@ -63,20 +64,21 @@ values-preserved c = (
       let last = before_is c.last.result c.deref.result.now items c.last.ensures.value c.deref.ensures.value in
       let goes = subst (λ b. GoesWith more.around more.here more.done w b) (sym last) more.goes_with in
       let fits = subst (λ b. IsTrue (wanted_fits w b c.in_ok-value.value)) last c.in_ok-value.ensures.fits in
-      let next = read_one _ _ _ hs before w wanted more c.in_ok-value.value fits (c.in_ok-value.ensures.tells more.around (length more.next) more.here more.done goes more.goes.room) in
-      subst (λ b. Reading c.args.lines.now _ hs b wanted) (sym (last_pushed items c.push.new.self.items c.in_ok-value.value c.in_ok-push.ensures.items)) next,
+      read_one _ _ _ hs before w wanted more c.in_ok-value.value (slice_get c.push.new.self.items (length c.push.new.self.items - 1)) (last_pushed items c.push.new.self.items c.in_ok-value.value c.in_ok-push.ensures.items) fits
+      (c.in_ok-value.ensures.tells more.around (length more.next) more.here more.done goes more.goes.room),
 )
 
-pub values-established : goal.values-established
-values-established c = (
-  λ vs rest h fits l. (vs, refl, h, fits, l),
-  λ hs room is. begins _ hs c.args.wanted.now room is,
+pub values-init : goal.values-init
+values-init c = (
+  λ vs rest h fits l. (
+    vs,
+    ap (λ us. us ++ vs) c.new-values.ensures.items,
+    h,
+    subst (λ us. IsTrue (all_fit (slice_get us (length us - 1)) c.args.wanted.now vs)) (sym c.new-values.ensures.items) fits,
+    l,
+  ),
+  λ hs room is. begins c.args.lines.now hs c.args.wanted.now _ room is,
 )
 
-pub returns : goal.returns
-returns c = record {
-  reads = λ vs rest h fits l.
-      let inv = c.values.invariant.0 vs rest h fits l in
-      inv;
-  tells = λ hs is room. all_read _ _ hs _ _ _ (c.values.invariant.1 hs room is);
-}
+pub returns-clause-tells : goal.returns-clause-tells
+returns-clause-tells c = λ hs is room. all_read _ _ hs _ _ (drop_of_length-le c.args.wanted.now c.values-test.false) (c.values.invariant.1 hs room is)

@@ -24,7 +24,7 @@ returns-in_err-row c = record {
   tells =
       let passed = err_from_is_err_and c.from_residual.result c.from_residual.ensures.1 in
       stand_passed c.args.is_fork c.args.program.now c.from_residual.result passed.0 _ _ _ passed.1 (cc (passed.2))
-      (λ room. place_headed _ _ c.args.is_fork c.args.program.now (c.in_err-row.ensures.tells room));
+      (λ room. place_headed _ c.args.lines.now c.args.is_fork c.args.program.now (c.in_err-row.ensures.tells room));
 }
 
 pub returns-in_err-path : goal.returns-in_err-path
@@ -39,7 +39,7 @@ returns-in_err-path c = record {
   tells =
       let passed = err_from_is_err_and c.from_residual-in_err-path.result c.from_residual-in_err-path.ensures.1 in
       stand_passed c.args.is_fork c.args.program.now c.from_residual-in_err-path.result passed.0 _ _ _ passed.1 (cc (passed.2))
-      (λ room. let row = c.in_ok-row.ensures.tells room in place_misspelt _ _ c.in_ok-row.row c.args.is_fork c.args.program.now row.0 row.1 _ _ refl c.in_err-path.ensures.tells);
+      (λ room. let row = c.in_ok-row.ensures.tells room in place_misspelt _ _ c.in_ok-row.row c.args.is_fork c.args.program.now row.0 row.1 _ c.in_err-path.ensures.tells);
 }
 
 pub returns : goal.returns

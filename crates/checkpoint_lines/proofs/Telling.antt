@@ -152,7 +152,7 @@ more_fields (t ∷ u ∷ ts) h = let more = more_fields (u ∷ ts) h in omega ar
 
 -- ---- what is wanted of fields
 
-has_line_fault : (ws : List Wanted) (ts : List Text) → (length ts == length ws) ≡ false → fault_of ws ts ≡ Some fault.line
+pub has_line_fault : (ws : List Wanted) (ts : List Text) → (length ts == length ws) ≡ false → fault_of ws ts ≡ Some fault.line
 has_line_fault ws ts h = ap (λ b. least (b && (list_all is_filled ts && not (one_is is_other_word ws ts))) (one_is is_misspelt ws ts) (one_is is_no_value ws ts)) h
 
 not_as_many : (n m : ℕ) → n < m → (m == n) ≡ false

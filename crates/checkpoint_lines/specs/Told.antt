@@ -47,7 +47,7 @@ lines_in l = l.count + length (lines_of l.left.now).lines
 
 -- lines are counted in 64 bits
 abbrev pub HasRoom : Lines → Type 0
-HasRoom l = l.count + length l.left.now < 2 ^ 64
+HasRoom l = l.count + length l.left.now < 2 ^ 63
 
 -- what was awaited stood there without a fault, and now this is awaited of what is left
 pub record GoesOn (l m : Lines) (awaited after : List Awaited) : Type 0 where

@@ -5,3 +5,5 @@ pub mod Manners
 pub mod Standing
 pub mod Begun
 pub mod Readable
+pub mod Verdicts
+pub mod Awaiting

@@ -6,3 +6,5 @@ pub mod Standing
 pub mod Begun
 pub mod Readable
 pub mod Wanting
+pub mod Verdicts
+pub mod Awaiting

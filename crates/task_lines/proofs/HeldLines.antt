@@ -12,25 +12,14 @@ use Rattle.held_values.specs.declared.fits.Wanted.{Wanted}
 use Rattle.held_values.specs.Wanted.{wanted_fits, wanted_in}
 use Rattle.task_lines.specs.Wanting.{wanted_for, IsWantedBy, GoesWith}
 use Rattle.checkpoint_lines.proofs.Telling.{goes_then, goes_behind, fault_then, fault_behind}
+use Rattle.task_lines.proofs.Telling.{goes_alike}
 use Rattle.task_lines.proofs.Wanting.{Follows, all_follow, as_many_wanted}
 
 -- ---- what comes first of what is awaited
 
-same_first : (ts : List Text) (rest : Text) (n : ℕ) (A B : List Awaited) → opened A ≡ opened B → fault_among ts rest n A ≡ fault_among ts rest n B
-same_first [] rest n A B e = ap (λ o. at_last o rest n) e
-same_first (t ∷ ts) rest n A B e = ap (λ o. at_line o t n (λ more. fault_among ts rest (suc n) more)) e
-
 -- the same awaits behind what was read
 pub goes_same : (l m : Lines) (A B C : List Awaited) → GoesOn l m A B → ((more : List Awaited) → opened (B ++ more) ≡ opened (C ++ more)) → GoesOn l m A C
-goes_same l m A B C g same =
-    record {
-      fault = λ more. g.fault more ∙ same_first (lines_of m.left.now).lines (lines_of m.left.now).rest (suc m.count) (B ++ more) (C ++ more) (same more);
-      lines = g.lines;
-      room = g.room;
-    }
-
-goes_nowhere : (l : Lines) (A : List Awaited) → HasRoom l → GoesOn l l A A
-goes_nowhere l A h = record { fault = λ more. refl; lines = refl; room = h }
+goes_same l m A B C g same = goes_then l m m A B C g (goes_alike m B C same g.room)
 
 -- ---- while values are read
 
@@ -55,7 +44,7 @@ begins l hs ws before room is =
       later = hs;
       follows = tt;
       left = is;
-      goes = goes_same l l (each_held hs) (each_held hs) (values zero 0 (holds []) [] ∷ each_held hs) (goes_nowhere l (each_held hs) room) (λ more. refl);
+      goes = goes_alike l (each_held hs) (values zero 0 (holds []) [] ∷ each_held hs) (λ more. refl) room;
     }
 
 -- one more is wanted, and then these

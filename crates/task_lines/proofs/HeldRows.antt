@@ -27,12 +27,6 @@ use Rattle.held_values.specs.Wanted.{wanted_fits}
 use Rattle.task_lines.specs.Wanting.{GoesWith, StandsWith, TellsStand}
 use Rattle.task_lines.specs.declared.stand.Stand.{Stand}
 
--- ---- what is passed on
-
-pub tells_passed : {A : Type 0} (r : Result A DecodeError) (y e : DecodeError) (l m : Lines) (awaited : List Awaited) (after : A → List Awaited) → r ≡ Err y → y ≡ e → (HasRoom l → TellsFault e l awaited)
-    → Tells r l m awaited after
-tells_passed r y e l m awaited after is same t = subst (λ s. Tells s l m awaited after) (sym is) (λ room. subst (λ d. TellsFault d l awaited) (sym same) (t room))
-
 -- a fault of a row whose last field is one
 pub cut_fault : (r : Row) (k : FaultKind) → is_cut (row_fields r) ≡ true → row_fault r k ≡ Line r.line k
 cut_fault r k cut = ap (λ b. Line r.line (if b then k else kind.Line)) cut

@@ -4,7 +4,7 @@ use Rattle.spec_faults.specs.Codes.{total}
 use Rattle.spec_faults.specs.Awaited.{held, each_held}
 use Rattle.checkpoint_lines.specs.Rows.{Left}
 use Rattle.checkpoint_lines.proofs.Telling.{goes_then, fault_then}
-use Rattle.task_lines.proofs.HeldRows.{tells_passed}
+use Rattle.task_lines.proofs.Telling.{tells_passed}
 use Rattle.task_lines.proofs.Wanting.{all_wanted}
 use Rattle.checkpoint_lines.proofs.Rests.{rest_small}
 use Rattle.moo_code.specs.Rebuilding.{from_deepest}

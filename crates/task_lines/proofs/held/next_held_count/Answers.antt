@@ -8,7 +8,8 @@ use Rattle.spec_faults.specs.Cutting.{field_at}
 use Rattle.spec_faults.specs.Awaited.{held}
 use Rattle.checkpoint_lines.specs.Told.{TellsFault}
 use Rattle.checkpoint_lines.proofs.Giving.{gives_passed}
-use Rattle.task_lines.proofs.HeldRows.{tells_passed, count_headed, count_misspelt, count_goes, count_unfit}
+use Rattle.task_lines.proofs.Telling.{tells_passed}
+use Rattle.task_lines.proofs.HeldRows.{count_headed, count_misspelt, count_goes, count_unfit}
 use Rattle.task_lines.proofs.held.next_held_count.Goals as goal
 
 pub returns-in_err-row : goal.returns-in_err-row

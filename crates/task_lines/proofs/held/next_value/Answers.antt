@@ -11,7 +11,8 @@ use Rattle.spec_faults.specs.Awaited.{values}
 use Rattle.checkpoint_lines.specs.Rows.{row_fields}
 use Rattle.checkpoint_lines.specs.Told.{TellsFault}
 use Rattle.checkpoint_lines.proofs.Giving.{gives_passed}
-use Rattle.task_lines.proofs.HeldRows.{tells_passed, value_none, value_line, value_misspelt, value_goes, value_unfit, if_not}
+use Rattle.task_lines.proofs.Telling.{tells_passed}
+use Rattle.task_lines.proofs.HeldRows.{value_none, value_line, value_misspelt, value_goes, value_unfit, if_not}
 use Rattle.task_lines.proofs.held.next_value.Goals as goal
 
 pub returns-in_err-row : goal.returns-in_err-row

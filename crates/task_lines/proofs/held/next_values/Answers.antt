@@ -10,7 +10,7 @@ use Rattle.checkpoint_lines.proofs.Giving.{gives_passed}
 use Rattle.task_lines.specs.Wanting.{GoesWith}
 use Rattle.task_lines.proofs.Loops.{next_wanted, next_held, before_is, last_pushed}
 use Rattle.task_lines.proofs.HeldLines.{Reading, begins, one_more, read_one, read_none, all_read}
-use Rattle.task_lines.proofs.HeldRows.{tells_passed}
+use Rattle.task_lines.proofs.Telling.{tells_passed}
 use Rattle.task_lines.proofs.held.next_values.Goals as goal
 
 pub returns-in_err-value : goal.returns-in_err-value

@@ -1,8 +1,8 @@
 -- Where values are held down a path there is a call, and it has a place.
-use Rattle.std.proofs.Common.{◌≡◌, ◌∙◌, ap, sym, refl, ℕ, ◌+◌, pos, Bool, true, false, List, [], ◌∷◌, ◌++◌, length, replicate, Option, Some, None, IsTrue, if◌then◌else◌, append_assoc}
+use Rattle.std.proofs.Common.{◌≡◌, ◌∙◌, ap, sym, refl, ℕ, ◌+◌, pos, Bool, true, false, List, [], ◌∷◌, ◌++◌, replicate, Option, Some, None, IsTrue, if◌then◌else◌, append_assoc}
 use Rattle.std.specs.Prelude.{option_map}
 use Rattle.std.proofs.lemmas.List.{append-nil, length-replicate}
-use Rattle.spec_value.specs.Datum.{Datum, integer}
+use Rattle.spec_value.specs.Datum.{integer}
 use Rattle.spec_program.specs.Tree.{Program}
 use Rattle.spec_program.specs.Construct.{Construct, of_program, Piece}
 use Rattle.spec_program.specs.Place.{Holds, Part, part_at, tree_of, Linked, is_call}

@@ -1,10 +1,8 @@
 -- What is awaited of held values while they are read one by one.
-use Rattle.std.proofs.Common.{◌≡◌, ◌∙◌, ap, sym, refl, subst, ℕ, zero, suc, List, [], ◌∷◌, ◌++◌, length, Option, Some, None, IsTrue}
-use Rattle.spec_value.specs.Datum.{Datum, Text}
+use Rattle.std.proofs.Common.{◌≡◌, ◌∙◌, ap, sym, refl, subst, ℕ, zero, suc, List, [], ◌∷◌, ◌++◌, length, Option, Some, IsTrue}
+use Rattle.spec_value.specs.Datum.{Datum}
 use Rattle.spec_program.specs.Place.{Holds, holds, held_count}
 use Rattle.spec_faults.specs.Awaited.{Awaited, values, each_held, opened}
-use Rattle.spec_faults.specs.Faults.{at_last, at_line, fault_among}
-use Rattle.spec_faults.specs.Cutting.{lines_of}
 use Rattle.checkpoint_lines.specs.declared.fault.DecodeError.{DecodeError}
 use Rattle.checkpoint_lines.specs.declared.lines.Lines.{Lines}
 use Rattle.checkpoint_lines.specs.Told.{HasRoom, GoesOn, TellsFault}

@@ -1,18 +1,18 @@
 -- What the lines of a place and of held values tell, one by one.
-use Rattle.std.proofs.Common.{◌≡◌, ◌∙◌, ap, sym, refl, subst, ℕ, suc, ◌==◌, ◌||◌, not, Bool, true, false, List, [], ◌∷◌, ◌++◌, length, Option, Some, None, Result, Ok, Err, IsTrue, codes, if◌then◌else◌, arith, eq-eqb}
+use Rattle.std.proofs.Common.{◌≡◌, ◌∙◌, ap, sym, refl, subst, ℕ, suc, ◌==◌, ◌||◌, not, Bool, true, false, List, [], ◌∷◌, ◌++◌, length, Option, Some, None, Result, Err, IsTrue, codes, if◌then◌else◌, arith, eq-eqb}
 use Rattle.std.proofs.lemmas.Bool.Decides.{nat_tests}
 use Rattle.std.specs.Option.{ok_or}
 use Rattle.spec_value.specs.Datum.{Datum, Text}
 use Rattle.spec_program.specs.Tree.{Program}
 use Rattle.spec_program.specs.Place.{Holds}
 use Rattle.spec_world.specs.Checkpoint as fault
-use Rattle.spec_faults.specs.Cutting.{field_at, is_filled}
+use Rattle.spec_faults.specs.Cutting.{field_at}
 use Rattle.spec_faults.specs.Plain.{number_of, number_in, or_zero, is_number, is_path, path_in}
 use Rattle.spec_faults.specs.Literals.{value_of, is_literal, any}
 use Rattle.spec_faults.specs.Codes.{total}
 use Rattle.spec_faults.specs.Forms as form
-use Rattle.spec_faults.specs.Forms.{Wanted, word, other, value, one_is, is_other_word, fault_of}
-use Rattle.spec_faults.specs.Awaited.{Awaited, Verdict, faulty, goes_on, only_if, place, held, values, each_held, with_value, one_value, holds_at, behind_place, counted, each_variable}
+use Rattle.spec_faults.specs.Forms.{word, other, value, one_is, is_other_word, fault_of}
+use Rattle.spec_faults.specs.Awaited.{only_if, place, held, values, each_held, with_value, one_value, holds_at, behind_place, counted, each_variable}
 use Rattle.checkpoint_lines.specs.declared.fault.DecodeError.{DecodeError}
 use Rattle.checkpoint_lines.specs.declared.fault.DecodeError.TheVariants.{Line}
 use Rattle.checkpoint_lines.specs.declared.fault.FaultKind.{FaultKind}
@@ -20,7 +20,7 @@ use Rattle.checkpoint_lines.specs.declared.fault.FaultKind.TheVariants as kind
 use Rattle.checkpoint_lines.specs.declared.row.Row.{Row}
 use Rattle.checkpoint_lines.specs.declared.lines.Lines.{Lines}
 use Rattle.checkpoint_lines.specs.Rows.{row_fields}
-use Rattle.checkpoint_lines.specs.Told.{HasRoom, GoesOn, TellsFault, Tells, line_fields, is_cut, row_fault, IsRow, IsNextRow, IsHeaded, TellsRow, TellsHeaded, IsRowFault, Checks}
+use Rattle.checkpoint_lines.specs.Told.{HasRoom, GoesOn, TellsFault, line_fields, is_cut, row_fault, IsRow, IsNextRow, IsHeaded, TellsRow, TellsHeaded, IsRowFault, Checks}
 use Rattle.checkpoint_lines.proofs.Telling.{row_goes, row_faulty, row_next_faulty, cut_fields, all_meet, fails_misspelt, fails_value, has_line_fault, listed, one_word, number_one, path_one}
 use Rattle.held_values.specs.declared.fits.Wanted.{Wanted as WantedValue}
 use Rattle.held_values.specs.Wanted.{wanted_fits}

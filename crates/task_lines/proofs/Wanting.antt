@@ -1,24 +1,21 @@
 -- What is wanted one by one is what can be held along a path.
-use Rattle.std.proofs.Common.{◌≡◌, ◌∙◌, ap, sym, refl, subst, ℕ, suc, ◌+◌, ◌&&◌, ℤ, pos, negsuc, Bool, true, false, List, [], ◌∷◌, ◌++◌, map, length, take, Option, Some, None, IsTrue, append_assoc, length-append, if◌then◌else◌, arith}
+use Rattle.std.proofs.Common.{◌≡◌, ◌∙◌, ap, sym, refl, subst, ℕ, ◌+◌, ◌&&◌, pos, negsuc, Bool, true, false, List, [], ◌∷◌, ◌++◌, map, length, take, Option, Some, None, IsTrue, append_assoc, length-append, if◌then◌else◌, arith}
 use Rattle.std.specs.Prelude.{option_map}
 use Rattle.std.specs.declared.vec.Vec.{Vec}
 use Rattle.std.specs.declared.alloc.Global.{Global}
 use Rattle.std.proofs.lemmas.List.{append-nil, length-map}
 use Rattle.std.proofs.Math.Bool.{and-true}
 use Rattle.spec_value.specs.Datum.{Datum, integer, object, text, error, list}
-use Rattle.spec_value.proofs.Entries.{first_holds, second_holds, both_hold}
-use Rattle.spec_program.specs.Tree.{Program}
+use Rattle.spec_value.proofs.Entries.{first_holds, second_holds}
 use Rattle.spec_program.specs.Construct.{Construct}
 use Rattle.spec_program.specs.Place.{Kind, any_value, any_list, code_list, all_codes, Holds, holds, walks_list, walks_range, why_left, Part, part_at, held_count, is_call}
 use Rattle.spec_world.specs.WellFormed.{kind_fits, kinds_fit, held_fits, is_loop}
 use Rattle.spec_faults.specs.Codes as faults
 use Rattle.spec_faults.specs.Codes.{holds_down, total, begins_held}
-use Rattle.spec_faults.specs.Awaited.{holds_at}
 use Rattle.held_values.specs.declared.fits.Wanted.{Wanted}
 use Rattle.held_values.specs.Wanted.{has_items, is_counted, wanted_fits, of_kind, wanted_in, in_part, in_tree, if_call, wanted_down}
 use Rattle.held_values.proofs.ValueKinds.{kinds_and_one}
-use Rattle.task_lines.specs.Wanting.{wanted_for, GoesWith, IsWantedBy, StandsWith}
-use Rattle.task_lines.specs.declared.stand.Stand.{Stand}
+use Rattle.task_lines.specs.Wanting.{wanted_for, GoesWith, IsWantedBy}
 
 -- ---- value by value
 
@@ -153,28 +150,20 @@ wanted_along c path = wanted_behind path 0 [] c
 
 -- ---- where a verb stands
 
-abbrev Items : Option (Vec Wanted Global) → Option (List Wanted)
-Items o = option_map (λ v. v.items) o
+abbrev items_in : Option (Vec Wanted Global) → Option (List Wanted)
+items_in o = option_map (λ v. v.items) o
 
-pub none_stands : (c : Construct) (path : List ℕ) (o : Option (Vec Wanted Global)) → o ≡ None → Items o ≡ wanted_down 0 [] c path → holds_down 0 c path ≡ None
-none_stands c path o none e = go (holds_down 0 c path) (sym (ap Items none) ∙ e ∙ wanted_along c path)
+pub none_stands : (c : Construct) (path : List ℕ) (o : Option (Vec Wanted Global)) → o ≡ None → items_in o ≡ wanted_down 0 [] c path → holds_down 0 c path ≡ None
+none_stands c path o none e = go (holds_down 0 c path) (sym (ap items_in none) ∙ e ∙ wanted_along c path)
   where
     go : (q : Option (List (ℕ × Holds))) → None ≡ option_map wanted_for q → q ≡ None
     go None h = refl
     go (Some hs) h = absurd (cc)
 
-pub some_stands : (c : Construct) (path : List ℕ) (o : Option (Vec Wanted Global)) (w : Vec Wanted Global) → o ≡ Some w → Items o ≡ wanted_down 0 [] c path
+pub some_stands : (c : Construct) (path : List ℕ) (o : Option (Vec Wanted Global)) (w : Vec Wanted Global) → o ≡ Some w → items_in o ≡ wanted_down 0 [] c path
     → (hs : List (ℕ × Holds)) × (holds_down 0 c path ≡ Some hs) × IsWantedBy hs w.items
-some_stands c path o w some e = go (holds_down 0 c path) refl (sym (ap Items some) ∙ e ∙ wanted_along c path)
+some_stands c path o w some e = go (holds_down 0 c path) refl (sym (ap items_in some) ∙ e ∙ wanted_along c path)
   where
     go : (q : Option (List (ℕ × Holds))) → holds_down 0 c path ≡ q → Some w.items ≡ option_map wanted_for q → (hs : List (ℕ × Holds)) × (holds_down 0 c path ≡ Some hs) × IsWantedBy hs w.items
     go None down h = absurd (cc)
     go (Some hs) down h = (hs, down, cc)
-
--- a verb that was forked
-pub begins_there : (p : Program) (path : List ℕ) (s : Stand) → path ≡ [] → s.wanted.items ≡ [] → StandsWith true p path (Some s)
-begins_there p path s none wanted = ([], ap (holds_at true p) none, wanted)
-
-pub begins_elsewhere : (p : Program) (path : List ℕ) → (path ≡ [] → ⊥) → StandsWith true p path None
-begins_elsewhere p [] h = absurd (h refl)
-begins_elsewhere p (n ∷ path) h = refl

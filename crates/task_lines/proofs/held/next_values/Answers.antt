@@ -9,7 +9,7 @@ use Rattle.checkpoint_lines.specs.Rows.{Left}
 use Rattle.checkpoint_lines.proofs.Giving.{gives_passed}
 use Rattle.task_lines.specs.Wanting.{GoesWith}
 use Rattle.task_lines.proofs.Loops.{next_wanted, next_held, before_is, last_pushed}
-use Rattle.task_lines.proofs.HeldLines.{Reading, begins, one_more, read_one, read_none, all_read}
+use Rattle.task_lines.proofs.HeldLines.{begins, one_more, read_one, read_none, all_read}
 use Rattle.task_lines.proofs.Telling.{tells_passed}
 use Rattle.task_lines.proofs.held.next_values.Goals as goal
 

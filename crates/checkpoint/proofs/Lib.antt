@@ -1,3 +1,5 @@
 pub mod Drafts
 pub mod FixtureReads
 pub mod ReadableParts
+pub mod Reach
+pub mod Faults

@@ -5,6 +5,7 @@ ghost use Rattle.spec_world.specs.Checkpoint.{checkpoint_text};
 ghost use Rattle.view.specs.Sound.{IsSound};
 ghost use Rattle.checkpoint_lines.specs.Gives.{Gives};
 ghost use Rattle.checkpoint.specs.Readable.{IsReadable};
+ghost use Rattle.checkpoint.specs.Faulty.{TellsFirst};
 
 use crate::draft::next_draft;
 use checkpoint_lines::fault::{DecodeError, FaultKind};
@@ -18,12 +19,13 @@ use world_checks::sound::is_sound;
 /// The world whose text the bytes are.
 ///
 /// An `Err` tells the first faulty line with the least of its faults, or that memory ran out. A text without other faults
-/// that no well-formed world has is told at its last line. Of the text of a world that is readable the only `Err` is that
-/// memory ran out.
+/// that no well-formed world of values has is told at its last line. Of the text of a world that is readable the only `Err`
+/// is that memory ran out.
 pub fn decode(alloc: Global, bytes: &[u8]) -> Result<World, DecodeError>
     ensures text { IfOk result (λ w. bytes.now ≡ checkpoint_text w.plain) }
     ensures opened { IfOk result (λ w. w.opened ≡ 0) }
     ensures finds { (w : meant.World) → IsReadable w → bytes.now ≡ checkpoint_text w → Gives result (λ x. x.plain ≡ w) }
+    ensures fault { TellsFirst result bytes.now }
 {
     let mut lines = Lines::new(bytes);
     let draft = next_draft(alloc, &mut lines)?;

@@ -2,7 +2,9 @@
 ghost use Rattle.std.specs.Prelude.{◌≡◌, [], Some};
 ghost use Rattle.spec_world.specs.World as meant;
 ghost use Rattle.spec_world.specs.Checkpoint.{world_lines};
+ghost use Rattle.spec_faults.specs.Awaited.{whole};
 ghost use Rattle.checkpoint_lines.specs.Rows.{Left, Reads};
+ghost use Rattle.checkpoint_lines.specs.Told.{Ends};
 ghost use Rattle.checkpoint.specs.Readable.{IsReadable};
 
 use checkpoint_lines::fault::DecodeError;
@@ -15,6 +17,7 @@ use world::draft::Draft;
 /// A draft of all lines. None where no line has a fault and yet no world is so.
 pub fn next_draft(alloc: Global, lines: &mut Lines<'_>) -> Result<Option<Draft>, DecodeError>
     ensures reads { (w : meant.World) → IsReadable w → Left lines.old (world_lines w) → Reads result lines.new [] (λ d. d ≡ Some w) }
+    ensures tells { Ends result lines.old lines.new whole }
 {
     let mut draft = Draft::empty(alloc);
     read_front(alloc, lines, &mut draft)?;

@@ -1,0 +1,42 @@
+-- The first fault of a text, by what its readers tell.
+use Rattle.std.proofs.Common.{◌≡◌, ℕ, suc, ◌+◌, List, [], length, Option, Some, None, Result, Ok, Err, IsTrue, refl, ap, sym, ◌∙◌, subst, inl, inr}
+use Rattle.spec_value.specs.Datum.{Text}
+use Rattle.spec_world.specs.Checkpoint as fault
+use Rattle.spec_faults.specs.Cutting.{lines_of}
+use Rattle.spec_faults.specs.Awaited.{Awaited, whole}
+use Rattle.spec_faults.specs.Faults.{LineFault, fault_at, fault_among, first_fault, IsNoWorlds, IsFirstFault}
+use Rattle.checkpoint_lines.specs.declared.fault.DecodeError.{DecodeError}
+use Rattle.checkpoint_lines.specs.declared.fault.DecodeError.TheVariants.{Line, Memory}
+use Rattle.checkpoint_lines.specs.declared.fault.FaultKind.TheVariants.{World}
+use Rattle.checkpoint_lines.specs.declared.lines.Lines.{Lines}
+use Rattle.checkpoint_lines.specs.Told.{IsFault, fault_left, lines_in, HasRoom, Ends}
+use Rattle.checkpoint.specs.Faulty.{TellsFirst}
+
+-- ---- a fault that is passed on
+
+pub ends_passed : {A : Type 0} (r : Result A DecodeError) (y e : DecodeError) (l m : Lines) (awaited : List Awaited) → r ≡ Err y → y ≡ e → (HasRoom l → IsFault e (fault_left l awaited)) → Ends r l m awaited
+ends_passed r y e l m awaited is same f = subst (λ s. Ends s l m awaited) (sym is) (λ room. subst (λ d. IsFault d (fault_left l awaited)) (sym same) (f room))
+
+-- ---- all of a text
+
+pub of_all : (l : Lines) (t : Text) → l.left.now ≡ t → l.count ≡ 0 → fault_left l whole ≡ first_fault t
+unfolding first_fault
+of_all l t left none =
+    ap (λ n. fault_among (lines_of l.left.now).lines (lines_of l.left.now).rest (suc n) whole) none
+    ∙ ap (λ u. fault_among (lines_of u).lines (lines_of u).rest 1 whole) left
+
+pub lines_of_all : (l : Lines) (t : Text) → l.left.now ≡ t → l.count ≡ 0 → lines_in l ≡ length (lines_of t).lines
+lines_of_all l t left none = ap (λ n. n + length (lines_of l.left.now).lines) none ∙ ap (λ u. length (lines_of u).lines) left
+
+-- ---- the fault that is told
+
+told : {A : Type 0} (y : DecodeError) (t : Text) → IsFault y (first_fault t) → TellsFirst {A} (Err y) t
+told (Line n k) t f = inl f
+told (Memory e) t f = tt
+
+pub tells_first : {A : Type 0} (r : Result A DecodeError) (y e : DecodeError) (t : Text) → r ≡ Err y → y ≡ e → IsFault e (first_fault t) → TellsFirst r t
+tells_first r y e t is same f = subst (λ s. TellsFirst s t) (sym is) (told y t (subst (λ d. IsFault d (first_fault t)) (sym same) f))
+
+pub tells_world : {A : Type 0} (r : Result A DecodeError) (n : ℕ) (t : Text) → r ≡ Err (Line n World) → first_fault t ≡ None → n ≡ length (lines_of t).lines → IsNoWorlds t → TellsFirst r t
+tells_world r n t is none line no_world =
+    subst (λ s. TellsFirst s t) (sym is) (inr (record { none = none; kind = refl; line = line; no_world = no_world }))

@@ -1,10 +1,10 @@
 -- What a reader of one field tells of its test.
-use Rattle.std.proofs.Common.{◌≡◌, Bool, true, false, Result, Ok, Err, Option, Some, None, IfOk, IfSome, is_some, alloc_error, refl, ap, sym, subst, ◌∙◌}
+use Rattle.std.proofs.Common.{◌≡◌, Bool, false, Result, Err, Option, Some, None, IfOk, is_some, alloc_error, refl, ap, sym, subst, ◌∙◌}
 use Rattle.std.specs.Prelude.{option_map}
 use Rattle.std.specs.Option.{ok_or}
-use Rattle.spec_value.specs.Datum.{Text, integer, object, text, error, list, Datum}
+use Rattle.spec_value.specs.Datum.{integer, object, text, error, list, Datum}
 use Rattle.spec_faults.specs.Plain.{passes}
-use Rattle.spec_faults.specs.Literals.{value_of, is_literal, any, is_string}
+use Rattle.spec_faults.specs.Literals.{any, is_string}
 use Rattle.line_fields.specs.Said.{Says, string_in}
 use Rattle.checkpoint_lines.specs.declared.fault.DecodeError.{DecodeError}
 use Rattle.checkpoint_lines.specs.declared.fault.DecodeError.TheVariants.{Line, Memory}

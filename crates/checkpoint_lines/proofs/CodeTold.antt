@@ -1,6 +1,5 @@
 -- What a reader tells of the lines of a program.
-use Rattle.std.proofs.Common.{◌≡◌, ℕ, zero, suc, ◌+◌, ◌-◌, ◌<◌, min, List, [], ◌∷◌, ◌++◌, length, Option, Some, None, Result, Ok, Err, IsTrue, refl, ap, sym, subst, ◌∙◌, arith, append_assoc, length-append}
-use Rattle.std.specs.Prelude.{IfOk}
+use Rattle.std.proofs.Common.{◌≡◌, ℕ, zero, suc, ◌+◌, ◌-◌, ◌<◌, min, List, [], ◌∷◌, ◌++◌, length, Option, Some, None, Result, Err, IsTrue, refl, ap, sym, subst, ◌∙◌, arith, append_assoc, length-append}
 use Rattle.spec_value.specs.Datum.{Text}
 use Rattle.spec_program.specs.Tree.{Program, the_end}
 use Rattle.spec_world.specs.Checkpoint as fault
@@ -8,20 +7,19 @@ use Rattle.spec_world.specs.Checkpoint.{with_line_ends}
 use Rattle.spec_checkpoint.specs.Lines.{are_lines}
 use Rattle.spec_faults.specs.Cutting.{lines_of}
 use Rattle.spec_faults.specs.Codes.{program_of}
-use Rattle.spec_faults.specs.Awaited.{Awaited, code, Whose, of_verb, of_frame, behind_code, whole_code, faulty, goes_on, opened}
-use Rattle.spec_faults.specs.Faults.{LineFault, fault_at, at_last, at_line, behind_line, fault_among}
+use Rattle.spec_faults.specs.Awaited.{Awaited, code, Whose, of_verb, of_frame, behind_code, whole_code, opened}
+use Rattle.spec_faults.specs.Faults.{fault_at, behind_line, fault_among}
 use Rattle.spec_faults.proofs.Spelling.{programs_told}
 use Rattle.checkpoint_lines.specs.declared.fault.DecodeError.{DecodeError}
-use Rattle.checkpoint_lines.specs.declared.fault.DecodeError.TheVariants.{Line}
-use Rattle.checkpoint_lines.specs.declared.fault.FaultKind.TheVariants as kind
 use Rattle.checkpoint_lines.specs.declared.lines.Lines.{Lines}
-use Rattle.checkpoint_lines.specs.Told.{IsFault, fault_left, lines_in, HasRoom, GoesOn, TellsFault, Tells, AreNext, AreOver}
+use Rattle.checkpoint_lines.specs.Told.{IsFault, fault_left, lines_in, HasRoom, GoesOn, Tells, AreNext, AreOver}
+use Rattle.checkpoint_lines.proofs.Going.{same_fault}
 
 -- ---- so many lines of it
 
 code_told : (t : Text) (ts us : List Text) (r : Text) (n : ℕ) (before : List Text) (whose : Whose) (more : List Awaited)
     → fault_among ((t ∷ ts) ++ us) r n (code (suc (length ts)) before whose ∷ more)
-      ≡ behind_line (whole_code (length before + length ts) whose (program_of (before ++ t ∷ ts))) more (n + length ts) (λ a. fault_among us r (suc (n + length ts)) a)
+    ≡ behind_line (whole_code (length before + length ts) whose (program_of (before ++ t ∷ ts))) more (n + length ts) (λ a. fault_among us r (suc (n + length ts)) a)
 code_told t [] us r n before whose more =
     let same : length before ≡ length before + 0 = omega arith in
     let at : n ≡ n + 0 = omega arith in
@@ -47,10 +45,6 @@ code_over (t ∷ us) r n (suc (suc k)) before whose more l =
     code_over us r (suc n) (suc k) (before ++ t ∷ []) whose more (omega arith) ∙ ap (λ i. fault_at i fault.ended) at
 
 -- ---- none of it
-
-among_same : (a b : List Awaited) (us : List Text) (r : Text) (n : ℕ) → opened a ≡ opened b → fault_among us r n a ≡ fault_among us r n b
-among_same a b [] r n e = ap (λ o. at_last o r n) e
-among_same a b (u ∷ us) r n e = ap (λ o. at_line o u n (λ more. fault_among us r (suc n) more)) e
 
 no_code : (whose : Whose) (more : List Awaited) → opened (code 0 [] whose ∷ more) ≡ opened (behind_code whose the_end ++ more)
 no_code of_verb more = refl
@@ -80,7 +74,7 @@ code_goes l m n whose p ts many cut count room is =
     go [] at is more =
         let same : the_end ≡ p = cc (none_is_end, is) in
         let here : l.count ≡ m.count = omega arith in
-        among_same (code 0 [] whose ∷ more) (behind_code whose the_end ++ more) (lines_of m.left.now).lines (lines_of m.left.now).rest (suc l.count) (no_code whose more)
+        same_fault (code 0 [] whose ∷ more) (behind_code whose the_end ++ more) (lines_of m.left.now).lines (lines_of m.left.now).rest (suc l.count) (no_code whose more)
         ∙ ap (λ q. fault_among (lines_of m.left.now).lines (lines_of m.left.now).rest (suc l.count) (behind_code whose q ++ more)) same
         ∙ ap (λ i. fault_among (lines_of m.left.now).lines (lines_of m.left.now).rest (suc i) (behind_code whose p ++ more)) here
     go (u ∷ us) at is more =
@@ -126,7 +120,7 @@ pub program_over : {A : Type 0} (res : Result A DecodeError) (e d : DecodeError)
 program_over res e d l m n whose after was is over =
     subst (λ s. Tells s l m (code n [] whose ∷ []) after) (sym was)
     (λ room more.
-        let o = over room in
-        let at : suc l.count + length (lines_of l.left.now).lines ≡ suc (lines_in l) = omega arith in
-        subst (λ f. IsFault f (fault_left l (code n [] whose ∷ more))) (sym (is ∙ o.error))
-        (code_over (lines_of l.left.now).lines (lines_of l.left.now).rest (suc l.count) n [] whose more o.fewer ∙ ap (λ i. fault_at i fault.ended) at))
+    let o = over room in
+    let at : suc l.count + length (lines_of l.left.now).lines ≡ suc (lines_in l) = omega arith in
+    subst (λ f. IsFault f (fault_left l (code n [] whose ∷ more))) (sym (is ∙ o.error))
+    (code_over (lines_of l.left.now).lines (lines_of l.left.now).rest (suc l.count) n [] whose more o.fewer ∙ ap (λ i. fault_at i fault.ended) at))

@@ -89,7 +89,7 @@ first_same (suc n) [] l = absurd (omega arith)
 first_same (suc n) (t ∷ []) l = absurd (omega arith)
 first_same (suc n) (t ∷ u ∷ ts) l = ap (λ us. t ∷ us) (first_same n (u ∷ ts) (omega arith))
 
-never : (a : Bool) → (a && false) ≡ false
+pub never : (a : Bool) → (a && false) ≡ false
 never true = refl
 never false = refl
 

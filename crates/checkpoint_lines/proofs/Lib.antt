@@ -7,6 +7,7 @@ pub mod Checking
 pub mod LinesLeft
 pub mod FirstFields
 pub mod RowsTold
+pub mod Going
 pub mod OneField
 pub mod TextEnd
 pub mod LinesPassed

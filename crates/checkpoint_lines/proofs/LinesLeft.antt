@@ -1,12 +1,11 @@
 -- The lines that are left of a text.
-use Rattle.std.proofs.Common.{◌≡◌, ℕ, suc, ◌+◌, ◌<◌, ◌^◌, min, [], ◌∷◌, ◌++◌, length, IsTrue, refl, ap, sym, ◌∙◌, arith, append_assoc, length-append}
+use Rattle.std.proofs.Common.{◌≡◌, ℕ, suc, ◌+◌, min, [], ◌∷◌, ◌++◌, length, IsTrue, refl, ap, sym, ◌∙◌, arith, append_assoc, length-append}
 use Rattle.spec_value.specs.Datum.{Text}
 use Rattle.spec_value.proofs.Entries.{both_hold}
 use Rattle.spec_world.specs.Checkpoint.{with_line_ends}
 use Rattle.spec_checkpoint.specs.Lines.{is_line, are_lines}
 use Rattle.spec_faults.specs.Cutting.{Cut, lines_of}
 use Rattle.spec_faults.proofs.LinesBack.{lines_spelled, lines_told}
-use Rattle.checkpoint_lines.specs.declared.fault.DecodeError.{DecodeError}
 use Rattle.checkpoint_lines.specs.declared.fault.DecodeError.TheVariants.{Line}
 use Rattle.checkpoint_lines.specs.declared.fault.FaultKind.TheVariants as kind
 use Rattle.checkpoint_lines.specs.declared.lines.Lines.{Lines}

@@ -1,9 +1,8 @@
 -- So many lines of a text, one after another.
-use Rattle.std.proofs.Common.{◌≡◌, ℕ, suc, ◌+◌, ◌-◌, ◌<◌, ◌≤◌, ◌&&◌, List, [], ◌∷◌, ◌++◌, length, take, Result, Ok, Err, IsTrue, refl, ap, sym, subst, ◌∙◌, arith, append_assoc, length-append}
+use Rattle.std.proofs.Common.{◌≡◌, ℕ, suc, ◌+◌, ◌-◌, ◌<◌, List, [], ◌∷◌, ◌++◌, length, take, Result, Err, IsTrue, refl, ap, sym, subst, ◌∙◌, arith, append_assoc, length-append}
 use Rattle.std.proofs.lemmas.List.{append-nil}
 use Rattle.std.proofs.Math.Seq.{take-append_seam}
 use Rattle.std.specs.Borrow.{Bor}
-use Rattle.std.specs.List.{list_all}
 use Rattle.spec_value.specs.Datum.{Text}
 use Rattle.spec_value.proofs.Entries.{first_holds, second_holds, both_hold}
 use Rattle.spec_world.specs.Checkpoint.{with_line_ends}
@@ -14,7 +13,7 @@ use Rattle.checkpoint_lines.specs.declared.fault.DecodeError.{DecodeError}
 use Rattle.checkpoint_lines.specs.declared.fault.DecodeError.TheVariants.{Line}
 use Rattle.checkpoint_lines.specs.declared.fault.FaultKind.TheVariants as kind
 use Rattle.checkpoint_lines.specs.declared.lines.Lines.{Lines}
-use Rattle.checkpoint_lines.specs.Told.{lines_in, HasRoom, IsNext, IsOver, AreNext, AreOver, NextLines}
+use Rattle.checkpoint_lines.specs.Told.{lines_in, HasRoom, IsNext, IsOver, AreNext, NextLines}
 use Rattle.checkpoint_lines.proofs.Rests.{ends_append}
 
 -- so many lines were read since
@@ -55,8 +54,8 @@ are_next l m n i size p all is =
     let whole = lines_spelled l.left.now in
     let rest = lines_spelled m.left.now in
     let spelled : l.left.now ≡ with_line_ends ts ++ m.left.now =
-        sym whole.whole ∙ ap (λ j. with_line_ends j.lines ++ j.rest) p.cut ∙ ap (λ t. t ++ k.rest) (ends_append ts k.lines) ∙ append_assoc (with_line_ends ts) (with_line_ends k.lines) k.rest
-        ∙ ap (λ t. with_line_ends ts ++ t) rest.whole in
+    sym whole.whole ∙ ap (λ j. with_line_ends j.lines ++ j.rest) p.cut ∙ ap (λ t. t ++ k.rest) (ends_append ts k.lines) ∙ append_assoc (with_line_ends ts) (with_line_ends k.lines) k.rest
+    ∙ ap (λ t. with_line_ends ts ++ t) rest.whole in
     let long : length l.left.now ≡ length (with_line_ends ts) + length m.left.now = ap length spelled ∙ length-append (with_line_ends ts) m.left.now in
     let at : size ≡ length (with_line_ends ts) = omega arith in
     record {
@@ -74,11 +73,11 @@ pub over_lines : (res : Result (Bor Text) DecodeError) (e d : DecodeError) (l m 
 over_lines res e d l m k n i was is less passed over =
     subst (λ s. NextLines s l k n) (sym was)
     (λ room.
-        let p = passed room in
-        let o = over p.room in
-        let cut : lines_of l.left.now ≡ record { lines = p.lines; rest = m.left.now } =
-            p.cut ∙ ap (λ j. record { lines = p.lines ++ j.lines; rest = j.rest }) o.cut ∙ ap (λ ts. record { lines = ts; rest = m.left.now }) (append-nil p.lines) in
-        let many : length (lines_of l.left.now).lines ≡ i = ap (λ j. length j.lines) cut ∙ p.many in
-        let count = p.count in
-        let at : m.count ≡ lines_in l = omega arith in
-        record { fewer = omega arith; error = is ∙ o.error ∙ ap (λ j. Line (suc j) kind.Ended) at })
+    let p = passed room in
+    let o = over p.room in
+    let cut : lines_of l.left.now ≡ record { lines = p.lines; rest = m.left.now } =
+    p.cut ∙ ap (λ j. record { lines = p.lines ++ j.lines; rest = j.rest }) o.cut ∙ ap (λ ts. record { lines = ts; rest = m.left.now }) (append-nil p.lines) in
+    let many : length (lines_of l.left.now).lines ≡ i = ap (λ j. length j.lines) cut ∙ p.many in
+    let count = p.count in
+    let at : m.count ≡ lines_in l = omega arith in
+    record { fewer = omega arith; error = is ∙ o.error ∙ ap (λ j. Line (suc j) kind.Ended) at })

@@ -1,9 +1,9 @@
 -- What a reader tells of a line with one field behind its word.
-use Rattle.std.proofs.Common.{◌≡◌, ◌||◌, ℤ, Bool, true, false, not, List, [], ◌∷◌, Some, Result, Ok, Err, IfOk, IsTrue, refl, ap, subst, ◌∙◌}
+use Rattle.std.proofs.Common.{◌≡◌, ◌||◌, ℤ, Bool, true, false, not, List, [], ◌∷◌, Result, Ok, Err, refl, ap, subst, ◌∙◌}
 use Rattle.spec_value.specs.Datum.{Text}
 use Rattle.spec_faults.specs.Cutting.{field_at}
-use Rattle.spec_faults.specs.Forms.{Wanted, word, other, value, is_other_word, one_is}
-use Rattle.spec_faults.specs.Awaited.{Awaited, one, Verdict, goes_on}
+use Rattle.spec_faults.specs.Forms.{word, other, value, is_other_word, one_is}
+use Rattle.spec_faults.specs.Awaited.{Awaited, Verdict, goes_on}
 use Rattle.checkpoint_lines.specs.declared.fault.DecodeError.{DecodeError}
 use Rattle.checkpoint_lines.specs.declared.fault.FaultKind.TheVariants as kind
 use Rattle.checkpoint_lines.specs.declared.row.Row.{Row}
@@ -12,15 +12,11 @@ use Rattle.checkpoint_lines.specs.Rows.{row_fields}
 use Rattle.checkpoint_lines.specs.Told.{HasRoom, Tells, IsRow, IsNextRow, IsHeaded, Checks}
 use Rattle.checkpoint_lines.proofs.Telling.{row_goes, row_faulty, all_meet, fails_misspelt, fails_value, in_places, listed, one_word, IsOne}
 
-pub one_row : (ws : List Wanted) → IsRow (one ws) (λ _. ws) (λ _. goes_on [])
-one_row ws = record { told = λ t. refl; first = λ more. refl }
-
 pub both_sides : (P : ℤ → ℤ → Type 0) {a b c d : ℤ} → a ≡ b → c ≡ d → P a c → P b d
 both_sides P {a} {b} {c} {d} e f p = subst (λ x. P x d) e (subst (λ y. P a y) f p)
 
 module _ {A : Type 0} (r : Row) (l m : Lines) (w : Text) (f : Text → Bool) (single : (t : Text) → f t ≡ true → IsOne t) (a : Awaited) (next : List Text → Verdict) (after : A → List Awaited)
-  (there : HasRoom l → IsNextRow r l m × IsHeaded r w 1) where
-
+    (there : HasRoom l → IsNextRow r l m × IsHeaded r w 1) where
   -- of a field that is no literal
   pub other_told : (res : Result A DecodeError) → IsRow a (λ _. word w ∷ other f ∷ []) next → Checks res r kind.Number (f (field_at (row_fields r) 1))
       → ((x : A) → res ≡ Ok x → next (in_places 2 0 (row_fields r)) ≡ goes_on (after x)) → Tells res l m (a ∷ []) after

@@ -1,5 +1,5 @@
 -- What readers of a line in fields tell of it.
-use Rattle.std.proofs.Common.{◌≡◌, ℕ, suc, ◌<◌, ◌==◌, ◌&&◌, ◌||◌, Bool, true, false, not, List, [], ◌∷◌, length, Some, Result, Ok, Err, IsTrue, if◌then◌else◌, refl, ap, sym, subst, ◌∙◌, arith}
+use Rattle.std.proofs.Common.{◌≡◌, ℕ, suc, ◌==◌, ◌&&◌, Bool, true, false, not, List, [], ◌∷◌, length, Some, Result, Ok, Err, IsTrue, if◌then◌else◌, refl, ap, sym, subst, ◌∙◌}
 use Rattle.std.proofs.lemmas.Bool.{eqb-true}
 use Rattle.std.specs.List.{list_all}
 use Rattle.spec_value.specs.Datum.{Text, same_text}
@@ -12,14 +12,13 @@ use Rattle.spec_faults.specs.Awaited.{Awaited, Verdict, by_fault}
 use Rattle.line_fields.specs.Cutting.{first_fields}
 use Rattle.checkpoint_lines.specs.declared.fault.DecodeError.{DecodeError}
 use Rattle.checkpoint_lines.specs.declared.fault.DecodeError.TheVariants.{Line}
-use Rattle.checkpoint_lines.specs.declared.fault.FaultKind.{FaultKind}
 use Rattle.checkpoint_lines.specs.declared.fault.FaultKind.TheVariants as kind
 use Rattle.checkpoint_lines.specs.declared.row.Row.{Row}
 use Rattle.checkpoint_lines.specs.declared.lines.Lines.{Lines}
 use Rattle.checkpoint_lines.specs.Rows.{row_fields}
-use Rattle.checkpoint_lines.specs.Told.{HasRoom, TellsFault, Tells, IsNext, IsOver, all_fields, line_fields, is_cut, row_fault, IsRow, IsNextRow, NewRow, TellsRow, NextRow, IsHeaded, TellsHeaded, NextWith, is_test}
+use Rattle.checkpoint_lines.specs.Told.{HasRoom, TellsFault, Tells, IsNext, all_fields, line_fields, is_cut, row_fault, IsRow, IsNextRow, NewRow, NextRow, IsHeaded, TellsHeaded, NextWith, is_test}
 use Rattle.checkpoint_lines.proofs.Telling.{line_faulty, some_field, cut_fields}
-use Rattle.checkpoint_lines.proofs.FirstFields.{first_all, last_cut, filled_first, no_head}
+use Rattle.checkpoint_lines.proofs.FirstFields.{first_all, last_cut, filled_first, never, no_head}
 
 -- ---- a line whose fields have not the form
 
@@ -30,10 +29,6 @@ line_formless : (l m : Lines) (line : Text) (a : Awaited) (form : List Text → 
     → has_form (form (fields_in line)) (fields_in line) ≡ false → TellsFault (Line m.count kind.Line) l (a ∷ [])
 line_formless l m line a form next n is h =
     line_faulty l m line a kind.Line n is.first (is.told line ∙ ap (λ o. by_fault o (fields_in line) next) (formless (form (fields_in line)) (fields_in line) h))
-
-never : (a : Bool) → (a && false) ≡ false
-never true = refl
-never false = refl
 
 -- a field is empty
 empty_formless : (ws : List Wanted) (ts : List Text) → list_all is_filled ts ≡ false → has_form ws ts ≡ false
@@ -67,20 +62,21 @@ pub headed_empty : (res : Result Row DecodeError) (e d : DecodeError) (l m : Lin
 headed_empty res e d l m line w n ts was is next es new =
     subst (λ s. NextWith s l m w n) (sym was)
     (λ room a ws after row many tests.
-        subst (λ f. TellsFault f l (a ∷ [])) (sym (is ∙ new.0))
-        (line_formless l m line a (λ us. word w ∷ ws) after (next room) row
-         (empty_formless (word w ∷ ws) (fields_in line) (first_empty n line (ap (list_all is_filled) (sym es) ∙ new.1)))))
+    subst (λ f. TellsFault f l (a ∷ [])) (sym (is ∙ new.0))
+    (line_formless l m line a (λ us. word w ∷ ws) after (next room) row
+    (empty_formless (word w ∷ ws) (fields_in line) (first_empty n line (ap (list_all is_filled) (sym es) ∙ new.1)))))
 
 -- the word stands there
 pub headed : (r : Row) (l m : Lines) (line w : Text) (n : ℕ) (ts : List Text) (has : Bool) → (HasRoom l → IsNext line l m) → ts ≡ first_fields n (fields_in line) → NewRow (Ok r) m.count ts
     → has ≡ (length (row_fields r) == suc n && same_text (field_at (row_fields r) 0) w) → has ≡ true → HasRoom l → IsNextRow r l m × IsHeaded r w n
 headed r l m line w n ts has next es new e so room =
-    let both : (length (row_fields r) == suc n && same_text (field_at (row_fields r) 0) w) ≡ true = sym e ∙ so in
-    (next_row r l m line (next room) new.0 (subst (λ us. IsTrue (list_all is_filled us)) (sym new.1) new.2) (ap all_fields (new.1 ∙ es) ∙ first_all n (fields_in line) line refl),
-     record {
-       many = eqb-true (length (row_fields r)) (suc n) (first_holds (length (row_fields r) == suc n) (same_text (field_at (row_fields r) 0) w) both);
-       word = same_texts (field_at (row_fields r) 0) w (second_holds (length (row_fields r) == suc n) (same_text (field_at (row_fields r) 0) w) both);
-     })
+    let both : (length (row_fields r) == suc n && same_text (field_at (row_fields r) 0) w) ≡ true = sym e ∙ so in (
+      next_row r l m line (next room) new.0 (subst (λ us. IsTrue (list_all is_filled us)) (sym new.1) new.2) (ap all_fields (new.1 ∙ es) ∙ first_all n (fields_in line) line refl),
+      record {
+        many = eqb-true (length (row_fields r)) (suc n) (first_holds (length (row_fields r) == suc n) (same_text (field_at (row_fields r) 0) w) both);
+        word = same_texts (field_at (row_fields r) 0) w (second_holds (length (row_fields r) == suc n) (same_text (field_at (row_fields r) 0) w) both);
+      },
+    )
 
 line_is_line : (r : Row) → row_fault r kind.Line ≡ Line r.line kind.Line
 line_is_line r = go (is_cut (row_fields r))
@@ -95,8 +91,8 @@ pub not_headed : (r : Row) (e : DecodeError) (l m : Lines) (line w : Text) (n : 
 not_headed r e l m line w n ts has next es new is other fails room a ws after row many tests =
     subst (λ f. TellsFault f l (a ∷ [])) (sym (fails ∙ line_is_line r ∙ ap (λ i. Line i kind.Line) new.0))
     (line_formless l m line a (λ us. word w ∷ ws) after (next room) row
-     (no_head w n ws (fields_in line) many
-      (ap (λ us. length us == suc n && same_text (field_at us 0) w) (sym (new.1 ∙ es)) ∙ sym is ∙ other)))
+    (no_head w n ws (fields_in line) many
+    (ap (λ us. length us == suc n && same_text (field_at us 0) w) (sym (new.1 ∙ es)) ∙ sym is ∙ other)))
 
 -- ---- an error that is passed on
 

@@ -1,17 +1,17 @@
 -- What readers tell of the lines that they read: one after another, and of one line in fields.
-use Rattle.std.proofs.Common.{◌≡◌, ℕ, zero, suc, ◌+◌, ◌-◌, ◌<◌, ◌==◌, ◌&&◌, ◌||◌, nat_le, ℤ, int_le, Bool, true, false, not, List, [], ◌∷◌, ◌++◌, map, length, drop, codes, if◌then◌else◌, Option, Some, None, Result, Ok, Err, IsTrue, refl, ap, sym, subst, ◌∙◌, arith, append_assoc, eq-eqb}
+use Rattle.std.proofs.Common.{◌≡◌, ℕ, zero, suc, ◌-◌, ◌<◌, ◌==◌, ◌&&◌, ◌||◌, nat_le, ℤ, int_le, Bool, true, false, not, List, [], ◌∷◌, ◌++◌, map, length, codes, if◌then◌else◌, Option, Some, None, Result, Ok, Err, IsTrue, refl, ap, sym, subst, ◌∙◌, arith, append_assoc, eq-eqb}
 use Rattle.std.proofs.lemmas.Bool.Decides.{nat_tests}
 use Rattle.std.specs.List.{list_all}
-use Rattle.std.specs.Fmt.{decimal, signed_decimal}
+use Rattle.std.specs.Fmt.{decimal}
 use Rattle.spec_value.specs.Datum.{Text, same_text, Datum}
 use Rattle.spec_value.proofs.Entries.{first_holds, second_holds, both_hold}
 use Rattle.spec_value.proofs.Same.{same_texts, text_itself}
 use Rattle.spec_world.specs.Checkpoint as fault
 use Rattle.spec_world.specs.Checkpoint.{CheckpointFault, fields, or_dash}
-use Rattle.spec_faults.specs.Cutting.{lines_of, Spot, among, quoted, escaped, ends_field, onto_first, with_next, spot_behind, fields_from, fields_in, field_at, is_filled}
+use Rattle.spec_faults.specs.Cutting.{lines_of, Spot, among, ends_field, with_next, spot_behind, fields_from, fields_in, field_at, is_filled}
 use Rattle.spec_faults.specs.Forms.{Wanted, word, other, value, is_other_word, is_misspelt, is_no_value, one_is, has_form, least, fault_of}
 use Rattle.spec_faults.specs.Awaited.{Awaited, Verdict, faulty, goes_on, by_fault, by_form, told, opened}
-use Rattle.spec_faults.specs.Faults.{LineFault, fault_at, at_line, behind_line, fault_among}
+use Rattle.spec_faults.specs.Faults.{fault_at, at_line, behind_line, fault_among}
 use Rattle.checkpoint_lines.specs.declared.fault.DecodeError.{DecodeError}
 use Rattle.checkpoint_lines.specs.declared.fault.DecodeError.TheVariants.{Line, Memory}
 use Rattle.checkpoint_lines.specs.declared.fault.FaultKind.{FaultKind}
@@ -24,7 +24,7 @@ use Rattle.spec_faults.specs.FieldLaws.{is_unmarked, IsField, unmarked, spelled}
 use Rattle.spec_faults.proofs.FieldsBack.{fields_spelled, fields_told, decimal_unmarked, signed_unmarked}
 use Rattle.spec_faults.proofs.Spelling.{numbers_spelled, integers_spelled, values_spelled}
 use Rattle.checkpoint_lines.specs.Rows.{row_fields}
-use Rattle.checkpoint_lines.specs.Told.{all_fields, is_test, IsHeaded, is_cut, row_fault, Checks, meant, IsFault, fault_left, lines_in, HasRoom, GoesOn, TellsFault, Tells, IsNext, line_fields, IsRow, IsNextRow, IsRowFault, RowTells}
+use Rattle.checkpoint_lines.specs.Told.{all_fields, is_test, is_cut, row_fault, Checks, meant, IsFault, fault_left, lines_in, HasRoom, GoesOn, TellsFault, Tells, IsNext, line_fields, IsRow, IsNextRow, IsRowFault, RowTells}
 
 -- ---- one after another
 
@@ -179,12 +179,13 @@ module _ (r : Row) (ws : List Wanted) (ts : List Text) (is : row_fields r ≡ ts
 
   -- each is as it is wanted
   pub all_meet : one_is is_misspelt ws ts ≡ false → one_is is_no_value ws ts ≡ false → is_cut ts ≡ true → (line_fields r ≡ ts) × (fault_of ws (line_fields r) ≡ None)
-  all_meet spelt values cut =
-      (all_cut cut,
-       ap (fault_of ws) (all_cut cut)
-       ∙ ap (λ b. least b (one_is is_misspelt ws ts) (one_is is_no_value ws ts)) has_all
-       ∙ ap (λ b. least true b (one_is is_no_value ws ts)) spelt
-       ∙ ap (least true false) values)
+  all_meet spelt values cut = (
+    all_cut cut,
+    ap (fault_of ws) (all_cut cut)
+        ∙ ap (λ b. least b (one_is is_misspelt ws ts) (one_is is_no_value ws ts)) has_all
+        ∙ ap (λ b. least true b (one_is is_no_value ws ts)) spelt
+        ∙ ap (least true false) values,
+  )
 
   fails : (b : Bool) (k : FaultKind) → is_cut ts ≡ b → (b ≡ true → fault_of ws ts ≡ Some (meant k)) → IsRowFault (Line r.line (if b then k else kind.Line)) r (fault_of ws (line_fields r))
   fails true k cut there = (refl, ap (fault_of ws) (all_cut cut) ∙ there refl)
@@ -202,16 +203,16 @@ module _ (r : Row) (ws : List Wanted) (ts : List Text) (is : row_fields r ≡ ts
   misspelt one =
       fails_so kind.Number
       (ap (λ b. least b (one_is is_misspelt ws ts) (one_is is_no_value ws ts)) has_all
-       ∙ ap (λ b. least true b (one_is is_no_value ws ts)) one
-       ∙ misspelt_least (one_is is_no_value ws ts))
+      ∙ ap (λ b. least true b (one_is is_no_value ws ts)) one
+      ∙ misspelt_least (one_is is_no_value ws ts))
 
   -- none is misspelt, and one is no such value
   pub no_value : one_is is_misspelt ws ts ≡ false → one_is is_no_value ws ts ≡ true → IsRowFault (row_fault r kind.Value) r (fault_of ws (line_fields r))
   no_value spelt one =
       fails_so kind.Value
       (ap (λ b. least b (one_is is_misspelt ws ts) (one_is is_no_value ws ts)) has_all
-       ∙ ap (λ b. least true b (one_is is_no_value ws ts)) spelt
-       ∙ ap (least true false) one)
+      ∙ ap (λ b. least true b (one_is is_no_value ws ts)) spelt
+      ∙ ap (least true false) one)
 
   -- what the reader of a field tells of the row, where it fails
   pub fails_misspelt : {A : Type 0} (res : Result A DecodeError) (e : DecodeError) (test : Bool) → res ≡ Err e → Checks res r kind.Number test
@@ -400,4 +401,3 @@ content_one t h = go (same_text t (codes "clear")) refl h
     go : (b : Bool) → same_text t (codes "clear") ≡ b → (b || is_literal any t) ≡ true → IsOne t
     go true e o = unmarked_one t (subst (λ u. IsTrue (list_all is_unmarked u)) (sym (same_texts t (codes "clear") e)) refl)
     go false e o = literal_one any t o
-

@@ -1,12 +1,12 @@
 -- The end of a text: its last line, and that nothing stands behind it.
-use Rattle.std.proofs.Common.{◌≡◌, ℕ, suc, ◌+◌, ◌<◌, ◌==◌, ◌||◌, min, true, false, not, List, [], ◌∷◌, ◌++◌, length, codes, None, Result, Ok, Err, IsTrue, refl, ap, sym, subst, ◌∙◌, arith, length-append}
+use Rattle.std.proofs.Common.{◌≡◌, ℕ, suc, ◌+◌, ◌==◌, min, true, false, List, [], ◌∷◌, ◌++◌, length, codes, None, Result, Err, IsTrue, refl, ap, sym, subst, ◌∙◌, arith}
 use Rattle.std.proofs.lemmas.Bool.Decides.{nat_tests}
 use Rattle.spec_value.specs.Datum.{Text}
 use Rattle.spec_world.specs.Checkpoint as fault
 use Rattle.spec_checkpoint.specs.Lines.{is_line}
 use Rattle.spec_faults.specs.Cutting.{lines_of, fields_in, field_at}
-use Rattle.spec_faults.specs.Forms.{Wanted, word, is_other_word, one_is, end_form}
-use Rattle.spec_faults.specs.Awaited.{Awaited, one, goes_on, opened}
+use Rattle.spec_faults.specs.Forms.{is_other_word, one_is, end_form}
+use Rattle.spec_faults.specs.Awaited.{one, goes_on}
 use Rattle.spec_faults.specs.Faults.{fault_at, fault_among}
 use Rattle.checkpoint_lines.specs.declared.fault.DecodeError.{DecodeError}
 use Rattle.checkpoint_lines.specs.declared.row.Row.{Row}
@@ -15,7 +15,7 @@ use Rattle.checkpoint_lines.specs.Rows.{row_fields}
 use Rattle.checkpoint_lines.specs.Told.{IsFault, fault_left, lines_in, HasRoom, GoesOn, TellsHeaded, Ends, IsNextRow, IsHeaded}
 use Rattle.checkpoint_lines.proofs.Telling.{row_goes, all_meet, in_places, listed, one_word}
 use Rattle.checkpoint_lines.proofs.LinesLeft.{line_left, none_left}
-use Rattle.checkpoint_lines.proofs.OneField.{one_row}
+use Rattle.checkpoint_lines.proofs.Going.{one_row}
 
 -- another line stands there
 pub passed_end : {A : Type 0} (res : Result A DecodeError) (e d : DecodeError) (l m : Lines) → res ≡ Err d → d ≡ e → (HasRoom l → TellsHeaded e l (codes "end") 0) → Ends res l m (one end_form ∷ [])

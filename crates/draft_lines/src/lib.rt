@@ -12,6 +12,10 @@ ghost use Rattle.spec_checkpoint.specs.Records.{link_holds};
 ghost use Rattle.checkpoint_lines.specs.Rows.{Left, Reads};
 ghost use Rattle.object_lines.specs.Readable.{is_link_read, is_object_read};
 ghost use Rattle.draft_lines.specs.Front.{front_lines};
+ghost use Rattle.spec_faults.specs.Forms.{next_form, greatest_form, ending_form};
+ghost use Rattle.spec_faults.specs.Awaited as awaited;
+ghost use Rattle.spec_faults.specs.Awaited.{first_line, one, again};
+ghost use Rattle.checkpoint_lines.specs.Told.{Tells};
 
 use checkpoint_lines::fault::{DecodeError, FaultKind};
 use checkpoint_lines::lines::Lines;
@@ -37,6 +41,7 @@ pub fn read_front(
 ) -> Result<(), DecodeError>
     ensures reads { (w : World) (rest : List datum.Text) → IsWellFormed w → draft.old.next ≡ 1 → Left lines.old (front_lines w ++ rest)
         → Reads result lines.new rest (λ _. draft.new ≡ record (draft.old) { greatest = w.greatest; next = w.next; ending = w.ending }) }
+    ensures tells { Tells result lines.old lines.new (first_line ∷ one next_form ∷ one greatest_form ∷ one ending_form ∷ []) (λ _. []) }
 {
     read_header(lines)?;
     let next = lines.next_number(alloc, b"next", 1, LAST_NEXT)?;
@@ -56,6 +61,7 @@ fn set_front(draft: &mut Draft, next: u64, greatest: i32, is_ending: bool) -> Re
 
 fn read_header(lines: &mut Lines<'_>) -> Result<(), DecodeError>
     ensures reads { (rest : List datum.Text) → Left lines.old (codes "MOO-CHECKPOINT 1" ∷ rest) → Reads result lines.new rest (λ _. Unit {0}) }
+    ensures tells { Tells result lines.old lines.new (first_line ∷ []) (λ _. []) }
 {
     let line = lines.next_line()?;
     if is_header(line) {
@@ -83,6 +89,7 @@ pub fn read_links(
 ) -> Result<(), DecodeError>
     ensures reads { (w : World) (rest : List datum.Text) → IsWellFormed w → IsTrue (list_all link_holds w.links) → draft.old.links ≡ [] → Left lines.old (counted (codes "links") (length w.links) ∷ (link_lines w.links ++ rest))
         → Reads result lines.new rest (λ _. draft.new ≡ record (draft.old) { links = w.links }) }
+    ensures tells { Tells result lines.old lines.new (awaited.counted (codes "links") awaited.each_link ∷ []) (λ _. []) }
 {
     let count = lines.next_count(alloc, b"links")?;
     so_many_links(alloc, lines, draft, count)
@@ -96,6 +103,7 @@ fn so_many_links(
 ) -> Result<(), DecodeError>
     ensures reads { (w : World) (rest : List datum.Text) → IsWellFormed w → IsTrue (list_all is_link_read w.links) → draft.old.links ≡ [] → count ≡ length w.links → Left lines.old (link_lines w.links ++ rest)
         → Reads result lines.new rest (λ _. draft.new ≡ record (draft.old) { links = w.links }) }
+    ensures tells { Tells result lines.old lines.new (again count awaited.each_link ∷ []) (λ _. []) }
 {
     'reading: for _link in 0..count {
         let entry = next_link(alloc, lines)?;
@@ -120,6 +128,7 @@ pub fn read_objects(
 ) -> Result<bool, DecodeError>
     ensures reads { (w : World) (rest : List datum.Text) → IsWellFormed w → IsTrue (list_all is_object_read w.objects) → draft.old.objects ≡ [] → Left lines.old (counted (codes "objects") (length w.objects) ∷ (each_object w w.objects ++ rest))
         → Reads result lines.new rest (λ done. IsTrue done × (draft.new ≡ record (draft.old) { objects = w.objects })) }
+    ensures tells { Tells result lines.old lines.new (awaited.counted (codes "objects") awaited.each_object ∷ []) (λ _. []) }
 {
     let count = lines.next_count(alloc, b"objects")?;
     let records = next_objects(alloc, lines, count)?;

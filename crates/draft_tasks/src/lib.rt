@@ -1,14 +1,16 @@
 //! The tasks of a draft, from the lines of a text.
 #![tactic(auto)]
 
-ghost use Rattle.std.specs.Prelude.{◌≡◌, ◌++◌, ℤ, [], List, Option, length, IsTrue, OnOk};
+ghost use Rattle.std.specs.Prelude.{◌≡◌, ℤ, [], ◌∷◌, ◌++◌, List, Option, length, IsTrue, OnOk, codes};
 ghost use Rattle.std.specs.List.{list_all};
 ghost use Rattle.spec_value.specs.Datum as datum;
 ghost use Rattle.spec_world.specs.World.{World};
 ghost use Rattle.spec_world.specs.Questions.{put_task};
 ghost use Rattle.spec_world.specs.WellFormed.{IsWellFormed};
 ghost use Rattle.spec_world.specs.Checkpoint.{each_task};
+ghost use Rattle.spec_faults.specs.Awaited.{again, counted, each_task as one_task};
 ghost use Rattle.checkpoint_lines.specs.Rows.{Left, Reads};
+ghost use Rattle.checkpoint_lines.specs.Told.{Tells};
 ghost use Rattle.task_lines.specs.Readable.{is_task_read, tasks_before};
 
 use checkpoint_lines::fault::DecodeError;
@@ -27,6 +29,7 @@ pub fn read_tasks(
 ) -> Result<bool, DecodeError>
     ensures reads { (w : World) (rest : List datum.Text) → IsWellFormed w → IsTrue (list_all is_task_read w.tasks) → draft.old.tasks ≡ [] → Left lines.old (tasks_before w rest)
         → Reads result lines.new rest (λ done. IsTrue done × (draft.new ≡ record (draft.old) { tasks = w.tasks })) }
+    ensures tells { Tells result lines.old lines.new (counted (codes "tasks") one_task ∷ []) (λ _. []) }
 {
     let count = lines.next_count(alloc, b"tasks")?;
     so_many_tasks(alloc, lines, draft, count)
@@ -40,6 +43,7 @@ fn so_many_tasks(
 ) -> Result<bool, DecodeError>
     ensures reads { (w : World) (rest : List datum.Text) → IsWellFormed w → IsTrue (list_all is_task_read w.tasks) → draft.old.tasks ≡ [] → count ≡ length w.tasks → Left lines.old (each_task w.tasks ++ rest)
         → Reads result lines.new rest (λ done. IsTrue done × (draft.new ≡ record (draft.old) { tasks = w.tasks })) }
+    ensures tells { Tells result lines.old lines.new (again count one_task ∷ []) (λ _. []) }
 {
     let mut all = true;
     'reading: for _task in 0..count {

@@ -34,7 +34,7 @@ impl Node {
 pub fn under(alloc: Global, line: u64, nodes: &[Node]) -> Result<Vec<Node>, AllocError>
     ensures { IfOk result (λ v. nodes_of v.items ≡ under line (nodes_of nodes.now)) }
 {
-    let mut around = Vec::new(alloc);
+    let mut around = Vec::with_capacity(alloc, nodes.len().saturating_add(1))?;
     around.push(Node { depth: 1, line })?;
     for node in nodes {
         let node = node.deeper()?;
@@ -59,12 +59,15 @@ fn matters(deepest: u64, node: Node) -> bool
     deepest < node.depth && !(100 < deepest)
 }
 
+// Each node that is kept is deeper than those before it, and none stands behind one that is too deep.
+const MOST_KEPT: usize = 101;
+
 /// The nodes that tell where a tree is too deep, whatever is around it.
 #[tactic(auto, using(crate::proofs::Lists::one_kept, crate::proofs::Lists::one_left_out, crate::proofs::Lists::none_kept))]
 pub fn kept(alloc: Global, nodes: &[Node]) -> Result<Vec<Node>, AllocError>
     ensures { IfOk result (λ v. nodes_of v.items ≡ spec.kept (nodes_of nodes.now)) }
 {
-    let mut few = Vec::new(alloc);
+    let mut few = Vec::with_capacity(alloc, nodes.len().min(MOST_KEPT))?;
     let mut deepest = 0;
     for node in nodes {
         if matters(deepest, *node) {

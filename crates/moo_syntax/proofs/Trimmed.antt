@@ -7,7 +7,7 @@ use Rattle.spec_program.specs.Frames.{Kind, an_expression, an_operand, some_argu
 use Rattle.spec_program.specs.Similar.{SimilarFound, SimilarOperand, SimilarArguments, SimilarItems, SimilarCodes, SimilarStatement, SimilarBlock, SimilarBranches, SimilarArms, no_target, none, SimilarOf}
 use Rattle.spec_program.proofs.Interchanged.{interchange}
 use Rattle.spec_reader.specs.Next as meant
-use Rattle.spec_reader.specs.Next.{found, reads_steps, reads_operators, goes}
+use Rattle.spec_reader.specs.Next.{State, found, reads_steps, reads_operators, goes}
 use Rattle.moo_reader.specs.declared.found.Found.{Found as CodeFound}
 use Rattle.moo_reader.specs.declared.found.Operand.{Operand as CodeOperand}
 use Rattle.moo_reader.specs.declared.found.Arguments.{Arguments as CodeArguments}
@@ -29,6 +29,9 @@ use Rattle.moo_syntax.specs.StandsFor.{StandsFor, PartStandsFor, NextStandsFor}
 
 pub itself : (x : meant.Next) (ts : List Placed) → StandsFor (goes x ts) (goes x ts)
 itself x ts = record { left = refl; work = refl; means = λ all n. refl }
+
+pub same_state : (s : State) → StandsFor s s
+same_state s = record { left = refl; work = refl; means = λ all n. refl }
 
 pub found_stands : (a : Kind) (fs : Frames a) (v w : Of a) (ts : List Placed) → SimilarOf a v w → StandsFor (goes (found fs v) ts) (goes (found fs w) ts)
 found_stands a fs v w ts s = record { left = refl; work = refl; means = λ all n. sym (interchange all a n fs v w ts s) }

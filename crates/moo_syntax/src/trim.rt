@@ -4,6 +4,7 @@ ghost use Rattle.std.specs.Prelude.{IfOk};
 ghost use Rattle.reader_frames.specs.StateView.{state_of};
 ghost use Rattle.moo_syntax.specs.StandsFor.{StandsFor, PartStandsFor, NextStandsFor};
 
+use moo_reader::found::{Braces, Items, Operand};
 use moo_reader::trim::trimmed as trimmed_expression;
 use reader_frames::state::{Next, Part, State};
 use reader_trim::block::{trimmed_arms, trimmed_block, trimmed_branches, trimmed_statement};
@@ -83,10 +84,55 @@ fn trimmed_next(alloc: Global, next: Next) -> Result<Next, AllocError>
     }
 }
 
-/// The same state, with few nodes of what was read, and without trees that are too deep.
+// So many nodes are left as they are: a tree is no deeper than it has nodes, and what is trimmed has 101 at most.
+const ENOUGH: usize = 128;
+
+// Whether what was read has more nodes than that.
+fn is_long(next: &Next) -> bool {
+    match next {
+        Next::Found(part) => is_long_part(part),
+        Next::Steps { operand, .. } => ENOUGH < operand_nodes(operand),
+        Next::Operators { left, .. } => ENOUGH < left.nodes.len(),
+        _ => false,
+    }
+}
+
+fn is_long_part(part: &Part) -> bool {
+    let count = match part {
+        Part::Expression(found) => found.nodes.len(),
+        Part::Operand(operand) => operand_nodes(operand),
+        Part::Arguments(arguments) => arguments.nodes.len(),
+        Part::Items(items) => item_nodes(items),
+        Part::Codes(codes) => codes.nodes.len(),
+        Part::Statement(statement) => statement.nodes.len(),
+        Part::Block(block) => block.nodes.len(),
+        Part::Branches(branches) => branches.nodes.len(),
+        Part::Arms(arms) => arms.nodes.len(),
+    };
+    ENOUGH < count
+}
+
+fn operand_nodes(operand: &Operand) -> usize {
+    let braces = match &operand.braces {
+        Braces::NoScatter => 0,
+        Braces::PerhapsScatter(_, nodes) => nodes.len(),
+        Braces::SurelyScatter(_, nodes) => nodes.len(),
+    };
+    operand.found.nodes.len().max(braces)
+}
+
+fn item_nodes(items: &Items) -> usize {
+    items.arguments.nodes.len().max(items.default_nodes.len())
+}
+
+/// The same state, with few nodes of what was read where these are many, and then without trees that are too deep.
+#[tactic(auto, using(crate::proofs::Trimmed::same_state))]
 pub fn trimmed(alloc: Global, state: State) -> Result<State, AllocError>
     ensures { IfOk result (λ s. StandsFor (state_of state) (state_of s)) }
 {
+    if !is_long(&state.next) {
+        return Ok(state);
+    }
     let State { next, begun, left } = state;
     let next = trimmed_next(alloc, next)?;
     Ok(State { next, begun, left })

@@ -5,3 +5,6 @@ pub mod LinkValues
 pub mod Rows
 pub mod ObjectParts
 pub mod HeldParts
+pub mod RowFaults
+pub mod FieldKinds
+pub mod Families

@@ -1,3 +1,4 @@
 pub mod Readable
 pub mod Parts
 pub mod Held
+pub mod ObjectAwaited

@@ -5,7 +5,11 @@ ghost use Rattle.spec_world.specs.World as meant;
 ghost use Rattle.spec_world.specs.Checkpoint.{link_lines, lines_held, programming_held};
 ghost use Rattle.checkpoint_lines.specs.Rows.{Left, Reads};
 ghost use Rattle.object_lines.specs.Readable.{is_link_read};
-ghost use Rattle.object_lines.specs.Held.{held_of};
+ghost use Rattle.spec_faults.specs.Literals.{are_lines_held, is_programming};
+ghost use Rattle.spec_faults.specs.Forms.{link_form};
+ghost use Rattle.spec_faults.specs.Awaited.{one};
+ghost use Rattle.checkpoint_lines.specs.Told.{Tells};
+ghost use Rattle.object_lines.specs.Held.{held_of, is_known};
 
 use checkpoint_lines::fault::{DecodeError, FaultKind};
 use checkpoint_lines::lines::Lines;
@@ -28,6 +32,7 @@ enum Held {
 /// A link with its number, from the next line.
 pub fn next_link(alloc: Global, lines: &mut Lines<'_>) -> Result<(i32, Link), DecodeError>
     ensures reads { (c : ℤ) (k : meant.Link) (rest : List datum.Text) → IsTrue (is_link_read (c, k)) → Left lines.old (link_lines ((c, k) ∷ []) ++ rest) → Reads result lines.new rest (λ e. (e.0 ≡ c) × (e.1 ≡ k)) }
+    ensures tells { Tells result lines.old lines.new (one link_form ∷ []) (λ _. []) }
 {
     let row = lines.next_with(alloc, b"link", 3)?;
     let number = row.integer(1, 1, LAST_CONNECTION)?;
@@ -56,6 +61,7 @@ fn programmed(person: i32, programming: Programming) -> Link
 // What the value says that a link is programming: 0 is nothing.
 fn held_in(alloc: Global, value: &Value) -> Result<Held, AllocError>
     ensures reads { (g : Option meant.Programming) → value.now ≡ programming_held g → IfOk result (λ h. h ≡ held_of g) }
+    ensures tells { IfOk result (λ h. is_known h ≡ is_programming value.now) }
 {
     if is_zero(value) {
         return Ok(Held::Nothing);
@@ -68,6 +74,7 @@ fn held_in(alloc: Global, value: &Value) -> Result<Held, AllocError>
 
 fn held_items(alloc: Global, items: &[Value]) -> Result<Held, AllocError>
     ensures reads { (g : meant.Programming) → items.now ≡ datum.object g.object ∷ datum.text g.verb ∷ lines_held g.lines ∷ [] → IfOk result (λ h. h ≡ held_of (Some g)) }
+    ensures tells { IfOk result (λ h. is_known h ≡ is_programming (datum.list (datum.of_list items.now))) }
 {
     match items {
         [object, verb, lines] => programming(alloc, object, verb, lines),
@@ -82,6 +89,7 @@ fn programming(
     lines: &Value,
 ) -> Result<Held, AllocError>
     ensures reads { (g : meant.Programming) → object.now ≡ datum.object g.object → verb.now ≡ datum.text g.verb → lines.now ≡ lines_held g.lines → IfOk result (λ h. h ≡ held_of (Some g)) }
+    ensures tells { IfOk result (λ h. is_known h ≡ is_programming (datum.list (datum.of_list (object.now ∷ verb.now ∷ lines.now ∷ [])))) }
 {
     let Some(object) = object_in(object) else {
         return Ok(Held::Other);
@@ -96,6 +104,7 @@ fn programming(
 // The lines so far are a list of texts, or 0 once they were too long.
 fn with_lines(alloc: Global, object: i32, verb: Text, lines: &Value) -> Result<Held, AllocError>
     ensures reads { (g : meant.Programming) → object ≡ g.object → verb ≡ g.verb → lines.now ≡ lines_held g.lines → IfOk result (λ h. h ≡ held_of (Some g)) }
+    ensures tells { IfOk result (λ h. is_known h ≡ are_lines_held lines.now) }
 {
     if is_zero(lines) {
         return Ok(Held::Programming(Programming {

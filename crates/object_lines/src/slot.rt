@@ -1,5 +1,5 @@
 //! Slots, from their lines.
-ghost use Rattle.std.specs.Prelude.{◌≡◌, List, ◌∷◌, ◌++◌, length, Option, IsTrue, codes};
+ghost use Rattle.std.specs.Prelude.{◌≡◌, List, [], ◌∷◌, ◌++◌, length, Option, IsTrue, codes};
 ghost use Rattle.std.specs.List.{list_all};
 ghost use Rattle.spec_value.specs.Datum as datum;
 ghost use Rattle.spec_world.specs.World.{Slot as Meant};
@@ -10,6 +10,12 @@ ghost use Rattle.checkpoint_lines.specs.Rows.{row_fields, Left, Reads};
 ghost use Rattle.spec_faults.specs.Cutting.{field_at};
 ghost use Rattle.object_lines.specs.Readable.{is_content_read, is_slot_read};
 ghost use Rattle.object_lines.specs.Parts.{one_slot_line, each_slot};
+ghost use Rattle.spec_faults.specs.Forms.{slot_form};
+ghost use Rattle.spec_faults.specs.Awaited as awaited;
+ghost use Rattle.spec_faults.specs.Awaited.{one, again};
+ghost use Rattle.checkpoint_lines.specs.declared.fault.FaultKind.TheVariants as kind;
+ghost use Rattle.checkpoint_lines.specs.Told.{Checks, Tells};
+ghost use Rattle.object_lines.specs.ObjectAwaited.{is_content};
 
 use checkpoint_lines::fault::DecodeError;
 use checkpoint_lines::lines::Lines;
@@ -22,6 +28,7 @@ use view::slot::Slot;
 /// The slots of an object, without their names, from the next lines.
 pub fn next_slots(alloc: Global, lines: &mut Lines<'_>) -> Result<Vec<Slot>, DecodeError>
     ensures reads { (ss : List Meant) (rest : List datum.Text) → IsTrue (list_all is_slot_read ss) → Left lines.old (counted (codes "slots") (length ss) ∷ (each_slot ss ++ rest)) → Reads result lines.new rest (λ v. v.items ≡ ss) }
+    ensures tells { Tells result lines.old lines.new (awaited.counted (codes "slots") awaited.each_slot ∷ []) (λ _. []) }
 {
     let count = lines.next_count(alloc, b"slots")?;
     so_many_slots(alloc, lines, count)
@@ -30,6 +37,7 @@ pub fn next_slots(alloc: Global, lines: &mut Lines<'_>) -> Result<Vec<Slot>, Dec
 // So many slots, from the next lines.
 fn so_many_slots(alloc: Global, lines: &mut Lines<'_>, count: u64) -> Result<Vec<Slot>, DecodeError>
     ensures reads { (ss : List Meant) (rest : List datum.Text) → IsTrue (list_all is_slot_read ss) → count ≡ length ss → Left lines.old (each_slot ss ++ rest) → Reads result lines.new rest (λ v. v.items ≡ ss) }
+    ensures tells { Tells result lines.old lines.new (again count awaited.each_slot ∷ []) (λ _. []) }
 {
     let mut slots = Vec::new(alloc);
     'reading: for _slot in 0..count {
@@ -41,6 +49,7 @@ fn so_many_slots(alloc: Global, lines: &mut Lines<'_>, count: u64) -> Result<Vec
 
 fn next_slot(alloc: Global, lines: &mut Lines<'_>) -> Result<Slot, DecodeError>
     ensures reads { (s : Meant) (rest : List datum.Text) → IsTrue (is_slot_read s) → Left lines.old (one_slot_line s ∷ rest) → Reads result lines.new rest (λ u. u ≡ s) }
+    ensures tells { Tells result lines.old lines.new (one slot_form ∷ []) (λ _. []) }
 {
     let row = lines.next_with(alloc, b"slot", 3)?;
     let owner = row.object(1)?;
@@ -64,6 +73,7 @@ fn slot(owner: i32, bits: SlotBits, content: Option<Value>) -> Slot
 // The value of a slot, or none where it is clear.
 fn content(alloc: Global, row: &Row<'_>) -> Result<Option<Value>, DecodeError>
     ensures reads { (d : Option datum.Datum) → IsTrue (content_holds d) → IsTrue (is_content_read d) → field_at (row_fields row.now) 3 ≡ content_text d → Gives result (λ o. o ≡ d) }
+    ensures tells { Checks result row.now kind.Value (is_content (field_at (row_fields row.now) 3)) }
 {
     if row.field(3) == b"clear".as_slice() {
         return Ok(None);

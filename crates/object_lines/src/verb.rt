@@ -1,5 +1,5 @@
 //! Verbs, from their lines.
-ghost use Rattle.std.specs.Prelude.{◌≡◌, ◌↔◌, ◌≤◌, ◌<◌, ◌^◌, ℕ, List, ◌∷◌, ◌++◌, length, IsTrue, codes};
+ghost use Rattle.std.specs.Prelude.{◌≡◌, ◌↔◌, ◌≤◌, ◌<◌, ◌^◌, ℕ, List, [], ◌∷◌, ◌++◌, length, IsTrue, IfOk, codes};
 ghost use Rattle.std.specs.List.{list_all};
 ghost use Rattle.std.specs.Fmt.{decimal};
 ghost use Rattle.spec_value.specs.Datum as datum;
@@ -8,10 +8,17 @@ ghost use Rattle.spec_world.specs.World as meant;
 ghost use Rattle.spec_world.specs.Checkpoint.{part_text, preposition_number, verb_line, each_verb, verb_lines};
 ghost use Rattle.checkpoint_lines.specs.Gives.{Gives};
 ghost use Rattle.checkpoint_lines.specs.Rows.{row_fields, Left, Reads};
-ghost use Rattle.spec_faults.specs.Cutting.{field_at};
+ghost use Rattle.spec_faults.specs.Cutting.{field_at, is_filled};
+ghost use Rattle.spec_faults.specs.Plain.{number_in, is_number};
+ghost use Rattle.spec_faults.specs.Forms.{verb_form};
+ghost use Rattle.spec_faults.specs.Awaited as awaited;
+ghost use Rattle.spec_faults.specs.Awaited.{counted, again, code, of_verb};
+ghost use Rattle.checkpoint_lines.specs.declared.fault.FaultKind.TheVariants as kind;
+ghost use Rattle.checkpoint_lines.specs.Told.{line_fields, IsHeaded, Checks, RowTells, Tells};
 ghost use Rattle.view.specs.Parts.{object_part_of, preposition_part_of};
 ghost use Rattle.object_lines.specs.Readable.{is_preposition_read, is_verb_read};
 ghost use Rattle.object_lines.specs.Parts.{verb_fields, IsHead};
+ghost use Rattle.object_lines.specs.ObjectAwaited.{is_object_part, is_preposition};
 
 use checkpoint_lines::fault::{DecodeError, FaultKind};
 use checkpoint_lines::lines::Lines;
@@ -39,6 +46,7 @@ struct Head {
 /// The verbs of an object, from the next lines.
 pub fn next_verbs(alloc: Global, lines: &mut Lines<'_>) -> Result<Vec<Verb>, DecodeError>
     ensures reads { (vs : List meant.Verb) (rest : List datum.Text) → IsTrue (list_all is_verb_read vs) → Left lines.old (verb_lines vs ++ rest) → Reads result lines.new rest (λ v. v.items ≡ vs) }
+    ensures tells { Tells result lines.old lines.new (counted (codes "verbs") awaited.each_verb ∷ []) (λ _. []) }
 {
     let count = lines.next_count(alloc, b"verbs")?;
     so_many_verbs(alloc, lines, count)
@@ -47,6 +55,7 @@ pub fn next_verbs(alloc: Global, lines: &mut Lines<'_>) -> Result<Vec<Verb>, Dec
 // So many verbs, from the next lines.
 fn so_many_verbs(alloc: Global, lines: &mut Lines<'_>, count: u64) -> Result<Vec<Verb>, DecodeError>
     ensures reads { (vs : List meant.Verb) (rest : List datum.Text) → IsTrue (list_all is_verb_read vs) → count ≡ length vs → Left lines.old (each_verb vs ++ rest) → Reads result lines.new rest (λ v. v.items ≡ vs) }
+    ensures tells { Tells result lines.old lines.new (again count awaited.each_verb ∷ []) (λ _. []) }
 {
     let mut verbs = Vec::new(alloc);
     'reading: for _verb in 0..count {
@@ -58,6 +67,7 @@ fn so_many_verbs(alloc: Global, lines: &mut Lines<'_>, count: u64) -> Result<Vec
 
 fn next_verb(alloc: Global, lines: &mut Lines<'_>) -> Result<Verb, DecodeError>
     ensures reads { (v : meant.Verb) (rest : List datum.Text) → IsTrue (is_verb_read v) → Left lines.old (verb_line v (length (canonical_lines v.program)) ∷ (canonical_lines v.program ++ rest)) → Reads result lines.new rest (λ u. u ≡ v) }
+    ensures tells { Tells result lines.old lines.new (awaited.verb ∷ []) (λ _. []) }
 {
     let head = next_head(alloc, lines)?;
     let tree = lines.next_program(alloc, head.lines)?;
@@ -93,6 +103,7 @@ fn verb(head: Head, program: Program) -> Verb
 
 fn next_head(alloc: Global, lines: &mut Lines<'_>) -> Result<Head, DecodeError>
     ensures reads { (v : meant.Verb) (n : ℕ) (rest : List datum.Text) → IsTrue (is_verb_read v) → n ≤ length rest → Left lines.old (verb_line v n ∷ rest) → Reads result lines.new rest (λ h. IsHead h v n) }
+    ensures tells { Tells result lines.old lines.new (awaited.verb ∷ []) (λ h. code h.lines [] of_verb ∷ []) }
 {
     let row = lines.next_with(alloc, b"verb", 7)?;
     head_of(alloc, &row)
@@ -101,6 +112,8 @@ fn next_head(alloc: Global, lines: &mut Lines<'_>) -> Result<Head, DecodeError>
 // What the fields of a verb's own line say.
 fn head_of(alloc: Global, row: &Row<'_>) -> Result<Head, DecodeError>
     ensures reads { (v : meant.Verb) (n : ℕ) → IsTrue (is_verb_read v) → n < 2 ^ 63 → row_fields row.now ≡ verb_fields v n → Gives result (λ h. IsHead h v n) }
+    ensures tells { IsHeaded row.now (codes "verb") 7 → IsTrue (list_all is_filled (row_fields row.now)) → RowTells result row.now verb_form }
+    ensures many { IsHeaded row.now (codes "verb") 7 → IsTrue (list_all is_filled (row_fields row.now)) → IfOk result (λ h. number_in (field_at (line_fields row.now) 7) ≡ h.lines) }
 {
     let owner = row.object(2)?;
     let bits = row.verb_bits(3)?;
@@ -122,6 +135,7 @@ fn head_of(alloc: Global, row: &Row<'_>) -> Result<Head, DecodeError>
 
 fn object_part(row: &Row<'_>, index: usize) -> Result<ObjectPart, DecodeError>
     ensures reads { (p : meant.ObjectPart) → field_at (row_fields row.now) index ≡ part_text p → Gives result (λ q. object_part_of q ≡ p) }
+    ensures tells { Checks result row.now kind.Number (is_object_part (field_at (row_fields row.now) index)) }
 {
     match row.field(index) {
         b"none" => Ok(ObjectPart::Absent),
@@ -133,6 +147,7 @@ fn object_part(row: &Row<'_>, index: usize) -> Result<ObjectPart, DecodeError>
 
 fn preposition_part(row: &Row<'_>, index: usize) -> Result<PrepositionPart, DecodeError>
     ensures reads { (p : meant.PrepositionPart) → IsTrue (is_preposition_read p) → field_at (row_fields row.now) index ≡ preposition_number p → Gives result (λ q. preposition_part_of q ≡ p) }
+    ensures tells { Checks result row.now kind.Number (is_preposition (field_at (row_fields row.now) index)) }
 {
     let field = row.field(index);
     if is_none(field) {
@@ -164,6 +179,7 @@ fn is_any(field: &[u8]) -> bool
 
 fn preposition_set(row: &Row<'_>, number: &[u8]) -> Result<PrepositionPart, DecodeError>
     ensures reads { (n : ℕ) → n ≤ 14 → number.now ≡ decimal n → Gives result (λ q. preposition_part_of q ≡ meant.preposition_set n) }
+    ensures tells { Checks result row.now kind.Number (is_number 0 14 number.now) }
 {
     let Some(set) = natural(number, 0, LAST_SET) else {
         return Err(row.fault(FaultKind::Number));

@@ -3,7 +3,8 @@ ghost use Rattle.std.specs.Prelude.{◌≤◌, ◌<◌};
 
 use std::time::Instant;
 
-// Several workers play so many steps at first; then so many, and twice as many each time up to the most.
+// Several workers play so many steps in each try; as long as they are the quicker they then play so many, and twice as many each time up to the
+// most.
 const FIRST: usize = 512;
 
 const TOGETHER: usize = 4096;
@@ -18,8 +19,15 @@ const MOST_ALONE: usize = 1024;
 // After so many stretches by one worker it is told how long a step takes: in the first ones it has nothing at hand yet.
 const WARM: usize = 3;
 
-// So many steps are played by one worker before several are tried again, and twice as many after each try.
-const REST: usize = 32768;
+// Where several were slower, one goes on for so many times the steps that it could have played in the time that was lost, but at least for the
+// least and at most for the most; then several are tried again. Each time that they are slower again that is twice as long, up to so many times.
+const REST: u64 = 16;
+
+const LEAST_REST: usize = 2048;
+
+const MOST_REST: usize = 32768;
+
+const MOST_TIMES: usize = 1024;
 
 /// What is known of the pace of a list under way. Several workers begin it. Then one plays some steps, and from then on those that were quicker.
 #[derive(Drop)]
@@ -35,9 +43,9 @@ pub(crate) struct Pace {
     // How many steps the next stretches have.
     next_together: usize,
     next_alone: usize,
-    // So many steps are still one worker's, and so many will be after the next try.
+    // So many steps are still one worker's, and so many times as long as usual it goes on after the next try.
     rest: usize,
-    next_rest: usize,
+    times: usize,
 }
 
 impl Pace {
@@ -52,7 +60,7 @@ impl Pace {
             next_together: FIRST,
             next_alone: ALONE,
             rest: 0,
-            next_rest: REST,
+            times: 1,
         }
     }
 
@@ -115,7 +123,9 @@ impl Pace {
             self.alone = None;
             self.stretches = 0;
         } else if each > alone {
-            self.begin_rest();
+            self.begin_rest(each, alone);
+        } else {
+            self.times = 1;
         }
     }
 
@@ -127,15 +137,23 @@ impl Pace {
         self.next_alone = self.next_alone.saturating_mul(2).min(MOST_ALONE);
         if self.rest > 0 {
             self.rest_on(count);
-        } else if self.stretches >= WARM && self.together.is_some_and(|it| it > alone) {
-            self.begin_rest();
+            return;
+        }
+        match self.together {
+            Some(together) if self.stretches >= WARM && together > alone => {
+                self.begin_rest(together, alone);
+            }
+            _ => {}
         }
     }
 
-    // Several were slower than one: one goes on for a while.
-    fn begin_rest(&mut self) {
-        self.rest = self.next_rest;
-        self.next_rest = self.next_rest.saturating_mul(2);
+    // Several took so long for a step, and one less: one goes on for a while, and the next try is a short one.
+    fn begin_rest(&mut self, together: u64, alone: u64) {
+        let lost = together.saturating_sub(alone).saturating_mul(FIRST as u64) / alone.max(1);
+        let rest = usize::try_from(lost.saturating_mul(REST)).unwrap_or(MOST_REST);
+        self.rest = rest.clamp(LEAST_REST, MOST_REST).saturating_mul(self.times);
+        self.times = self.times.saturating_mul(2).min(MOST_TIMES);
+        self.next_together = FIRST;
     }
 
     // So many steps of that while are over. At its end several are tried again.
@@ -147,7 +165,7 @@ impl Pace {
     }
 }
 
-// How many nanoseconds lie between two moments: very many where they are not known, so that several workers go on.
+// How many nanoseconds lie between two moments: very many where they are not known. Then several workers and one take turns.
 fn nanoseconds(start: Option<Instant>, end: Option<Instant>) -> u64 {
     match (start, end) {
         (Some(start), Some(end)) => {

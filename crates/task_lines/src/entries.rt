@@ -1,10 +1,12 @@
 //! All that is under way in a task, from its lines.
-ghost use Rattle.std.specs.Prelude.{◌≡◌, ◌+◌, ◌-◌, ◌^◌, ◌∷◌, ◌++◌, List, true, false, length, map, min, codes, if◌then◌else◌, IsTrue};
+ghost use Rattle.std.specs.Prelude.{◌≡◌, ◌+◌, ◌-◌, ◌^◌, [], ◌∷◌, ◌++◌, List, true, false, length, map, min, codes, if◌then◌else◌, IsTrue};
 ghost use Rattle.spec_value.specs.Datum as datum;
 ghost use Rattle.spec_world.specs.World as world;
 ghost use Rattle.spec_world.specs.Checkpoint.{counted, each_entry};
 ghost use Rattle.moo_task.specs.Frames.{outer_of, outers_of};
+ghost use Rattle.spec_faults.specs.Awaited as awaited;
 ghost use Rattle.checkpoint_lines.specs.Rows.{Left, Reads};
+ghost use Rattle.checkpoint_lines.specs.Told.{Tells};
 ghost use Rattle.task_lines.specs.Entries.{is_native_outer, lines_of, may_follow, outer_for};
 ghost use Rattle.task_lines.specs.Tasks.{AllRead, OrderReads};
 
@@ -21,6 +23,7 @@ pub fn next_entries(
     is_fork: bool,
 ) -> Result<Vec<Outer>, DecodeError>
     ensures reads { (es : List world.Entry) (rest : List datum.Text) → AllRead is_fork es → OrderReads is_fork es → Left lines.old (counted (codes "entries") (length es) ∷ (each_entry es ++ rest)) → Reads result lines.new rest (λ v. outers_of v.items ≡ map (outer_for is_fork) es) }
+    ensures tells { Tells result lines.old lines.new (awaited.entries is_fork ∷ []) (λ _. []) }
 {
     let count = lines.next_count(alloc, b"entries")?;
     next_each(alloc, lines, is_fork, count)
@@ -34,6 +37,7 @@ fn next_each(
     count: u64,
 ) -> Result<Vec<Outer>, DecodeError>
     ensures reads { (es : List world.Entry) (rest : List datum.Text) → AllRead is_fork es → IsTrue (may_follow is_fork true false 0 es) → count ≡ length es → Left lines.old (lines_of es ++ rest) → Reads result lines.new rest (λ v. map outer_of v.items ≡ map (outer_for is_fork) es) }
+    ensures tells { Tells result lines.old lines.new (awaited.entry is_fork 0 false count ∷ []) (λ _. []) }
 {
     let mut entries = Vec::new(alloc);
     let mut verbs = 0u32;

@@ -1,11 +1,13 @@
 //! Verbs under way, from their lines.
-ghost use Rattle.std.specs.Prelude.{◌≡◌, ◌++◌, List, length};
+ghost use Rattle.std.specs.Prelude.{◌≡◌, [], ◌∷◌, ◌++◌, List, length};
 ghost use Rattle.spec_value.specs.Datum as datum;
 ghost use Rattle.spec_program.specs.Spelling.{canonical_lines};
 ghost use Rattle.spec_world.specs.World as world;
 ghost use Rattle.moo_code.specs.Slots.{variables_with};
 ghost use Rattle.moo_task.specs.Frames.{kept_of};
+ghost use Rattle.spec_faults.specs.Awaited.{behind_code, code, of_frame};
 ghost use Rattle.checkpoint_lines.specs.Rows.{Left, Reads};
+ghost use Rattle.checkpoint_lines.specs.Told.{Tells};
 ghost use Rattle.task_lines.specs.Entries.{kept_for, lines_behind_call, lines_behind_program};
 ghost use Rattle.task_lines.specs.Tasks.{FrameReads, FrameStands};
 
@@ -33,6 +35,7 @@ pub fn next_frame(
     is_fork: bool,
 ) -> Result<Frame, DecodeError>
     ensures reads { (f : world.Frame) (rest : List datum.Text) → FrameReads f → FrameStands is_fork f → head.call ≡ f.call → head.lines ≡ length (canonical_lines f.program) → Left lines.old (lines_behind_call f ++ rest) → Reads result lines.new rest (λ g. kept_of g ≡ kept_for is_fork f) }
+    ensures tells { Tells result lines.old lines.new (code head.lines [] (of_frame is_fork) ∷ []) (λ _. []) }
 {
     let Head { call, lines: count } = head;
     let tree = lines.next_program(alloc, count)?;
@@ -49,6 +52,7 @@ fn next_under_way(
     is_fork: bool,
 ) -> Result<Frame, DecodeError>
     ensures reads { (f : world.Frame) (rest : List datum.Text) → FrameReads f → FrameStands is_fork f → call ≡ f.call → program ≡ f.program → Left lines.old (lines_behind_program f ++ rest) → Reads result lines.new rest (λ g. kept_of g ≡ kept_for is_fork f) }
+    ensures tells { Tells result lines.old lines.new (behind_code (of_frame is_fork) program) (λ _. []) }
 {
     let start = next_start(alloc, lines)?;
     let stand = next_stand(alloc, lines, &program, is_fork)?;

@@ -1,11 +1,15 @@
 //! What a command line gave, from its line.
-ghost use Rattle.std.specs.Prelude.{◌≡◌, [], ◌∷◌, List, codes, IfOk, IsTrue, MatchOption};
+ghost use Rattle.std.specs.Prelude.{◌≡◌, [], ◌∷◌, List, codes, IfOk, IsTrue, MatchOption, is_some};
 ghost use Rattle.std.specs.List.{list_all};
 ghost use Rattle.spec_value.specs.Datum as datum;
 ghost use Rattle.spec_value.specs.Datum.{is_value, of_list};
 ghost use Rattle.spec_world.specs.World as world;
 ghost use Rattle.spec_world.specs.Checkpoint.{fields, list_literal, start_values};
+ghost use Rattle.spec_faults.specs.Literals.{is_start};
+ghost use Rattle.spec_faults.specs.Forms.{start_form};
+ghost use Rattle.spec_faults.specs.Awaited.{one};
 ghost use Rattle.checkpoint_lines.specs.Rows.{Left, Reads};
+ghost use Rattle.checkpoint_lines.specs.Told.{Tells};
 
 use checkpoint_lines::fault::{DecodeError, FaultKind};
 use checkpoint_lines::lines::Lines;
@@ -18,6 +22,7 @@ use std::alloc::{AllocError, Global};
 /// What a command line gave, from the next line.
 pub fn next_start(alloc: Global, lines: &mut Lines<'_>) -> Result<SharedStart, DecodeError>
     ensures reads { (s : world.Start) (rest : List datum.Text) → IsTrue (list_all is_value (start_values s)) → Left lines.old (fields (codes "start" ∷ list_literal (start_values s) ∷ []) ∷ rest) → Reads result lines.new rest (λ t. t ≡ s) }
+    ensures tells { Tells result lines.old lines.new (one start_form ∷ []) (λ _. []) }
 {
     let row = lines.next_with(alloc, b"start", 1)?;
     let value = row.value(alloc, 1)?;
@@ -30,6 +35,7 @@ pub fn next_start(alloc: Global, lines: &mut Lines<'_>) -> Result<SharedStart, D
 
 fn start_in(alloc: Global, value: &Value) -> Result<Option<Start>, AllocError>
     ensures reads { (s : world.Start) → value.now ≡ datum.list (of_list (start_values s)) → IfOk result (λ o. MatchOption o ⊥ (λ t. t ≡ s)) }
+    ensures fault { IfOk result (λ o. is_some o ≡ is_start value.now) }
 {
     match items_in(value) {
         Some(items) => start_of(alloc, items),
@@ -40,6 +46,7 @@ fn start_in(alloc: Global, value: &Value) -> Result<Option<Start>, AllocError>
 // `{argstr, dobj, dobjstr, prepstr, iobj, iobjstr}`
 fn start_of(alloc: Global, items: &[Value]) -> Result<Option<Start>, AllocError>
     ensures reads { (s : world.Start) → items.now ≡ start_values s → IfOk result (λ o. MatchOption o ⊥ (λ t. t ≡ s)) }
+    ensures fault { IfOk result (λ o. is_some o ≡ is_start (datum.list (of_list items.now))) }
 {
     if items.len() != 6 {
         return Ok(None);

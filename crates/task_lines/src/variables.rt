@@ -7,7 +7,10 @@ ghost use Rattle.spec_world.specs.Checkpoint.{counted, variable_lines};
 ghost use Rattle.moo_code.specs.Slots.{variables_with};
 ghost use Rattle.moo_program.specs.Names.{found_place, known};
 ghost use Rattle.moo_task.specs.Variables.{variable_of};
+ghost use Rattle.spec_faults.specs.Forms.{variable_form};
+ghost use Rattle.spec_faults.specs.Awaited.{one, counted as counted_of, again, each_variable};
 ghost use Rattle.checkpoint_lines.specs.Rows.{Left, Reads};
+ghost use Rattle.checkpoint_lines.specs.Told.{Tells};
 ghost use Rattle.task_lines.specs.Gathering.{Gathers, further_with, slots_with, variable_line};
 ghost use Rattle.task_lines.specs.Tasks.{variable_reads};
 
@@ -33,6 +36,7 @@ pub fn next_variables(
     program: &Program,
 ) -> Result<Variables, DecodeError>
     ensures reads { (es : Named datum.Datum) (rest : List datum.Text) → IsTrue (is_named es) → IsTrue (list_all variable_reads es) → Left lines.old (counted (codes "vars") (length es) ∷ (variable_lines es ++ rest)) → Reads result lines.new rest (λ v. variables_with program.now v.further v.slots.items ≡ es) }
+    ensures tells { Tells result lines.old lines.new (counted_of (codes "vars") each_variable ∷ []) (λ _. []) }
 {
     let names = SlotNames::new(alloc, program)?;
     let mut slots = empty_slots(alloc, program.slot_count())?;
@@ -54,6 +58,7 @@ fn read_each(
 ) -> Result<(), DecodeError>
     requires { length slots.old.items ≡ length (known names.now) }
     ensures reads { (es : Named datum.Datum) (rest : List datum.Text) → IsTrue (is_named es) → IsTrue (list_all variable_reads es) → count ≡ length es → Left lines.old (variable_lines es ++ rest) → Gathers (known names.now) slots.old.items (map variable_of further.old.items) es es → Reads result lines.new rest (λ _. Gathers (known names.now) slots.new.items (map variable_of further.new.items) [] es) }
+    ensures tells { Tells result lines.old lines.new (again count each_variable ∷ []) (λ _. []) }
 {
     'variables: for _variable in 0..count {
         let variable = next_variable(alloc, lines)?;
@@ -64,6 +69,7 @@ fn read_each(
 
 fn next_variable(alloc: Global, lines: &mut Lines<'_>) -> Result<Variable, DecodeError>
     ensures reads { (e : datum.Text × datum.Datum) (rest : List datum.Text) → IsTrue (variable_reads e) → Left lines.old (variable_line e ∷ rest) → Reads result lines.new rest (λ v. variable_of v ≡ e) }
+    ensures tells { Tells result lines.old lines.new (one variable_form ∷ []) (λ _. []) }
 {
     let row = lines.next_with(alloc, b"var", 2)?;
     let name = row.text(alloc, 1)?;

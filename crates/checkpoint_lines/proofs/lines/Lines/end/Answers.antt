@@ -8,9 +8,9 @@ returns-then-is_empty-clause-reads c = λ e. let row = c.in_ok-next_with.ensures
 
 pub returns-in-Some-clause-reads : goal.returns-in-Some-clause-reads
 returns-in-Some-clause-reads c = λ e.
-      let row = c.in_ok-next_with.ensures.reads [] [] refl refl refl e in
-      let empty : c.is_empty.result ≡ true = c.is_empty.ensures ∙ ap (λ t. length t == 0) row.1.0 in
-      absurd (cc (empty, c.if-is_empty.false))
+    let row = c.in_ok-next_with.ensures.reads [] [] refl refl refl e in
+    let empty : c.is_empty.result ≡ true = c.is_empty.ensures ∙ ap (λ t. length t == 0) row.1.0 in
+    absurd (cc (empty, c.if-is_empty.false))
 
 pub returns-in_err-next_with-clause-tells : goal.returns-in_err-next_with-clause-tells
 returns-in_err-next_with-clause-tells c =

@@ -8,9 +8,9 @@ returns-in_default-clause-reads c = λ t rest h e. absurd (c.in_default.ensures.
 
 pub returns-clause-reads : goal.returns-clause-reads
 returns-clause-reads c = λ t rest h e.
-      let seam = c.in-Some.ensures.between t (with_line_ends rest) h e.0 in
-      let small = rest_small t rest e.1 in
-      ((seam.0, small.0), (seam.1, small.1))
+    let seam = c.in-Some.ensures.between t (with_line_ends rest) h e.0 in
+    let small = rest_small t rest e.1 in
+    ((seam.0, small.0), (seam.1, small.1))
 
 pub returns-in_default-clause-tells : goal.returns-in_default-clause-tells
 returns-in_default-clause-tells c = λ room. is_over c.args.self.now c.saturating_add-count.result room c.in_default.ensures.cuts c.saturating_add-count.ensures

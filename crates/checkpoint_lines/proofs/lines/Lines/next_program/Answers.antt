@@ -9,22 +9,22 @@ use Rattle.checkpoint_lines.proofs.lines.Lines.next_program.Goals as goal
 
 pub returns-in_err-text-clause-reads : goal.returns-in_err-text-clause-reads
 returns-in_err-text-clause-reads c = λ p rest h l e.
-      let memory = c.in_err-text.ensures.reads (canonical_lines p) rest (code_is_lines p h) l e in
-      let passed = err_from_is_err_and c.from_residual.result c.from_residual.ensures.1 in
-      gives_passed c.from_residual.result passed.0 _ passed.1 (cc (passed.2, memory))
+    let memory = c.in_err-text.ensures.reads (canonical_lines p) rest (code_is_lines p h) l e in
+    let passed = err_from_is_err_and c.from_residual.result c.from_residual.ensures.1 in
+    gives_passed c.from_residual.result passed.0 _ passed.1 (cc (passed.2, memory))
 
 pub returns-in-Some-clause-reads : goal.returns-in-Some-clause-reads
 returns-in-Some-clause-reads c = λ p rest h l e.
-      let text = c.in_ok-text.ensures.reads (canonical_lines p) rest (code_is_lines p h) l e in
-      let is : c.in_ok-found.found ≡ Some p = c.in_ok-found.ensures.reads p h text.0 in
-      let same : c.in-Some.tree ≡ p = cc (is, c.in-Some.is) in
-      (same, text.1)
+    let text = c.in_ok-text.ensures.reads (canonical_lines p) rest (code_is_lines p h) l e in
+    let is : c.in_ok-found.found ≡ Some p = c.in_ok-found.ensures.reads p h text.0 in
+    let same : c.in-Some.tree ≡ p = cc (is, c.in-Some.is) in
+    (same, text.1)
 
 pub returns-in-None-clause-reads : goal.returns-in-None-clause-reads
 returns-in-None-clause-reads c = λ p rest h l e.
-      let text = c.in_ok-text.ensures.reads (canonical_lines p) rest (code_is_lines p h) l e in
-      let is : c.in_ok-found.found ≡ Some p = c.in_ok-found.ensures.reads p h text.0 in
-      absurd (cc (is, c.in-None.is))
+    let text = c.in_ok-text.ensures.reads (canonical_lines p) rest (code_is_lines p h) l e in
+    let is : c.in_ok-found.found ≡ Some p = c.in_ok-found.ensures.reads p h text.0 in
+    absurd (cc (is, c.in-None.is))
 
 pub returns-in_err-text-clause-tells : goal.returns-in_err-text-clause-tells
 returns-in_err-text-clause-tells c = λ whose.

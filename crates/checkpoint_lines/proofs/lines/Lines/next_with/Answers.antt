@@ -13,36 +13,36 @@ use Rattle.checkpoint_lines.proofs.lines.Lines.next_with.Goals as goal
 
 pub returns-in_err-line-clause-reads : goal.returns-in_err-line-clause-reads
 returns-in_err-line-clause-reads c = λ fs rest w h l e.
-      let are = both_hold (is_word c.args.word.now) (are_fields fs) w h in
-      let memory = c.in_err-line.ensures.reads (fields (all_spelled (word c.args.word.now ∷ fs))) rest (fields_line (word c.args.word.now) fs are) e in
-      let passed = err_from_is_err_and c.from_residual.result c.from_residual.ensures.1 in
-      gives_passed c.from_residual.result passed.0 _ passed.1 (cc (passed.2, memory))
+    let are = both_hold (is_word c.args.word.now) (are_fields fs) w h in
+    let memory = c.in_err-line.ensures.reads (fields (all_spelled (word c.args.word.now ∷ fs))) rest (fields_line (word c.args.word.now) fs are) e in
+    let passed = err_from_is_err_and c.from_residual.result c.from_residual.ensures.1 in
+    gives_passed c.from_residual.result passed.0 _ passed.1 (cc (passed.2, memory))
 
 pub returns-in_err-row-clause-reads : goal.returns-in_err-row-clause-reads
 returns-in_err-row-clause-reads c = λ fs rest w h l e.
-      let are = both_hold (is_word c.args.word.now) (are_fields fs) w h in
-      let line = c.in_ok-line.ensures.reads (fields (all_spelled (word c.args.word.now ∷ fs))) rest (fields_line (word c.args.word.now) fs are) e in
-      let cut = c.in_ok-fields.ensures.reads (word c.args.word.now) fs are l line.0.0 in
-      let memory = c.in_err-row.ensures.reads (subst (λ ts. IsTrue (list_all is_filled ts)) (sym cut) (fields_filled (word c.args.word.now ∷ fs) are)) in
-      let passed = err_from_is_err_and c.from_residual-in_err-row.result c.from_residual-in_err-row.ensures.1 in
-      gives_passed c.from_residual-in_err-row.result passed.0 _ passed.1 (cc (passed.2, memory))
+    let are = both_hold (is_word c.args.word.now) (are_fields fs) w h in
+    let line = c.in_ok-line.ensures.reads (fields (all_spelled (word c.args.word.now ∷ fs))) rest (fields_line (word c.args.word.now) fs are) e in
+    let cut = c.in_ok-fields.ensures.reads (word c.args.word.now) fs are l line.0.0 in
+    let memory = c.in_err-row.ensures.reads (subst (λ ts. IsTrue (list_all is_filled ts)) (sym cut) (fields_filled (word c.args.word.now ∷ fs) are)) in
+    let passed = err_from_is_err_and c.from_residual-in_err-row.result c.from_residual-in_err-row.ensures.1 in
+    gives_passed c.from_residual-in_err-row.result passed.0 _ passed.1 (cc (passed.2, memory))
 
 pub returns-then-has-clause-reads : goal.returns-then-has-clause-reads
 returns-then-has-clause-reads c = λ fs rest w h l e.
-      let are = both_hold (is_word c.args.word.now) (are_fields fs) w h in
-      let line = c.in_ok-line.ensures.reads (fields (all_spelled (word c.args.word.now ∷ fs))) rest (fields_line (word c.args.word.now) fs are) e in
-      let cut = c.in_ok-fields.ensures.reads (word c.args.word.now) fs are l line.0.0 in
-      let row = c.in_ok-row.ensures.reads (subst (λ ts. IsTrue (list_all is_filled ts)) (sym cut) (fields_filled (word c.args.word.now ∷ fs) are)) in
-      ((row ∙ cut, line.0.1), line.1)
+    let are = both_hold (is_word c.args.word.now) (are_fields fs) w h in
+    let line = c.in_ok-line.ensures.reads (fields (all_spelled (word c.args.word.now ∷ fs))) rest (fields_line (word c.args.word.now) fs are) e in
+    let cut = c.in_ok-fields.ensures.reads (word c.args.word.now) fs are l line.0.0 in
+    let row = c.in_ok-row.ensures.reads (subst (λ ts. IsTrue (list_all is_filled ts)) (sym cut) (fields_filled (word c.args.word.now ∷ fs) are)) in
+    ((row ∙ cut, line.0.1), line.1)
 
 pub returns-clause-reads : goal.returns-clause-reads
 returns-clause-reads c = λ fs rest w h l e.
-      let are = both_hold (is_word c.args.word.now) (are_fields fs) w h in
-      let line = c.in_ok-line.ensures.reads (fields (all_spelled (word c.args.word.now ∷ fs))) rest (fields_line (word c.args.word.now) fs are) e in
-      let cut = c.in_ok-fields.ensures.reads (word c.args.word.now) fs are l line.0.0 in
-      let row = c.in_ok-row.ensures.reads (subst (λ ts. IsTrue (list_all is_filled ts)) (sym cut) (fields_filled (word c.args.word.now ∷ fs) are)) in
-      let has : c.has.result ≡ true = c.has.ensures ∙ has_word (row_fields c.in_ok-row.row) c.args.word.now fs c.args.count (row ∙ cut) l in
-      absurd (cc (has, c.if-has.false))
+    let are = both_hold (is_word c.args.word.now) (are_fields fs) w h in
+    let line = c.in_ok-line.ensures.reads (fields (all_spelled (word c.args.word.now ∷ fs))) rest (fields_line (word c.args.word.now) fs are) e in
+    let cut = c.in_ok-fields.ensures.reads (word c.args.word.now) fs are l line.0.0 in
+    let row = c.in_ok-row.ensures.reads (subst (λ ts. IsTrue (list_all is_filled ts)) (sym cut) (fields_filled (word c.args.word.now ∷ fs) are)) in
+    let has : c.has.result ≡ true = c.has.ensures ∙ has_word (row_fields c.in_ok-row.row) c.args.word.now fs c.args.count (row ∙ cut) l in
+    absurd (cc (has, c.if-has.false))
 
 pub returns-in_err-row-clause-tells : goal.returns-in_err-row-clause-tells
 returns-in_err-row-clause-tells c =

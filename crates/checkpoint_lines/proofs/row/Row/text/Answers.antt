@@ -13,5 +13,5 @@ returns-clause-reads c = λ t h e. gives_ok c.known.result t (λ x. x ≡ t) (fo
 pub returns-clause-tells : goal.returns-clause-tells
 returns-clause-tells c =
     let found : is_some c.in_ok-found.found ≡ is_literal is_string (field_at (row_fields c.args.self.now) c.args.index) =
-        ap is_some c.in_ok-found.ensures.fault ∙ some_string (value_of c.field.result.now) ∙ ap (is_literal is_string) c.field.ensures in
+    ap is_some c.in_ok-found.ensures.fault ∙ some_string (value_of c.field.result.now) ∙ ap (is_literal is_string) c.field.ensures in
     checks_found c.in_ok-found.found c.known.result c.args.self.now kind.Value (is_literal is_string (field_at (row_fields c.args.self.now) c.args.index)) c.known.ensures found

@@ -14,14 +14,14 @@ use Rattle.checkpoint_lines.proofs.row.Row.texts.Goals as goal
 
 pub returns-in_err-value-clause-reads : goal.returns-in_err-value-clause-reads
 returns-in_err-value-clause-reads c = λ ts h e.
-      let memory = c.in_err-value.ensures.reads (list (of_list (text_list ts))) (texts_readable ts h) e in
-      let passed = err_from_is_err_and c.from_residual.result c.from_residual.ensures.1 in
-      gives_passed c.from_residual.result passed.0 _ passed.1 (cc (passed.2, memory))
+    let memory = c.in_err-value.ensures.reads (list (of_list (text_list ts))) (texts_readable ts h) e in
+    let passed = err_from_is_err_and c.from_residual.result c.from_residual.ensures.1 in
+    gives_passed c.from_residual.result passed.0 _ passed.1 (cc (passed.2, memory))
 
 pub returns-clause-reads : goal.returns-clause-reads
 returns-clause-reads c = λ ts h e.
-      let is = c.in_ok-value.ensures.reads (list (of_list (text_list ts))) (texts_readable ts h) e in
-      gives_found c.in_ok-found.found c.known.result _ (λ v. v.items ≡ ts) c.known.ensures (c.in_ok-found.ensures.reads ts is)
+    let is = c.in_ok-value.ensures.reads (list (of_list (text_list ts))) (texts_readable ts h) e in
+    gives_found c.in_ok-found.found c.known.result _ (λ v. v.items ≡ ts) c.known.ensures (c.in_ok-found.ensures.reads ts is)
 
 pub returns-in_err-value-clause-tells : goal.returns-in_err-value-clause-tells
 returns-in_err-value-clause-tells c =

@@ -1,9 +1,9 @@
 -- A well-formed world of values in reach is readable.
-use Rattle.std.proofs.Common.{ℕ, zero, suc, max, ◌≤◌, nat_le, Bool, true, ◌&&◌, List, [], ◌∷◌, Option, Some, None, IsTrue, ℤ, refl, arith, le-leb, leb-true}
+use Rattle.std.proofs.Common.{ℕ, zero, suc, max, ◌≤◌, Bool, true, ◌&&◌, List, [], ◌∷◌, Option, Some, None, IsTrue, ℤ, refl, arith, le-leb, leb-true}
 use Rattle.std.specs.List.{list_all}
 use Rattle.spec_value.specs.Datum.{Datum, integer, object, text, error, list, Data, no_data, item, is_text, in_number_range, is_value, of_list}
 use Rattle.spec_value.proofs.Entries.{first_holds, second_holds, both_hold, each_entry}
-use Rattle.spec_program.specs.Trees.{program_fits, program_height, greatest_depth, is_tree}
+use Rattle.spec_program.specs.Trees.{program_fits, is_tree}
 use Rattle.spec_world.specs.World.{World, PrepositionPart, no_preposition, any_preposition, preposition_set, Verb, Object, Frame, Entry, frame_entry, native_entry, Waiting, forked, timed, idle, reading_on, Task}
 use Rattle.spec_world.specs.WellFormed.{IsWellFormed}
 use Rattle.spec_world.specs.Checkpoint.{start_values, values_held}
@@ -105,7 +105,7 @@ verb_spelled v h =
     second_holds (preposition_holds v.preposition) (is_tree v.program)
     (second_holds (in_number_range v.owner) (preposition_holds v.preposition && is_tree v.program) (second_holds (is_text v.names) (in_number_range v.owner && (preposition_holds v.preposition && is_tree v.program)) h))
     in
-    first_holds (program_fits [] v.program) (nat_le (program_height v.program) greatest_depth) tree
+    first_holds (program_fits [] v.program) _ tree
 
 object_spelled : (x : Object) → IsTrue (object_holds x) → IsTrue (are_programmed x)
 object_spelled x h =
@@ -123,7 +123,7 @@ frame_spelled f h =
     let start : Bool = list_all is_value (start_values f.start) in
     let rest : Bool = list_all (λ e. is_text e.0 && is_value e.1) f.variables && list_all piece_holds f.pieces in
     let tree : IsTrue (is_tree f.program) = first_holds (is_tree f.program) rest (second_holds start (is_tree f.program && rest) (second_holds (call_holds f.call) (start && (is_tree f.program && rest)) h)) in
-    first_holds (program_fits [] f.program) (nat_le (program_height f.program) greatest_depth) tree
+    first_holds (program_fits [] f.program) _ tree
 
 entries_spelled : (e : Entry) → IsTrue (entry_holds e) → IsTrue (entry_spelled e)
 entries_spelled (frame_entry f) h = frame_spelled f h

@@ -40,7 +40,7 @@ returns-in_err-draft-clause-fault c =
     let told = c.in_err-draft.ensures.tells c.new-lines.ensures.room in
     let whole = of_all c.new-lines.result c.args.bytes.now c.new-lines.ensures.left c.new-lines.ensures.none in
     let passed = err_from_is_err_and c.from_residual.result c.from_residual.ensures.1 in
-    tells_first c.from_residual.result passed.0 _ c.args.bytes.now passed.1 (cc passed.2) (subst (λ f. IsFault _ f) whole told)
+    tells_first c.from_residual.result passed.0 c.in_err-draft.field-0.0 c.args.bytes.now passed.1 (cc passed.2) (subst (λ f. IsFault c.in_err-draft.field-0.0 f) whole told)
 
 pub returns-in-None-clause-fault : goal.returns-in-None-clause-fault
 returns-in-None-clause-fault c =
@@ -56,4 +56,4 @@ returns-in-None-clause-fault c =
     let draft = c.in_ok-draft.ensures.reads w r (all_left c.new-lines.result c.args.bytes.now w c.new-lines.ensures.left is small) in
     absurd (none_is c.in_ok-world.world (λ (x : Counted). x.plain ≡ w) c.in-None.is (c.in_ok-world.ensures.finds w draft.0 r.sound is))
     in
-    tells_world (Err c.fault.result) c.next_draft.new.lines.count c.args.bytes.now (ap Err c.fault.ensures) none line no_world
+    tells_world {A = Counted} (Err c.fault.result) c.next_draft.new.lines.count c.args.bytes.now (ap Err c.fault.ensures) none line no_world

@@ -1,12 +1,11 @@
 -- Which values tell what a link is programming, and which words the parts of a verb's arguments.
-use Rattle.std.proofs.Common.{◌≡◌, ◌||◌, ℕ, zero, suc, pos, negsuc, Bool, true, false, List, [], ◌∷◌, length, codes, Option, Some, None, refl, ap, sym, ◌∙◌}
-use Rattle.std.specs.List.{list_any}
-use Rattle.spec_value.specs.Datum.{Text, same_text, Datum, integer, object, text, error, list, Data, no_data, item, of_list}
+use Rattle.std.proofs.Common.{◌≡◌, ◌||◌, zero, suc, pos, negsuc, Bool, true, false, List, [], ◌∷◌, length, codes, Some, refl, ap, sym, ◌∙◌}
+use Rattle.spec_value.specs.Datum.{Text, same_text, Datum, integer, object, text, error, list, Data, of_list}
 use Rattle.spec_value.proofs.Same.{same_texts}
 use Rattle.spec_faults.specs.Plain.{passes, is_one_of, is_number}
 use Rattle.spec_faults.specs.Literals.{value_of, is_literal, any, is_string, is_list_of, are_lines_held, is_programming}
 use Rattle.checkpoint_lines.proofs.Checking.{none_passes}
-use Rattle.object_lines.specs.ObjectAwaited.{is_content, is_object_part, is_preposition}
+use Rattle.object_lines.specs.ObjectAwaited.{is_content, is_preposition}
 
 -- ---- literals
 

@@ -2,9 +2,8 @@
 use Rattle.std.proofs.Common.{◌≡◌, suc, [], ◌∷◌, codes, refl, ap, sym, subst}
 use Rattle.spec_value.specs.Datum.{Text}
 use Rattle.spec_world.specs.Checkpoint as fault
-use Rattle.spec_faults.specs.Cutting.{lines_of}
-use Rattle.spec_faults.specs.Awaited.{first_line, only_if, goes_on, told}
-use Rattle.spec_faults.specs.Faults.{fault_at, fault_among}
+use Rattle.spec_faults.specs.Awaited.{first_line, only_if, told}
+use Rattle.spec_faults.specs.Faults.{fault_among}
 use Rattle.checkpoint_lines.specs.declared.fault.DecodeError.{DecodeError}
 use Rattle.checkpoint_lines.specs.declared.fault.DecodeError.TheVariants.{Line}
 use Rattle.checkpoint_lines.specs.declared.fault.FaultKind.TheVariants as kind

@@ -1,5 +1,5 @@
 -- The lines of an object, one by one, as they are awaited.
-use Rattle.std.proofs.Common.{pos, List, [], ◌∷◌, codes}
+use Rattle.std.proofs.Common.{pos, [], ◌∷◌, codes}
 use Rattle.spec_faults.specs.Plain.{is_integer}
 use Rattle.spec_faults.specs.Forms.{word, other, object_number, string, strings, objects}
 use Rattle.spec_faults.specs.Awaited.{Awaited, one, counted, each_slot, each_verb}

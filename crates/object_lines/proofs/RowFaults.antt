@@ -1,11 +1,11 @@
 -- What the fields of a line of an object tell: the first that is not as it is wanted is the line's fault, and where all are it has none.
-use Rattle.std.proofs.Common.{◌≡◌, ◌||◌, ℤ, pos, Bool, true, false, not, List, [], ◌∷◌, codes, Result, Err, None, IsTrue, refl, ap}
+use Rattle.std.proofs.Common.{◌≡◌, ◌||◌, pos, Bool, true, false, not, List, [], ◌∷◌, codes, Result, Err, None, IsTrue, refl, ap}
 use Rattle.std.specs.List.{list_all}
 use Rattle.spec_value.specs.Datum.{Text}
 use Rattle.spec_faults.specs.Cutting.{field_at, is_filled}
 use Rattle.spec_faults.specs.Plain.{is_integer, is_number, is_object, are_bits, are_flags, number_in}
-use Rattle.spec_faults.specs.Literals.{is_literal, is_string, is_programming, any}
-use Rattle.spec_faults.specs.Forms.{Wanted, word, other, value, one_is, is_misspelt, is_no_value, is_other_word, fault_of, connection, object_number, how_many, string, content, object_part, preposition, link_form, slot_form, verb_form}
+use Rattle.spec_faults.specs.Literals.{is_literal, is_string, is_programming}
+use Rattle.spec_faults.specs.Forms.{Wanted, word, other, value, one_is, is_misspelt, is_other_word, fault_of, connection, object_number, how_many, string, content, object_part, preposition, link_form, slot_form, verb_form}
 use Rattle.spec_faults.specs.Awaited.{Verdict, goes_on, verb, code, of_verb}
 use Rattle.checkpoint_lines.specs.declared.fault.DecodeError.{DecodeError}
 use Rattle.checkpoint_lines.specs.declared.fault.FaultKind.TheVariants as kind

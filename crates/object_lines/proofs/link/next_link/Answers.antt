@@ -1,4 +1,4 @@
-use Rattle.std.proofs.Common.{rules, w32, SFits, to_z, of_z, ◌≡◌, refl, ap, sym, ◌∙◌, ◌∷◌, [], ℤ, true, false}
+use Rattle.std.proofs.Common.{rules, w32, SFits, to_z, of_z, ◌≡◌, refl, ap, sym, ◌∙◌, ◌∷◌, [], true, false}
 use Rattle.spec_world.specs.Checkpoint.{programming_held}
 use Rattle.spec_faults.specs.Cutting.{field_at}
 use Rattle.object_lines.proofs.Ranges.{connection_number}

@@ -2,7 +2,7 @@ use Rattle.object_lines.proofs.RowFaults.{verb_owner_fails, verb_bits_fail, verb
 use Rattle.checkpoint_lines.proofs.Going.{row_fails}
 use Rattle.spec_faults.specs.Forms.{verb_form}
 use Rattle.spec_faults.specs.Plain.{number_in, or_zero}
-use Rattle.std.proofs.Common.{Err, refl, ap, ◌∙◌}
+use Rattle.std.proofs.Common.{ap, ◌∙◌}
 use Rattle.spec_faults.specs.Cutting.{field_at}
 use Rattle.std.proofs.lemmas.Result.{err_from_is_err_and}
 use Rattle.object_lines.proofs.verb.head_of.Goals as goal

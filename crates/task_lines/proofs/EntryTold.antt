@@ -1,5 +1,5 @@
 -- What an entry's own line is told as, and where it may stand.
-use Rattle.std.proofs.Common.{◌≡◌, ℕ, zero, suc, ◌+◌, ◌-◌, ◌<◌, ◌==◌, ◌&&◌, ◌||◌, nat_le, nat_lt, Bool, true, false, not, List, [], ◌∷◌, ◌++◌, length, Option, Some, None, IsTrue, refl, ap, sym, subst, ◌∙◌, codes, if◌then◌else◌, arith, min, ◌^◌}
+use Rattle.std.proofs.Common.{◌≡◌, ℕ, zero, suc, ◌+◌, ◌-◌, ◌<◌, ◌==◌, ◌&&◌, ◌||◌, nat_le, nat_lt, Bool, true, false, not, List, [], ◌∷◌, ◌++◌, length, Option, Some, None, Result, Ok, Err, IsTrue, refl, ap, sym, subst, ◌∙◌, codes, if◌then◌else◌, arith, min, ◌^◌}
 use Rattle.std.proofs.lemmas.Bool.{ltb-true}
 use Rattle.std.proofs.lemmas.Bool.Decides.{nat_tests}
 use Rattle.std.specs.List.{list_all}
@@ -16,12 +16,18 @@ use Rattle.spec_faults.specs.Plain.{number_in, is_one_of}
 use Rattle.spec_faults.specs.Literals.{value_of, items_of}
 use Rattle.spec_faults.specs.Forms.{Wanted, word, is_other_word, one_is, has_form, fault_of, form_among, or_else, frame_form, native_form, object_number, string, flag, how_many, other, number, literal}
 use Rattle.spec_faults.specs.Awaited.{Awaited, entry, code, of_frame, Verdict, faulty, goes_on, only_if, by_fault, by_form, told, opened, one_entry, verb_may_stand, native_may_stand, native_goes, native_named, arguments_fit}
-use Rattle.checkpoint_lines.specs.Told.{is_test, IsRow}
+use Rattle.checkpoint_lines.specs.Rows.{row_fields}
+use Rattle.checkpoint_lines.specs.Told.{line_fields, row_fault, is_test, IsRow}
+use Rattle.checkpoint_lines.specs.declared.fault.DecodeError.{DecodeError}
+use Rattle.checkpoint_lines.specs.declared.fault.FaultKind.TheVariants as kind
+use Rattle.checkpoint_lines.specs.declared.row.Row.{Row}
 use Rattle.checkpoint_lines.proofs.Telling.{one_word}
 use Rattle.task_lines.specs.declared.entry.Begun.{Begun}
 use Rattle.task_lines.specs.declared.entry.Begun.TheVariants.{Verb, Native}
 use Rattle.task_lines.specs.declared.entry.Place.{Place}
 use Rattle.task_lines.specs.Awaiting.{IsPlace, stands, verbs_behind, entry_awaited, next_awaited, is_native_begun, rest_awaited, native_verdict, own_goes, own_verdict}
+use Rattle.task_lines.specs.Verdicts.{IsWhole, VerdictTells}
+use Rattle.task_lines.proofs.Telling.{whole_is, whole_fault}
 use Rattle.task_lines.proofs.RowForms.{no_form_at, no_form_long, form_is, no_word_turned}
 
 -- ---- where it may stand
@@ -202,6 +208,19 @@ no_items (error e) h = refl
 
 pub native_no_list : (ts : List Text) (v : Datum) → value_of (field_at ts 3) ≡ Some v → ((xs : Data) → v ≡ list xs → ⊥) → native_goes ts ≡ false
 native_no_list ts v f h = ap (λ o. arguments_fit (native_named (field_at ts 1)) (number_in (field_at ts 2)) (items_of o)) f ∙ ap (arguments_fit (native_named (field_at ts 1)) (number_in (field_at ts 2))) (no_items v h)
+
+module _ (r : Row) (w : IsWhole r) where
+  goes_by : (b : Bool) (ts : List Text) → line_fields r ≡ ts → native_goes ts ≡ b → native_verdict (line_fields r) ≡ only_if b fault.frame []
+  goes_by b ts is h = ap native_verdict is ∙ ap (λ c. only_if c fault.frame []) h
+
+  pub native_fit : fault_of native_form (line_fields r) ≡ None → native_goes (row_fields r) ≡ true → by_form native_form (line_fields r) native_verdict ≡ goes_on []
+  native_fit none h = ap (λ o. by_fault o (line_fields r) native_verdict) none ∙ goes_by true (row_fields r) (whole_is r w) h
+
+  pub native_unfit : (A : Type 0) (e : DecodeError) → e ≡ row_fault r kind.Frame → fault_of native_form (line_fields r) ≡ None → native_goes (row_fields r) ≡ false
+      → VerdictTells {A = A} (Err e) r (by_form native_form (line_fields r) native_verdict) (λ _. [])
+  native_unfit A e is none h =
+      subst (λ d. VerdictTells {A = A} (Err d) r (by_form native_form (line_fields r) native_verdict) (λ _. [])) (sym (is ∙ whole_fault r kind.Frame w))
+      (refl, ap (λ o. by_fault o (line_fields r) native_verdict) none ∙ goes_by false (row_fields r) (whole_is r w) h)
 
 -- ---- one entry after another
 

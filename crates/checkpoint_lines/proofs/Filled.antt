@@ -1,5 +1,5 @@
 -- Fields of a line have characters, and no line end stands in them.
-use Rattle.std.proofs.Common.{◌≡◌, ℕ, zero, suc, pos, negsuc, ◌<◌, ◌≤◌, get_or, List, [], ◌∷◌, map, length, IsTrue, true, false, not, ◌==◌, ◌&&◌, eq-eqb, ◌∙◌, Bor, refl, ap, arith}
+use Rattle.std.proofs.Common.{◌≡◌, ℕ, zero, suc, pos, negsuc, ◌<◌, ◌≤◌, get_or, List, [], ◌∷◌, map, length, IsTrue, Bool, true, false, not, ◌==◌, ◌&&◌, ◌||◌, eq-eqb, ◌∙◌, Bor, refl, ap, arith}
 use Rattle.std.proofs.lemmas.Bool.Decides.{nat_tests}
 use Rattle.std.specs.List.{list_all, list_any}
 use Rattle.std.proofs.lemmas.Fmt.{decimal_nonempty}
@@ -13,7 +13,8 @@ use Rattle.spec_checkpoint.proofs.Numbers.{small}
 use Rattle.spec_checkpoint.proofs.ValuesUnbroken.{line_then, value_line}
 use Rattle.line_fields.specs.Fields.{Field, word, held, spelled, all_spelled, is_plain, is_word, is_field, are_fields}
 use Rattle.line_fields.proofs.Words.{are_plain}
-use Rattle.spec_faults.specs.Cutting.{field_at, is_filled}
+use Rattle.spec_faults.specs.Cutting.{fields_in, field_at, is_filled}
+use Rattle.checkpoint_lines.specs.Told.{is_cut}
 
 -- ---- no line end
 
@@ -118,3 +119,32 @@ has_word ts w fs n e l =
     let count : length ts == suc n ≡ true = eq-eqb (length ts) (suc n) many in
     let word : same_text (field_at ts 0) w ≡ true = ap (λ us. same_text (field_at us 0) w) e ∙ same_text_refl w in
     rw (count, word)
+
+-- ---- some are empty
+
+filled_or_not : (t : Text) → (length t == 0) ≡ not (is_filled t)
+filled_or_not [] = refl
+filled_or_not (c ∷ t) = not_over (c ∷ t) refl
+
+pub some_empty : (bs : List (Bor Text)) → list_any (λ b. length b.now == 0) bs ≡ not (list_all is_filled (map (λ b. b.now) bs))
+some_empty [] = refl
+some_empty (b ∷ bs) = rw (filled_or_not b.now, some_empty bs) (go (is_filled b.now) (list_all is_filled (map (λ a. a.now) bs)))
+  where
+    go : (p q : Bool) → (not p || not q) ≡ not (p && q)
+    go true q = refl
+    go false q = refl
+
+pub not_not : (p q : Bool) → not p ≡ q → p ≡ not q
+not_not true true h = cc
+not_not true false h = refl
+not_not false true h = refl
+not_not false false h = cc
+
+-- ---- the last field
+
+pub last_field : (bs : List (Bor Text)) (i : ℕ) (d : Bor Text) → suc i ≡ length bs → is_cut (map (λ a. a.now) bs) ≡ (length (fields_in (get_or bs i d).now) == 1)
+last_field [] i d l = absurd (omega arith)
+last_field (b ∷ []) zero d l = refl
+last_field (b ∷ []) (suc i) d l = absurd (omega arith)
+last_field (b ∷ e ∷ bs) zero d l = absurd (omega arith)
+last_field (b ∷ e ∷ bs) (suc i) d l = last_field (e ∷ bs) i d (omega arith)

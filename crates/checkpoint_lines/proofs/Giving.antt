@@ -3,7 +3,7 @@ use Rattle.std.proofs.Common.{◌≡◌, Result, Ok, Err, Option, Some, None, Ma
 use Rattle.std.specs.Option.{ok_or}
 use Rattle.checkpoint_lines.specs.declared.fault.DecodeError.{DecodeError}
 use Rattle.checkpoint_lines.specs.declared.fault.DecodeError.TheVariants.{Memory}
-use Rattle.checkpoint_lines.specs.Gives.{Gives, IsKnown}
+use Rattle.checkpoint_lines.specs.Gives.{Gives}
 
 pub gives_and : {A : Type 0} (r : Result A DecodeError) (P : A → Type 0) (Q : Type 0) → Gives r P → Q → Gives r (λ x. P x × Q)
 gives_and (Ok x) P Q g q = (g, q)
@@ -28,13 +28,6 @@ gives_found (Some x) r e P m f = gives_ok r x P m f
 pub gives_exact : {A : Type 0} (o : Option A) (r : Result A DecodeError) (e : DecodeError) (M : Type 0) (P Q : A → Type 0) → r ≡ ok_or o e → MatchOption o M P → (M → ⊥) → ((x : A) → P x → Q x) → Gives r Q
 gives_exact None r e M P Q m f missing on = absurd (missing f)
 gives_exact (Some x) r e M P Q m f missing on = gives_ok r x Q m (on x f)
-
-pub known_ok : {A : Type 0} (o : Option A) (x : A) (r : Result A DecodeError) → o ≡ Some x → IsKnown o r → r ≡ Ok x
-known_ok o x r h k = subst (λ q. IsKnown q r) h k
-
-pub gives_known : {A : Type 0} (o : Option A) (r : Result A DecodeError) (P : A → Type 0) → IsKnown o r → MatchOption o ⊥ P → Gives r P
-gives_known None r P k f = absurd f
-gives_known (Some x) r P k f = gives_ok r x P k f
 
 -- ---- a fault that is passed on
 

@@ -2,3 +2,13 @@ pub mod Giving
 pub mod Filled
 pub mod Rests
 pub mod Programs
+pub mod Telling
+pub mod Checking
+pub mod LinesLeft
+pub mod FirstFields
+pub mod RowsTold
+pub mod Going
+pub mod OneField
+pub mod TextEnd
+pub mod LinesPassed
+pub mod CodeTold

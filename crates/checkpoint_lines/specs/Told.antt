@@ -1,14 +1,14 @@
 -- What a reader tells of the lines that it reads: it goes on where they have no fault, else it tells the first.
-use Rattle.std.specs.Prelude.{◌≡◌, ℕ, suc, ◌+◌, ◌<◌, ◌^◌, ◌==◌, ◌&&◌, Bool, true, false, List, [], ◌∷◌, ◌++◌, length, if◌then◌else◌, Option, Some, None, Result, Ok, Err, IsTrue}
+use Rattle.std.specs.Prelude.{◌≡◌, ℕ, suc, ◌+◌, ◌<◌, ◌^◌, ◌==◌, Bool, true, false, List, [], ◌∷◌, ◌++◌, length, if◌then◌else◌, Option, Some, None, Result, Ok, Err, IsTrue}
 use Rattle.std.specs.List.{list_all}
 use Rattle.std.specs.Borrow.{Bor}
 use Rattle.spec_value.specs.Datum.{Text}
 use Rattle.spec_world.specs.Checkpoint as fault
 use Rattle.spec_world.specs.Checkpoint.{CheckpointFault, with_line_ends}
 use Rattle.spec_checkpoint.specs.Lines.{are_lines}
-use Rattle.spec_faults.specs.Cutting.{Cut, lines_of, fields_in}
+use Rattle.spec_faults.specs.Cutting.{lines_of, fields_in}
 use Rattle.spec_faults.specs.Plain.{number_in}
-use Rattle.spec_faults.specs.Forms.{Wanted, word, other, value, fault_of, counted_form}
+use Rattle.spec_faults.specs.Forms.{Wanted, word, fault_of, counted_form}
 use Rattle.spec_faults.specs.Awaited.{Awaited, Verdict, goes_on, by_form, told, opened}
 use Rattle.spec_faults.specs.Faults.{LineFault, fault_at, fault_among}
 use Rattle.checkpoint_lines.specs.Rows.{row_fields}
@@ -47,7 +47,7 @@ lines_in l = l.count + length (lines_of l.left.now).lines
 
 -- lines are counted in 64 bits
 abbrev pub HasRoom : Lines → Type 0
-HasRoom l = l.count + length l.left.now < 2 ^ 64
+HasRoom l = l.count + length l.left.now < 2 ^ 63
 
 -- what was awaited stood there without a fault, and now this is awaited of what is left
 pub record GoesOn (l m : Lines) (awaited after : List Awaited) : Type 0 where

@@ -4,23 +4,37 @@ use Rattle.std.specs.Fmt.{signed_decimal}
 use Rattle.spec_value.proofs.Entries.{both_hold}
 use Rattle.line_fields.specs.Fields.{word, is_field}
 use Rattle.line_fields.proofs.Words.{word_signed}
-use Rattle.checkpoint_lines.specs.Rows.{Left}
 use Rattle.spec_faults.specs.Cutting.{field_at}
 use Rattle.std.proofs.lemmas.Result.{err_from_is_err_and}
 use Rattle.checkpoint_lines.proofs.Giving.{gives_ok, gives_passed}
+use Rattle.spec_faults.specs.Forms as form
+use Rattle.spec_faults.specs.Plain.{is_integer}
+use Rattle.spec_faults.specs.Awaited.{one, goes_on}
+use Rattle.checkpoint_lines.specs.declared.fault.FaultKind.TheVariants as kind
+use Rattle.checkpoint_lines.specs.Rows.{row_fields, Left}
+use Rattle.checkpoint_lines.specs.Told.{Checks}
+use Rattle.checkpoint_lines.proofs.Telling.{integer_one}
+use Rattle.checkpoint_lines.proofs.OneField.{other_told, both_sides}
+use Rattle.checkpoint_lines.proofs.Going.{one_row}
+use Rattle.checkpoint_lines.proofs.RowsTold.{passed_headed}
 use Rattle.checkpoint_lines.proofs.lines.Lines.next_integer.Goals as goal
 
-pub returns-in_err-row : goal.returns-in_err-row
-returns-in_err-row c = record {
-  reads = λ z rest w h l m e.
-      let memory = c.in_err-row.ensures.reads (word (signed_decimal z) ∷ []) rest w (both_hold (is_field (word (signed_decimal z))) true (word_signed z h) refl) refl e in
-      let passed = err_from_is_err_and c.from_residual.result c.from_residual.ensures.1 in
-      gives_passed c.from_residual.result passed.0 _ passed.1 (cc (passed.2, memory));
-}
+pub returns-in_err-row-clause-reads : goal.returns-in_err-row-clause-reads
+returns-in_err-row-clause-reads c = λ z rest w h l m e.
+    let memory = c.in_err-row.ensures.reads (word (signed_decimal z) ∷ []) rest w (both_hold (is_field (word (signed_decimal z))) true (word_signed z h) refl) refl e in
+    let passed = err_from_is_err_and c.from_residual.result c.from_residual.ensures.1 in
+    gives_passed c.from_residual.result passed.0 _ passed.1 (cc (passed.2, memory))
 
-pub returns : goal.returns
-returns c = record {
-  reads = λ z rest w h l m e.
-      let row = c.in_ok-row.ensures.reads (word (signed_decimal z) ∷ []) rest w (both_hold (is_field (word (signed_decimal z))) true (word_signed z h) refl) refl e in
-      gives_ok c.integer.result z (λ y. (y ≡ z) × Left c.next_with.new.self rest) (c.integer.ensures.reads z h (subst (λ y. y ≤ℤ z) (sym (to_z-of_z w32 c.args.least c.ranges.least)) l) (subst (λ y. z ≤ℤ y) (sym (to_z-of_z w32 c.args.most c.ranges.most)) m) (ap (λ ts. field_at ts 1) row.0.0)) (refl, row.1);
-}
+pub returns-clause-reads : goal.returns-clause-reads
+returns-clause-reads c = λ z rest w h l m e.
+    let row = c.in_ok-row.ensures.reads (word (signed_decimal z) ∷ []) rest w (both_hold (is_field (word (signed_decimal z))) true (word_signed z h) refl) refl e in
+    gives_ok c.integer.result z (λ y. (y ≡ z) × Left c.next_with.new.self rest) (c.integer.ensures.reads z h (subst (λ y. y ≤ℤ z) (sym (to_z-of_z w32 c.args.least c.ranges.least)) l) (subst (λ y. z ≤ℤ y) (sym (to_z-of_z w32 c.args.most c.ranges.most)) m) (ap (λ ts. field_at ts 1) row.0.0)) (refl, row.1)
+
+pub returns-in_err-row-clause-tells : goal.returns-in_err-row-clause-tells
+returns-in_err-row-clause-tells c =
+    let passed = err_from_is_err_and c.from_residual.result c.from_residual.ensures.1 in
+    passed_headed c.from_residual.result c.in_err-row.field-0.0 passed.0 c.args.self.now c.next_with.new.self c.args.word.now 1 (one (form.word c.args.word.now ∷ form.other (is_integer c.args.least c.args.most) ∷ [])) (form.other (is_integer c.args.least c.args.most) ∷ []) (λ ts. goes_on []) (λ x. []) passed.1 passed.2 c.in_err-row.ensures.tells (one_row (form.word c.args.word.now ∷ form.other (is_integer c.args.least c.args.most) ∷ [])) refl refl
+
+pub returns-clause-tells : goal.returns-clause-tells
+returns-clause-tells c =
+    other_told c.in_ok-row.row c.args.self.now c.next_with.new.self c.args.word.now (is_integer c.args.least c.args.most) (integer_one c.args.least c.args.most) (one (form.word c.args.word.now ∷ form.other (is_integer c.args.least c.args.most) ∷ [])) (λ ts. goes_on []) (λ x. []) c.in_ok-row.ensures.tells c.integer.result (one_row (form.word c.args.word.now ∷ form.other (is_integer c.args.least c.args.most) ∷ [])) (both_sides (λ x y. Checks c.integer.result c.in_ok-row.row kind.Number (is_integer x y (field_at (row_fields c.in_ok-row.row) 1))) (to_z-of_z w32 c.args.least c.ranges.least) (to_z-of_z w32 c.args.most c.ranges.most) c.integer.ensures.tells) (λ x is. refl)

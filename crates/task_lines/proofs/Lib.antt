@@ -8,3 +8,8 @@ pub mod MannerWords
 pub mod NamePlaces
 pub mod Standing
 pub mod Entering
+pub mod Telling
+pub mod Wanting
+pub mod HeldLines
+pub mod HeldRows
+pub mod CallPlaces

@@ -37,12 +37,13 @@ pub record NextHeld (before : Option Datum) (w : Wanted) (ws : List Wanted) (vs 
   pub all_readable : IsTrue (list_all is_readable rest)
   pub all_fits : IsTrue (all_fit (Some value) ws rest)
 
+pub next_wanted : (ws : List Wanted) (i : ℕ) (w d : Wanted) → i < length ws → w ≡ get_or ws i d → drop i ws ≡ w ∷ drop (i + 1) ws
+next_wanted ws i w d small is = let next : suc i ≡ i + 1 = omega arith in drop-cons ws i d small ∙ ap (λ x. x ∷ drop (suc i) ws) (sym is) ∙ ap (λ n. w ∷ drop n ws) next
+
 pub next_held : (before : Option Datum) (ws : List Wanted) (i : ℕ) (w d : Wanted) (vs : List Datum) → i < length ws → w ≡ get_or ws i d → IsTrue (all_fit before (drop i ws) vs)
     → IsTrue (list_all is_readable vs) → NextHeld before w (drop (i + 1) ws) vs
 next_held before ws i w d vs small is h readable =
-    let next : suc i ≡ i + 1 = omega arith in
-    let left : drop i ws ≡ w ∷ drop (i + 1) ws = drop-cons ws i d small ∙ ap (λ x. x ∷ drop (suc i) ws) (sym is) ∙ ap (λ n. w ∷ drop n ws) next in
-    go vs (subst (λ us. IsTrue (all_fit before us vs)) left h) readable
+    go vs (subst (λ us. IsTrue (all_fit before us vs)) (next_wanted ws i w d small is) h) readable
   where
     go : (vs : List Datum) → IsTrue (all_fit before (w ∷ drop (i + 1) ws) vs) → IsTrue (list_all is_readable vs) → NextHeld before w (drop (i + 1) ws) vs
     go [] h r = cc

@@ -5,5 +5,6 @@ pub mod Manners
 pub mod Standing
 pub mod Begun
 pub mod Readable
+pub mod Wanting
 pub mod Verdicts
 pub mod Awaiting

@@ -1,15 +1,20 @@
 //! Where a verb stands in its code, from its line.
-ghost use Rattle.std.specs.Prelude.{◌≡◌, [], ◌∷◌, List, true, false, codes, IfOk, IsTrue, MatchOption};
+ghost use Rattle.std.specs.Prelude.{◌≡◌, [], ◌∷◌, ℕ, List, Some, true, false, codes, IfOk, IsTrue, MatchOption};
 ghost use Rattle.spec_value.specs.Datum as datum;
+ghost use Rattle.spec_program.specs.Tree.{Program as ProgramTree};
+ghost use Rattle.spec_program.specs.Construct.{of_program};
+ghost use Rattle.spec_program.specs.Place.{Holds};
 ghost use Rattle.spec_world.specs.World as world;
 ghost use Rattle.spec_world.specs.WellFormed.{StandsAtCall, pieces_fit};
 ghost use Rattle.spec_world.specs.Checkpoint.{fields, part_numbers, path as path_text};
+ghost use Rattle.spec_faults.specs.Codes.{holds_down};
 ghost use Rattle.moo_code.specs.Paths.{path_of};
 ghost use Rattle.held_values.specs.Wanted.{wanted_by};
 ghost use Rattle.line_fields.specs.Values.{are_places};
 ghost use Rattle.checkpoint_lines.specs.Rows.{Left, Reads};
 ghost use Rattle.task_lines.specs.Standing.{IsStand};
 ghost use Rattle.task_lines.specs.Tasks.{FrameStands};
+ghost use Rattle.task_lines.specs.Wanting.{IsWantedBy, StandsWith, TellsStand};
 
 use checkpoint_lines::fault::{DecodeError, FaultKind};
 use checkpoint_lines::lines::Lines;
@@ -27,6 +32,8 @@ pub struct Stand {
 }
 
 /// Where a verb with this program stands, from the next line: one that was forked at its beginning, any other at a call.
+///
+/// Fault Frame where it cannot stand there.
 pub fn next_stand(
     alloc: Global,
     lines: &mut Lines<'_>,
@@ -34,6 +41,7 @@ pub fn next_stand(
     is_fork: bool,
 ) -> Result<Stand, DecodeError>
     ensures reads { (f : world.Frame) (rest : List datum.Text) → FrameStands is_fork f → IsTrue (are_places (path_of f.pieces)) → IsTrue (pieces_fit f.pieces) → program.now ≡ f.program → Left lines.old (fields (codes "place" ∷ path_text (part_numbers f.pieces) ∷ []) ∷ rest) → Reads result lines.new rest (IsStand is_fork f) }
+    ensures tells { TellsStand is_fork program.now result lines.old lines.new }
 {
     let row = lines.next_with(alloc, b"place", 1)?;
     let path = row.path(alloc, 1)?;
@@ -48,6 +56,7 @@ fn stand_at(
     path: &[usize],
 ) -> Result<Option<Stand>, AllocError>
     ensures reads { (f : world.Frame) → FrameStands is_fork f → IsTrue (pieces_fit f.pieces) → program.now ≡ f.program → path.now ≡ path_of f.pieces → IfOk result (λ o. MatchOption o ⊥ (IsStand is_fork f)) }
+    ensures tells { IfOk result (StandsWith is_fork program.now path.now) }
 {
     if is_fork {
         Ok(at_beginning(alloc, path))
@@ -58,6 +67,7 @@ fn stand_at(
 
 fn at_beginning(alloc: Global, path: &[usize]) -> Option<Stand>
     ensures reads { (f : world.Frame) → f.pieces ≡ [] → path.now ≡ path_of f.pieces → MatchOption result ⊥ (IsStand true f) }
+    ensures tells { (p : ProgramTree) → StandsWith true p path.now result }
 {
     if !path.is_empty() {
         return None;
@@ -70,6 +80,7 @@ fn at_beginning(alloc: Global, path: &[usize]) -> Option<Stand>
 
 fn at_call(alloc: Global, program: &Program, path: &[usize]) -> Result<Option<Stand>, AllocError>
     ensures reads { (f : world.Frame) → StandsAtCall f → IsTrue (pieces_fit f.pieces) → program.now ≡ f.program → path.now ≡ path_of f.pieces → IfOk result (λ o. MatchOption o ⊥ (IsStand false f)) }
+    ensures tells { IfOk result (StandsWith false program.now path.now) }
 {
     let found = wanted_at(alloc, program.tree(), path)?;
     match found {
@@ -86,6 +97,7 @@ fn placed(
 ) -> Result<Option<Stand>, AllocError>
     ensures reads { (f : world.Frame) → StandsAtCall f → IsTrue (pieces_fit f.pieces) → program.now ≡ f.program → path.now ≡ path_of f.pieces → wanted.items ≡ wanted_by f.pieces
         → IfOk result (λ o. MatchOption o ⊥ (IsStand false f)) }
+    ensures tells { (hs : List (ℕ × Holds)) → holds_down 0 (of_program program.now) path.now ≡ Some hs → IsWantedBy hs wanted.items → IfOk result (StandsWith false program.now path.now) }
 {
     let found = call_place(program, path)?;
     match found {

@@ -37,7 +37,7 @@ pub no_object_at : (vs : List Datum) (x y d : Datum) → x ≡ get_or vs 1 d →
 no_object_at vs x y d a b h =
     unless (is_start (list (of_list vs)))
     (λ e. let p = start_parts (list (of_list vs)) e in
-          let six = six_items vs p in h p.dobj p.iobj (a ∙ ap (λ us. get_or us 1 d) six) (b ∙ ap (λ us. get_or us 4 d) six))
+    let six = six_items vs p in h p.dobj p.iobj (a ∙ ap (λ us. get_or us 1 d) six) (b ∙ ap (λ us. get_or us 4 d) six))
 
 pub no_list_start : (v : Datum) → ((xs : Data) → v ≡ list xs → ⊥) → is_start v ≡ false
 no_list_start (list xs) h = absurd (h xs refl)
@@ -50,7 +50,7 @@ pub no_text_last : (vs : List Datum) (x d : Datum) (o : Option Text) → x ≡ g
 no_text_last vs x d o a e m =
     unless (is_start (list (of_list vs)))
     (λ s. let p = start_parts (list (of_list vs)) s in
-          subst (λ q. MatchOption q ((t : Text) → x ≡ text t → ⊥) (λ t. x ≡ text t)) e m p.iobjstr (a ∙ ap (λ us. get_or us 5 d) (six_items vs p)))
+    subst (λ q. MatchOption q ((t : Text) → x ≡ text t → ⊥) (λ t. x ≡ text t)) e m p.iobjstr (a ∙ ap (λ us. get_or us 5 d) (six_items vs p)))
 
 -- ---- all six
 

@@ -7,7 +7,8 @@ use Rattle.spec_faults.specs.Cutting.{field_at}
 use Rattle.checkpoint_lines.proofs.Giving.{gives_passed}
 use Rattle.task_lines.proofs.LineWords.{start_are, start_readable}
 use Rattle.spec_faults.specs.Literals.{is_literal, is_start}
-use Rattle.spec_faults.specs.Forms.{start_form, value}
+use Rattle.spec_faults.specs.Forms as form
+use Rattle.spec_faults.specs.Forms.{start_form}
 use Rattle.spec_faults.specs.Awaited.{one, goes_on}
 use Rattle.checkpoint_lines.specs.Told.{TellsFault}
 use Rattle.task_lines.proofs.Telling.{tells_passed}
@@ -46,7 +47,7 @@ pub returns-in_err-row-clause-tells : goal.returns-in_err-row-clause-tells
 returns-in_err-row-clause-tells c =
     let passed = err_from_is_err_and c.from_residual.result c.from_residual.ensures.1 in
     tells_passed c.from_residual.result passed.0 c.in_err-row.field-0.0 c.args.lines.now _ (one start_form ∷ []) (λ _. []) passed.1 (cc (passed.2))
-    (λ room. c.in_err-row.ensures.tells room (one start_form) (value (is_literal is_start) ∷ []) (λ _. goes_on []) (form_is_row start_form) refl refl)
+    (λ room. c.in_err-row.ensures.tells room (one start_form) (form.value (is_literal is_start) ∷ []) (λ _. goes_on []) (form_is_row start_form) refl refl)
 
 pub returns-in_err-value-clause-tells : goal.returns-in_err-value-clause-tells
 returns-in_err-value-clause-tells c =

@@ -13,3 +13,9 @@ pub mod Wanting
 pub mod HeldLines
 pub mod HeldRows
 pub mod CallPlaces
+pub mod RowForms
+pub mod EntryTold
+pub mod StartTold
+pub mod WaitingTold
+pub mod OwnTests
+pub mod HeadedTold

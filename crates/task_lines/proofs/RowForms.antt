@@ -9,7 +9,7 @@ use Rattle.spec_value.proofs.Same.{same_texts, text_itself}
 use Rattle.spec_world.specs.Checkpoint as fault
 use Rattle.spec_world.specs.Checkpoint.{CheckpointFault}
 use Rattle.spec_faults.specs.Cutting.{field_at, is_filled, fields_in, among}
-use Rattle.spec_faults.specs.Forms.{Wanted, word, other, value, is_other_word, is_misspelt, is_no_value, one_is, has_form, least, fault_of}
+use Rattle.spec_faults.specs.Forms.{Wanted, word, other, value, is_other_word, is_misspelt, is_no_value, one_is, has_form, least, fault_of, form_among}
 use Rattle.spec_faults.specs.Awaited.{Awaited, Verdict, faulty, goes_on, by_fault, by_form}
 use Rattle.checkpoint_lines.proofs.Telling.{some_field, in_places, listed}
 use Rattle.checkpoint_lines.specs.Rows.{row_fields}
@@ -121,23 +121,30 @@ module _ (r : Row) (ws : List Wanted) (w : IsWhole r) where
   row_faulty : (k : FaultKind) (e : DecodeError) → e ≡ row_fault r k → fault_of ws (line_fields r) ≡ Some (meant k) → IsRowFault e r (fault_of ws (line_fields r))
   row_faulty k e is f = subst (λ d. IsRowFault d r (fault_of ws (line_fields r))) (sym (is ∙ whole_fault r k w)) (refl, f)
 
-  module _ (X : Type 0) where
+  module _ {X : Type 0} where
     -- a field that is no literal
-    pub number_fault : (e : DecodeError) (test : Bool) → Checks {A = X} (Err e) r kind.Number test → has_form ws (row_fields r) ≡ true → (test ≡ false → one_is is_misspelt ws (row_fields r) ≡ true) → IsRowFault e r (fault_of ws (line_fields r))
-    number_fault (Line n k) test t h m = row_faulty kind.Number (Line n k) t.1 (whole_misspelt h (m t.0))
-    number_fault (Memory e) test t h m = tt
+    pub number_fault : (res : Result X DecodeError) (e : DecodeError) (test : Bool) → res ≡ Err e → Checks res r kind.Number test → has_form ws (row_fields r) ≡ true → (test ≡ false → one_is is_misspelt ws (row_fields r) ≡ true)
+        → IsRowFault e r (fault_of ws (line_fields r))
+    number_fault res e test was t h m = go e (subst (λ s. Checks s r kind.Number test) was t)
+      where
+        go : (e : DecodeError) → Checks {A = X} (Err e) r kind.Number test → IsRowFault e r (fault_of ws (line_fields r))
+        go (Line n k) c = row_faulty kind.Number (Line n k) c.1 (whole_misspelt h (m c.0))
+        go (Memory a) c = tt
 
     -- a literal
-    pub value_fault : (e : DecodeError) (test : Bool) → Checks {A = X} (Err e) r kind.Value test → has_form ws (row_fields r) ≡ true → one_is is_misspelt ws (row_fields r) ≡ false
+    pub value_fault : (res : Result X DecodeError) (e : DecodeError) (test : Bool) → res ≡ Err e → Checks res r kind.Value test → has_form ws (row_fields r) ≡ true → one_is is_misspelt ws (row_fields r) ≡ false
         → (test ≡ false → one_is is_no_value ws (row_fields r) ≡ true) → IsRowFault e r (fault_of ws (line_fields r))
-    value_fault (Line n k) test t h s m = row_faulty kind.Value (Line n k) t.1 (whole_no_value h s (m t.0))
-    value_fault (Memory e) test t h s m = tt
+    value_fault res e test was t h s m = go e (subst (λ q. Checks q r kind.Value test) was t)
+      where
+        go : (e : DecodeError) → Checks {A = X} (Err e) r kind.Value test → IsRowFault e r (fault_of ws (line_fields r))
+        go (Line n k) c = row_faulty kind.Value (Line n k) c.1 (whole_no_value h s (m c.0))
+        go (Memory a) c = tt
 
     -- the last test of a row
     pub last_number : (res : Result X DecodeError) (test : Bool) → Checks res r kind.Number test → has_form ws (row_fields r) ≡ true → (test ≡ false → one_is is_misspelt ws (row_fields r) ≡ true)
         → (test ≡ true → one_is is_misspelt ws (row_fields r) ≡ false) → one_is is_no_value ws (row_fields r) ≡ false → RowTells res r ws
     last_number (Ok x) test t h m n v = whole_none h (n t) v
-    last_number (Err e) test t h m n v = number_fault e test t h m
+    last_number (Err e) test t h m n v = number_fault (Err e) e test refl t h m
 
 module _ {A : Type 0} where
   pub row_passed : (res : Result A DecodeError) (y e : DecodeError) (r : Row) (ws : List Wanted) → res ≡ Err y → y ≡ e → IsRowFault e r (fault_of ws (line_fields r)) → RowTells res r ws
@@ -155,3 +162,27 @@ module _ {A : Type 0} where
   pub verdict_next : (res : Result A DecodeError) (r : Row) (ws : List Wanted) (next : List Text → Verdict) (after : A → List Awaited) → fault_of ws (line_fields r) ≡ None → VerdictTells res r (next (line_fields r)) after
       → VerdictTells res r (by_form ws (line_fields r) next) after
   verdict_next res r ws next after f v = subst (λ o. VerdictTells res r (by_fault o (line_fields r) next) after) (sym f) v
+
+-- ---- one form among others
+
+module _ (r : Row) (w : IsWhole r) (forms : List (List Wanted)) where
+  pub form_there : (ws : List Wanted) → form_among forms (row_fields r) ≡ ws → form_among forms (line_fields r) ≡ ws
+  form_there ws e = ap (form_among forms) (whole_is r w) ∙ e
+
+  -- it has none of them
+  pub formless : (e : DecodeError) → form_among forms (row_fields r) ≡ [] → e ≡ row_fault r kind.Line → IsRowFault e r (fault_of (form_among forms (line_fields r)) (line_fields r))
+  formless e none is =
+      subst (λ d. IsRowFault d r (fault_of (form_among forms (line_fields r)) (line_fields r))) (sym (is ∙ whole_fault r kind.Line w))
+      (refl, ap (λ ws. fault_of ws (line_fields r)) (form_there [] none) ∙ no_form (line_fields r) (λ h. w.some (sym (whole_is r w) ∙ h)))
+
+  pub fault_there : (ws : List Wanted) (e : DecodeError) → form_among forms (row_fields r) ≡ ws → IsRowFault e r (fault_of ws (line_fields r)) → IsRowFault e r (fault_of (form_among forms (line_fields r)) (line_fields r))
+  fault_there ws e is f = subst (λ us. IsRowFault e r (fault_of us (line_fields r))) (sym (form_there ws is)) f
+
+  pub none_there : (ws : List Wanted) → form_among forms (row_fields r) ≡ ws → fault_of ws (line_fields r) ≡ None → fault_of (form_among forms (line_fields r)) (line_fields r) ≡ None
+  none_there ws is f = ap (λ us. fault_of us (line_fields r)) (form_there ws is) ∙ f
+
+pub told_fault : {A : Type 0} (res : Result A DecodeError) (e : DecodeError) (r : Row) (ws : List Wanted) → res ≡ Err e → RowTells res r ws → IsRowFault e r (fault_of ws (line_fields r))
+told_fault res e r ws was t = subst (λ s. RowTells s r ws) was t
+
+pub told_none : {A : Type 0} (res : Result A DecodeError) (x : A) (r : Row) (ws : List Wanted) → res ≡ Ok x → RowTells res r ws → fault_of ws (line_fields r) ≡ None
+told_none res x r ws was t = subst (λ s. RowTells s r ws) was t

@@ -1,5 +1,5 @@
 -- What a task's own line is told as.
-use Rattle.std.proofs.Common.{◌≡◌, ℕ, suc, ◌<◌, ◌≤◌, ◌^◌, ◌==◌, ◌&&◌, nat_le, ℤ, pos, negsuc, int_le, Bool, true, false, not, List, [], ◌∷◌, length, Option, Some, None, IsTrue, refl, ap, sym, subst, ◌∙◌, codes, if◌then◌else◌, arith}
+use Rattle.std.proofs.Common.{◌≡◌, ℕ, suc, ◌<◌, ◌≤◌, ◌^◌, ◌==◌, ◌&&◌, nat_le, ℤ, pos, negsuc, int_le, Bool, true, false, not, List, [], ◌∷◌, length, Option, Some, None, Result, Err, IsTrue, refl, ap, sym, subst, ◌∙◌, codes, if◌then◌else◌, arith}
 use Rattle.std.proofs.lemmas.Bool.Decides.{nat_tests}
 use Rattle.std.specs.List.{list_all}
 use Rattle.std.specs.Fmt.{decimal, signed_decimal}
@@ -9,17 +9,22 @@ use Rattle.spec_value.proofs.Same.{same_texts}
 use Rattle.spec_faults.specs.Cutting.{field_at, is_filled}
 use Rattle.spec_faults.specs.Plain.{passes, number_of, integer_of, is_number, is_integer}
 use Rattle.spec_faults.specs.Literals.{is_literal, any}
-use Rattle.spec_faults.specs.Forms.{Wanted, word, task_id, moment, literal, connection, is_other_word, is_misspelt, is_no_value, one_is, has_form, form_among, or_else, task_forms}
+use Rattle.spec_faults.specs.Forms.{Wanted, word, task_id, moment, literal, connection, is_other_word, is_misspelt, is_no_value, one_is, has_form, fault_of, form_among, or_else, task_forms}
 use Rattle.spec_faults.specs.Awaited.{Verdict, goes_on, is_fork_line, task}
 use Rattle.spec_faults.proofs.Spelling.{numbers_spelled, numbers_told, integers_spelled, integers_told}
-use Rattle.checkpoint_lines.specs.Told.{IsRow}
+use Rattle.checkpoint_lines.specs.Rows.{row_fields}
+use Rattle.checkpoint_lines.specs.Told.{line_fields, row_fault, IsRow, Checks, RowTells}
+use Rattle.checkpoint_lines.specs.declared.fault.DecodeError.{DecodeError}
+use Rattle.checkpoint_lines.specs.declared.fault.FaultKind.TheVariants as kind
+use Rattle.checkpoint_lines.specs.declared.row.Row.{Row}
 use Rattle.checkpoint_lines.proofs.Telling.{same_word}
 use Rattle.task_lines.specs.declared.waiting.Manner.{Manner}
 use Rattle.task_lines.specs.declared.waiting.Manner.TheVariants.{Fork, Wait, Idle, Read}
 use Rattle.task_lines.specs.Manners.{manner_in, fields_of}
-use Rattle.task_lines.specs.Awaiting.{form_of, manner_forks, behind_own}
-use Rattle.task_lines.proofs.Telling.{form_length}
-use Rattle.task_lines.proofs.RowForms.{wanted_at, one_at, none_of, no_form_at, form_is, no_word_turned}
+use Rattle.task_lines.specs.Verdicts.{IsWhole}
+use Rattle.task_lines.specs.Awaiting.{form_of, manner_forks, MannerTells, behind_own}
+use Rattle.task_lines.proofs.Telling.{form_length, whole_is}
+use Rattle.task_lines.proofs.RowForms.{wanted_at, one_at, none_of, no_form_at, form_is, no_word_turned, last_number, whole_none}
 use Rattle.task_lines.proofs.EntryTold.{has_word, headed_by_none}
 
 -- ---- its word
@@ -168,8 +173,8 @@ read_values ts e = none_of is_no_value (form_of Read) 4 ts e (refl, (refl, (refl
 pub wait_values : (ts : List Text) → length ts ≡ 5 → is_literal any (field_at ts 4) ≡ true → one_is is_no_value (form_of Wait) ts ≡ false
 wait_values ts e v = none_of is_no_value (form_of Wait) 5 ts e (refl, (refl, (refl, (refl, (ap not v, tt)))))
 
-pub due_misspelt : (m : Manner) (ts : List Text) → (m ≡ Fork) → length ts ≡ 4 → is_number 0 2147483647 (field_at ts 3) ≡ false → one_is is_misspelt (form_of Fork) ts ≡ true
-due_misspelt m ts is e f = one_at is_misspelt (form_of Fork) ts 3 e (omega arith) (ap not f)
+pub fork_misspelt : (ts : List Text) → length ts ≡ 4 → is_number 0 2147483647 (field_at ts 3) ≡ false → one_is is_misspelt (form_of Fork) ts ≡ true
+fork_misspelt ts e f = one_at is_misspelt (form_of Fork) ts 3 e (omega arith) (ap not f)
 
 pub wait_misspelt : (ts : List Text) → length ts ≡ 5 → is_number 0 2147483647 (field_at ts 3) ≡ false → one_is is_misspelt (form_of Wait) ts ≡ true
 wait_misspelt ts e f = one_at is_misspelt (form_of Wait) ts 3 e (omega arith) (ap not f)
@@ -220,3 +225,26 @@ integer_number most t l = same_truth (is_integer (pos 1) (pos most) t) (is_numbe
 
 pub task_is_row : IsRow task (form_among task_forms) (λ ts. goes_on (behind_own (is_fork_line ts)))
 task_is_row = record { told = λ t. refl; first = λ more. refl }
+
+-- ---- how it waits
+
+module _ {A : Type 0} (res : Result A DecodeError) (r : Row) (w : IsWhole r) (id : is_number 1 2147483584 (field_at (row_fields r) 1) ≡ true) where
+  pub fork_tells : has_form (form_of Fork) (row_fields r) ≡ true → Checks res r kind.Number (is_number 0 2147483647 (field_at (row_fields r) 3)) → RowTells res r (form_of Fork)
+  fork_tells h t =
+      let many = form_length (form_of Fork) (row_fields r) h in
+      last_number r (form_of Fork) w res (is_number 0 2147483647 (field_at (row_fields r) 3)) t h (fork_misspelt (row_fields r) many) (fork_spelt (row_fields r) id many) (fork_values (row_fields r) many)
+
+  pub read_tells : has_form (form_of Read) (row_fields r) ≡ true → Checks res r kind.Number (is_integer (pos 1) (pos 999999) (field_at (row_fields r) 3)) → RowTells res r (form_of Read)
+  read_tells h t =
+      let many = form_length (form_of Read) (row_fields r) h in
+      last_number r (form_of Read) w res (is_integer (pos 1) (pos 999999) (field_at (row_fields r) 3)) t h (read_misspelt (row_fields r) many) (read_spelt (row_fields r) id many) (read_values (row_fields r) many)
+
+pub idle_none : (r : Row) → IsWhole r → is_number 1 2147483584 (field_at (row_fields r) 1) ≡ true → has_form (form_of Idle) (row_fields r) ≡ true → fault_of (form_of Idle) (line_fields r) ≡ None
+idle_none r w id h =
+    let many = form_length (form_of Idle) (row_fields r) h in whole_none r (form_of Idle) w h (idle_spelt (row_fields r) id many) (idle_values (row_fields r) many)
+
+pub behind_waiting : (r : Row) (b c : Bool) → IsWhole r → is_fork_line (row_fields r) ≡ b → c ≡ b → goes_on (behind_own (is_fork_line (line_fields r))) ≡ goes_on (behind_own c)
+behind_waiting r b c w is same = ap (λ ts. goes_on (behind_own (is_fork_line ts))) (whole_is r w) ∙ ap (λ d. goes_on (behind_own d)) (is ∙ sym same)
+
+pub manner_fails : (res : Result Manner DecodeError) (e : DecodeError) (r : Row) → res ≡ Err e → MannerTells res r → (form_among task_forms (row_fields r) ≡ []) × (e ≡ row_fault r kind.Line)
+manner_fails res e r was t = subst (λ s. MannerTells s r) was t

@@ -1,5 +1,5 @@
 //! How a task waits, from its line.
-ghost use Rattle.std.specs.Prelude.{◌≡◌, ◌≤◌, [], ◌∷◌, true, ◌≤ℤ◌, ℕ, ℤ, pos, List, Ok, IfOk, IsTrue};
+ghost use Rattle.std.specs.Prelude.{◌≡◌, ◌≤◌, [], ◌∷◌, true, false, ◌≤ℤ◌, ℕ, ℤ, pos, List, Ok, IfOk, IsTrue};
 ghost use Rattle.std.specs.Fmt.{decimal, signed_decimal};
 ghost use Rattle.spec_value.specs.Datum as datum;
 ghost use Rattle.spec_value.specs.Datum.{in_number_range};

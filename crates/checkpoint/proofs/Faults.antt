@@ -1,10 +1,9 @@
 -- The first fault of a text, by what its readers tell.
-use Rattle.std.proofs.Common.{◌≡◌, ℕ, suc, ◌+◌, List, [], length, Option, Some, None, Result, Ok, Err, IsTrue, refl, ap, sym, ◌∙◌, subst, arith, inl, inr}
+use Rattle.std.proofs.Common.{◌≡◌, ℕ, suc, List, length, None, Result, Err, refl, ap, sym, ◌∙◌, subst, arith, inl, inr}
 use Rattle.spec_value.specs.Datum.{Text}
-use Rattle.spec_world.specs.Checkpoint as fault
 use Rattle.spec_faults.specs.Cutting.{lines_of}
 use Rattle.spec_faults.specs.Awaited.{Awaited, whole}
-use Rattle.spec_faults.specs.Faults.{LineFault, fault_at, fault_among, first_fault, IsNoWorlds, IsFirstFault}
+use Rattle.spec_faults.specs.Faults.{fault_among, first_fault, IsNoWorlds}
 use Rattle.checkpoint_lines.specs.declared.fault.DecodeError.{DecodeError}
 use Rattle.checkpoint_lines.specs.declared.fault.DecodeError.TheVariants.{Line, Memory}
 use Rattle.checkpoint_lines.specs.declared.fault.FaultKind.TheVariants.{World}

@@ -1,5 +1,5 @@
 -- A well-formed world of values in reach is readable.
-use Rattle.std.proofs.Common.{ℕ, zero, suc, max, ◌≤◌, Bool, true, ◌&&◌, List, [], ◌∷◌, Option, Some, None, IsTrue, ℤ, refl, arith, le-leb, leb-true}
+use Rattle.std.proofs.Common.{ℕ, zero, suc, ◌≤◌, Bool, ◌&&◌, List, [], ◌∷◌, Option, Some, None, IsTrue, refl, arith, le-leb}
 use Rattle.std.specs.List.{list_all}
 use Rattle.spec_value.specs.Datum.{Datum, integer, object, text, error, list, Data, no_data, item, is_text, in_number_range, is_value, of_list}
 use Rattle.spec_value.proofs.Entries.{first_holds, second_holds, both_hold, each_entry}

@@ -1,20 +1,15 @@
 -- The first fault of a text, by what its readers tell.
-use Rattle.std.proofs.Common.{◌≡◌, ℕ, suc, List, length, None, Result, Err, refl, ap, sym, ◌∙◌, subst, arith, inl, inr}
+use Rattle.std.proofs.Common.{◌≡◌, ℕ, suc, length, None, Result, Err, refl, ap, sym, ◌∙◌, subst, arith, inl, inr}
 use Rattle.spec_value.specs.Datum.{Text}
 use Rattle.spec_faults.specs.Cutting.{lines_of}
-use Rattle.spec_faults.specs.Awaited.{Awaited, whole}
+use Rattle.spec_faults.specs.Awaited.{whole}
 use Rattle.spec_faults.specs.Faults.{fault_among, first_fault, IsNoWorlds}
 use Rattle.checkpoint_lines.specs.declared.fault.DecodeError.{DecodeError}
 use Rattle.checkpoint_lines.specs.declared.fault.DecodeError.TheVariants.{Line, Memory}
 use Rattle.checkpoint_lines.specs.declared.fault.FaultKind.TheVariants.{World}
 use Rattle.checkpoint_lines.specs.declared.lines.Lines.{Lines}
-use Rattle.checkpoint_lines.specs.Told.{IsFault, fault_left, lines_in, HasRoom, Ends}
+use Rattle.checkpoint_lines.specs.Told.{IsFault, fault_left, lines_in}
 use Rattle.checkpoint.specs.Faulty.{TellsFirst}
-
--- ---- a fault that is passed on
-
-pub ends_passed : {A : Type 0} (r : Result A DecodeError) (y e : DecodeError) (l m : Lines) (awaited : List Awaited) → r ≡ Err y → y ≡ e → (HasRoom l → IsFault e (fault_left l awaited)) → Ends r l m awaited
-ends_passed r y e l m awaited is same f = subst (λ s. Ends s l m awaited) (sym is) (λ room. subst (λ d. IsFault d (fault_left l awaited)) (sym same) (f room))
 
 -- ---- all of a text
 

@@ -1,13 +1,19 @@
 -- A record that is changed where it lies.
-use Rattle.std.proofs.Common.{◌≡◌, ℕ, ◌+◌, ◌/◌, ◌%◌, ◌<◌, ◌≤◌, Bool, true, false, T, List, length, get_or, set, Some, is_some, refl, sym, ap, subst, ◌∙◌, arith, ⊎_elim}
+use Rattle.std.proofs.Common.{◌≡◌, ℕ, ◌+◌, ◌/◌, ◌%◌, ◌<◌, ◌≤◌, Bool, true, false, T, List, length, get_or, set, Some, is_some, refl, sym, ap, subst, ◌∙◌, arith, ⊎_elim, Ok, Err}
 use Rattle.std.proofs.Math.Nat.{mod-eq_of_lt}
 use Rattle.std.proofs.lemmas.Bool.{cases_lt}
+use Rattle.std.specs.Prelude.{Result, IfOk, OnErr}
 use Rattle.std.specs.Ordering.{nat_cmp}
 use Rattle.std.specs.FinMap.{find, put}
 use Rattle.world_table.specs.Branch.{Branch, reach, joined, IsBranch, AreBranches}
 use Rattle.world_table.specs.Revised.{Revises}
 use Rattle.world_table.proofs.Roots.{put_length_some}
 use Rattle.world_table.proofs.Rows.{child_branch, find_there, put_branch, put_within}
+
+-- what holds of a value that is there
+pub ok_as : {A E : Type 0} (P Q : A → Type 0) → ((a : A) → P a → Q a) → (r : Result A E) → IfOk r P → IfOk r Q
+ok_as P Q f (Ok a) h = f a h
+ok_as P Q f (Err e) h = tt
 
 module _ {V : Type 0} (Makes : V → V → Type 0) where
   -- a branch in which something is found has all its levels
@@ -32,6 +38,12 @@ module _ {V : Type 0} (Makes : V → V → Type 0) where
         | true ↦ λ yes no. revised_branch l key b p h same (yes refl)
         | false ↦ λ yes no. subst (IsBranch l) (sym (no refl)) h
       ]
+
+  -- also where it was left for want of memory
+  pub revised_by : {E : Type 0} (l key : ℕ) (r : Result Bool E) (b p : Branch V) → IsBranch l b → p.height ≡ b.height
+      → IfOk r (λ d. d ≡ true → Revises Makes (key % reach b.height) b.entries p.entries) → IfOk r (λ d. d ≡ false → p ≡ b) → OnErr r (p ≡ b) → IsBranch l p
+  revised_by l key (Ok d) b p h same made left err = revised_kept l key d b p h same made left
+  revised_by l key (Err e) b p h same made left err = subst (IsBranch l) (sym err) h
 
   same_length : (l key : ℕ) (b p : Branch V) → IsBranch l b → Revises Makes (key % reach b.height) b.entries p.entries → length b.entries ≡ length p.entries
   same_length l key b p h r =

@@ -26,12 +26,10 @@ impl<R: Drop> Place<R> {
             if at >= own.len() {
                 return Ok(false);
             }
-            let done = own[at].revise(key, revision)?;
-            return Ok(done);
+            return own[at].revise(key, revision);
         }
         if let Held::Record(value) = &mut self.held {
-            let done = revise_own(value, revision)?;
-            return Ok(done);
+            return revise_own(value, revision);
         }
         Ok(false)
     }

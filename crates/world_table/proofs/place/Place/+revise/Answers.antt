@@ -1,5 +1,5 @@
 use Rattle.std.proofs.Common.{◌<◌, length, arith}
-use Rattle.world_table.proofs.Revising.{revised_kept, block_revises}
+use Rattle.world_table.proofs.Revising.{ok_as, revised_by, block_revises}
 use Rattle.world_table.proofs.Rows.{child_branch, row_set}
 use Rattle.world_table.proofs.place.Place.+revise.Goals as goal
 
@@ -9,7 +9,7 @@ invariant_of-self-in-Block g t c =
     let row = rw (← c.in-Some.ensures.value) at sound.1 in
     let inside : c.index_of-at.result < length c.in-Some.own.now.items = omega (arith, c.in-Some.own.now.ok) in
     let child = child_branch _ _ _ _ row.branches inside c.index_mut.ensures.value in
-    let kept = revised_kept (g.E.Revision.makes c.args.revision.now) _ c.args.key c.in_ok-done.done _ c.revise.new.self child c.revise.ensures.height c.in_ok-done.ensures.done c.in_ok-done.ensures.left in
+    let kept = revised_by (g.E.Revision.makes c.args.revision.now) _ c.args.key c.revise.result _ c.revise.new.self child c.revise.ensures.height c.revise.ensures.done c.revise.ensures.left c.revise.ensures.err in
     (sound.0, row_set _ _ _ _ row inside kept)
 
 pub returns-in-Block-clause-done : goal.returns-in-Block-clause-done
@@ -18,4 +18,6 @@ returns-in-Block-clause-done g t c =
     let row = rw (← c.in-Some.ensures.value) at sound.1 in
     let inside : c.index_of-at.result < length c.in-Some.own.now.items = omega (arith, c.in-Some.own.now.ok) in
     let whole = rw (← c.in-Some.ensures.value) at (rw c.in-Block.is at c.self.view_is) in
-    λ yes. block_revises (g.E.Revision.makes c.args.revision.now) _ _ _ _ _ _ _ row.branches c.index_of-at.ensures.value inside c.index_mut.ensures.value whole (c.in_ok-done.ensures.done yes)
+    ok_as _ _
+    (λ b did so. block_revises (g.E.Revision.makes c.args.revision.now) _ _ _ _ _ _ _ row.branches c.index_of-at.ensures.value inside c.index_mut.ensures.value whole (did so))
+    c.revise.result c.revise.ensures.done

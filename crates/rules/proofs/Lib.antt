@@ -15,3 +15,4 @@ pub mod WriteRules
 pub mod CallRules
 pub mod StaysSound
 pub mod WritesKeep
+pub mod Others

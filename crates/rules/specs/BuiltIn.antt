@@ -1,5 +1,5 @@
 -- The built-in properties of the definitions.
-use Rattle.std.specs.Prelude.{Option, Some, None}
+use Rattle.std.specs.Prelude.{ℕ, ◌==◌, ◌||◌, Bool, Option, Some, None}
 use Rattle.spec_value.specs.Datum.{invalid_indirection}
 use Rattle.spec_value.specs.Answer.{Answer, gives, raises}
 use Rattle.spec_world.specs.World.{Object}
@@ -32,3 +32,11 @@ property_of (Of a) = attribute_of a
 abbrev pub built_in_at : Option Object → BuiltInProperty → Answer
 built_in_at None b = raises invalid_indirection
 built_in_at (Some x) b = gives (built_in_value x b)
+
+-- the letters that are the name of a bit, in lower case
+abbrev pub is_bit_letter : ℕ → Bool
+is_bit_letter x = (x == 114) || ((x == 119) || (x == 102))
+
+-- with which the longer names begin
+abbrev pub begins_one : ℕ → Bool
+begins_one x = (x == 110) || ((x == 111) || ((x == 108) || ((x == 99) || ((x == 112) || (x == 119)))))

@@ -1,12 +1,12 @@
 //! The properties that every object has.
-ghost use Rattle.std.specs.Prelude.{◌≡◌, map, option_map, IfOk, OnOk};
+ghost use Rattle.std.specs.Prelude.{◌≡◌, map, None, option_map, IfOk, IsTrue, OnOk};
 ghost use Rattle.spec_value.specs.Datum.{fold_case, list, of_list};
 ghost use Rattle.spec_value.specs.Answer.{truth};
 ghost use Rattle.spec_world.specs.World.{Object, object_at};
 ghost use Rattle.spec_moo.specs.Properties.{own_contents, own_location, built_in, row_of, built_in_value, objects_listed};
 ghost use Rattle.moo_value.specs.Answers.{answer_of};
 ghost use Rattle.view.specs.Law.{Lasts, Tells};
-ghost use Rattle.rules.specs.BuiltIn.{property_of, attribute_of, flag_of, built_in_at};
+ghost use Rattle.rules.specs.BuiltIn.{property_of, attribute_of, flag_of, built_in_at, is_bit_letter as is_bit_letter_of, begins_one as begins_one_of};
 
 use crate::verb_match::words::is_word;
 use moo_value::answer::Answer;
@@ -68,14 +68,53 @@ static ROWS: [(&str, BuiltIn); 9] = [
 ];
 
 /// The built-in property of a name. Case is ignored.
+#[inline(always)]
 pub fn named(name: &str) -> Option<BuiltIn>
     ensures { option_map property_of result ≡ built_in name.now }
 {
+    if is_other(name.as_bytes()) {
+        return None;
+    }
     named_in(&ROWS, name)
+}
+
+// Whether the first letter shows that a name is none of those.
+#[inline(always)]
+fn is_other(name: &[u8]) -> bool
+    ensures { IsTrue result → built_in name.now ≡ None }
+{
+    let Some(first) = name.get(0) else {
+        return false;
+    };
+    let letter = first.to_ascii_lowercase();
+    if name.len() == 1 {
+        !is_bit_letter(letter)
+    } else {
+        !begins_one(letter)
+    }
+}
+
+// Whether a letter in lower case is the name of a bit.
+#[inline(always)]
+fn is_bit_letter(letter: u8) -> bool
+    ensures { result ≡ is_bit_letter_of letter }
+{
+    letter == b'r' || (letter == b'w' || letter == b'f')
+}
+
+// Whether a longer name begins with a letter in lower case.
+#[inline(always)]
+fn begins_one(letter: u8) -> bool
+    ensures { result ≡ begins_one_of letter }
+{
+    letter == b'n'
+        || (letter == b'o'
+            || (letter == b'l' || (letter == b'c' || (letter == b'p' || letter == b'w'))))
 }
 
 // The first of several rows with a name.
 #[tactic(auto, unfolding(spec_moo::specs::Properties::row_of))]
+#[inline(never)]
 fn named_in(rows: &[(&str, BuiltIn)], name: &str) -> Option<BuiltIn>
     ensures { option_map property_of result ≡ row_of (map (λ r. (r.0.now, property_of r.1)) rows.now) (fold_case name.now) }
 {

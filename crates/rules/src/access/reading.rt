@@ -9,7 +9,7 @@ ghost use Rattle.view.specs.Law.{Lasts, StaysSound, Tells};
 ghost use Rattle.rules.specs.Reading.{missing_error, read_named};
 
 use crate::access::built_in::{named, read_built_in};
-use crate::inherit::property::value_of;
+use crate::inherit::property::inherited;
 use crate::permissions::may::owns_or_is_wizard;
 use moo_value::answer::Answer;
 use moo_value::error::MooError;
@@ -18,6 +18,7 @@ use moo_value::value::{Shown, Value};
 use std::alloc::{AllocError, Global};
 use view::law::View;
 use view::readers::{read_header, read_slot};
+use view::slot::Slot;
 
 /// The value of a property, by an object and a name, for a programmer: `E_TYPE` where they are no object and no text, `E_INVIND`
 /// where the object is not there, `E_PROPNF` where it has no such property, `E_PERM` where the programmer may not read it.
@@ -44,6 +45,7 @@ pub fn read_property<V: View>(
 }
 
 /// The value of an object's property by its name, for a programmer.
+#[inline(always)]
 pub fn read_by_name<V: View>(
     alloc: Global,
     view: &mut V,
@@ -86,8 +88,21 @@ fn read_own<V: View>(
     if !allowed {
         return Ok(Err(MooError::PermissionDenied));
     }
-    let value = value_of(view, object, name, Some(slot))?;
-    Ok(found(value))
+    let content = content_of(slot);
+    match content {
+        Some(value) => Ok(Ok(value)),
+        None => {
+            let value = inherited(view, object, name)?;
+            Ok(found(value))
+        }
+    }
+}
+
+#[inline(always)]
+fn content_of(slot: Slot) -> Option<Value>
+    ensures { result ≡ slot.content }
+{
+    slot.content
 }
 
 /// Why there is no slot of a name: the object is not there, or has no such property.

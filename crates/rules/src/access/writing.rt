@@ -26,6 +26,7 @@ use view::readers::{read_header, read_slot, write_part, write_value};
 /// `E_INVIND` where the object is not there, `E_PROPNF` where it has no such property; a name wants a text and an owner an
 /// object, else `E_TYPE`; `E_PERM` where the programmer may not write it.
 #[tactic(auto, unfolding(spec_moo::specs::Properties::write))]
+#[inline(always)]
 pub fn write_property<V: View>(
     alloc: Global,
     view: &mut V,
@@ -49,6 +50,7 @@ pub fn write_property<V: View>(
 }
 
 /// Gives an object's property another value, by its name, for a programmer.
+#[inline(always)]
 pub fn write_by_name<V: View>(
     alloc: Global,
     view: &mut V,

@@ -51,7 +51,11 @@ pub fn value_of<V: View>(
 
 // The value that the ancestors above an object give.
 #[inline(never)]
-fn inherited<V: View>(view: &mut V, object: i32, name: &Text) -> Result<Option<Value>, AllocError>
+pub(crate) fn inherited<V: View>(
+    view: &mut V,
+    object: i32,
+    name: &Text,
+) -> Result<Option<Value>, AllocError>
     requires home { V.holds view.old (V.home view.old) }
     requires well_formed { AreAgreeing V.holds V.now view.old }
     ensures lasts { Lasts V.holds V.home V.anchor view.old view.new result }

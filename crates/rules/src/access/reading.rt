@@ -68,6 +68,7 @@ pub fn read_by_name<V: View>(
 }
 
 // Of a property that is no built-in one. A slot shows that its object is there.
+#[inline(always)]
 fn read_own<V: View>(
     view: &mut V,
     programmer: i32,
@@ -98,6 +99,7 @@ fn read_own<V: View>(
     }
 }
 
+// What a slot holds, taken out of it.
 #[inline(always)]
 fn content_of(slot: Slot) -> Option<Value>
     ensures { result ≡ slot.content }

@@ -70,6 +70,7 @@ pub fn write_by_name<V: View>(
 }
 
 // Of a property that is no built-in one. A slot shows that its object is there.
+#[inline(always)]
 fn write_own<V: View>(
     view: &mut V,
     programmer: i32,

@@ -1,15 +1,15 @@
 -- Slots and parents by the answers about them.
-use Rattle.std.proofs.Common.{◌≡◌, ℤ, List, Option, Some, None, refl}
+use Rattle.std.proofs.Common.{◌≡◌, ℤ, List, Option, Some, None, refl, sym, ap, ◌∙◌}
 use Rattle.std.specs.Prelude.{option_map}
-use Rattle.spec_value.specs.Datum.{Text, fold_case}
+use Rattle.spec_value.specs.Datum.{Datum, Text, fold_case}
 use Rattle.spec_value.specs.Table.{named}
 use Rattle.spec_world.specs.World.{World, Object, Header, Slot, object_at}
 use Rattle.spec_world.specs.Inherit.{slot_of, slot_at}
 use Rattle.spec_world.specs.Questions.{ask, header_at, slot_on, the_header, the_slot, about_header, about_slot, Change, apply_all}
 use Rattle.view.proofs.SlotsTold.{slot_told, no_object_told}
-use Rattle.world.specs.Late.{AllLight}
+use Rattle.world.specs.Late.{AllLight, with_later}
 use Rattle.world.specs.Trace.{AnswersAlike}
-use Rattle.world.proofs.Lightly.{all_unseen}
+use Rattle.world.proofs.Lightly.{all_unseen, asked_absent}
 
 --- a slot, by what is found on its object
 found : (x : Option Object) (p : Text) (s : Option Slot) → option_map (λ y. named y.slots (fold_case p)) x ≡ Some s → slot_of x p ≡ s
@@ -52,3 +52,24 @@ parent_alike v w o alike = same_parent (header_at v o) (header_at w o) (alike (a
 --- no light change gives an object another parent
 pub parent_lightly : (cs : List Change) (w : World) (o : ℤ) → AllLight cs → option_map (λ x. x.parent) (header_at (apply_all cs w) o) ≡ option_map (λ x. x.parent) (header_at w o)
 parent_lightly cs w o all = same_parent (header_at (apply_all cs w) o) (header_at w o) (all_unseen cs w (about_header o) all refl)
+
+--- a slot with a value that it may have got later
+pub slot_unchanged : (s : Option Slot) → option_map (λ t. with_later t None) s ≡ s
+slot_unchanged None = refl
+slot_unchanged (Some s) = refl
+
+pub slot_later : (cs : List Change) (w : World) (o : ℤ) (p : Text) (later : Option Datum) → AllLight cs
+    → ((v : World) (s : Slot) → slot_on v o p ≡ Some (Some s) → slot_on (apply_all cs v) o p ≡ Some (Some (with_later s later)))
+    → slot_at (apply_all cs w) o p ≡ option_map (λ t. with_later t later) (slot_at w o p)
+slot_later cs w o p later all becomes = go (slot_on w o p) refl
+  where
+    go : (x : Option (Option Slot)) → slot_on w o p ≡ x → slot_at (apply_all cs w) o p ≡ option_map (λ t. with_later t later) (slot_at w o p)
+    go None is =
+        nothing_answered (apply_all cs w) o p (sym (asked_absent None cs w o p all refl (sym is)))
+        ∙ ap (option_map (λ t. with_later t later)) (sym (slot_nowhere w o p is))
+    go (Some None) is =
+        slot_answered (apply_all cs w) o p None (sym (asked_absent (Some None) cs w o p all refl (sym is)))
+        ∙ ap (option_map (λ t. with_later t later)) (sym (slot_found w o p None is))
+    go (Some (Some s)) is =
+        slot_found (apply_all cs w) o p (Some (with_later s later)) (becomes w s is)
+        ∙ ap (option_map (λ t. with_later t later)) (sym (slot_found w o p (Some s) is))

@@ -1,5 +1,6 @@
 -- Light changes, after which answers follow from those before them.
 use Rattle.std.specs.Prelude.{Bool, true, false, IsTrue, List, [], ◌∷◌, Option, None, Some}
+use Rattle.spec_value.specs.Datum.{Datum}
 use Rattle.spec_world.specs.World.{Slot}
 use Rattle.spec_world.specs.Questions.{Question, about_slot, Answer, the_slot, Change, new_value, new_next}
 
@@ -21,3 +22,8 @@ is_about_slot _ = false
 abbrev pub slot_told : Answer → Option Slot
 slot_told (the_slot (Some (Some s))) = Some s
 slot_told _ = None
+
+-- a slot that may have got another value later
+abbrev pub with_later : Slot → Option Datum → Slot
+with_later s None = s
+with_later s (Some v) = record s { content = Some v }

@@ -72,6 +72,7 @@ impl<'w> View for Alone<'w> {
         self.overlay.ask(question)
     }
 
+    #[inline(always)]
     fn slot(&mut self, object: i32, name: &Text) -> Result<Option<Slot>, AllocError> {
         self.overlay.slot(object, name)
     }
@@ -81,6 +82,7 @@ impl<'w> View for Alone<'w> {
     }
 
     #[tactic(auto, using(crate::proofs::History::apply_all_last))]
+    #[inline(always)]
     fn put(&mut self, change: Change) -> Result<(), AllocError> {
         self.overlay.put(change)
     }

@@ -241,6 +241,15 @@ impl Draft {
         Some(self.object(number)?.slots().get(name))
     }
 
+    /// The slot of a property on an object, if there are both. Case is ignored.
+    #[inline(always)]
+    #[tactic(auto, using(crate::proofs::Alike::slot_found, crate::proofs::Alike::slot_nowhere))]
+    pub(crate) fn slot_there(&self, number: i32, name: &Text) -> Option<&Slot>
+        ensures { option_map (λ s. s.now) result ≡ slot_at self.now number name.now }
+    {
+        self.slot(number, name)?
+    }
+
     /// The slot of a property on an object, if there are both, of its own. Case is ignored.
     #[inline(always)]
     #[tactic(auto, using(crate::proofs::Alike::slot_found, crate::proofs::Alike::slot_nowhere))]

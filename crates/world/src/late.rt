@@ -1,15 +1,15 @@
 //! Answers after light changes, which follow from the answers before them: no records are made to give them.
 ghost use Rattle.std.specs.Prelude.{◌≡◌, ◌↔◌, Some, map, IsTrue, IfOk, OnOk, option_map};
 ghost use Rattle.spec_value.specs.Datum.{fold_case};
-ghost use Rattle.spec_world.specs.World.{World as Plain};
-ghost use Rattle.spec_world.specs.Inherit.{slot_at};
+ghost use Rattle.spec_world.specs.World.{World as Plain, Slot as SlotOf};
 ghost use Rattle.spec_world.specs.Questions.{ask, apply, apply_all, slot_on, the_slot};
 ghost use Rattle.view.specs.Meanings.{question_of, answer_of, change_of};
-ghost use Rattle.world.specs.Late.{is_light as is_light_change, AllLight, slot_told as slot_of_answer};
+ghost use Rattle.world.specs.Late.{is_light as is_light_change, AllLight, slot_told as slot_of_answer, with_later};
 
 use crate::answers::copied;
 use crate::draft::Draft;
 use moo_value::text::Text;
+use moo_value::value::Value;
 use std::alloc::{AllocError, Global};
 use view::change::Change;
 use view::question::{Answer, Question};
@@ -98,27 +98,6 @@ fn slot_asked_after(
     }
 }
 
-/// The slot that records have after light changes, if there are object and slot, of its own.
-#[inline(always)]
-pub(crate) fn own_slot_after(
-    home: &Draft,
-    object: i32,
-    name: &Text,
-    changes: &[Change],
-) -> Result<Option<Slot>, AllocError>
-    requires { AllLight (map change_of changes.now) }
-    ensures { IfOk result (λ s. s ≡ slot_at (apply_all (map change_of changes.now) home.now) object name.now) }
-{
-    match home.slot(object, name) {
-        Some(Some(slot)) => {
-            let slot = slot_after(object, name, slot, changes)?;
-            Ok(Some(slot))
-        }
-        Some(None) => Ok(None),
-        None => Ok(None),
-    }
-}
-
 // The slot that an answer tells, if it is there.
 fn slot_told(answer: &Answer) -> Option<&Slot>
     ensures { option_map (λ s. s.now) result ≡ slot_of_answer (answer_of answer.now) }
@@ -134,26 +113,72 @@ fn slot_after(object: i32, name: &Text, home: &Slot, changes: &[Change]) -> Resu
     requires { AllLight (map change_of changes.now) }
     ensures { IfOk result (λ s. (w : Plain) → slot_on w object name.now ≡ Some (Some home.now) → slot_on (apply_all (map change_of changes.now) w) object name.now ≡ Some (Some s)) }
 {
-    let mut slot = home.clone()?;
-    for change in changes {
-        refill(&mut slot, object, name, change)?;
-    }
+    let later = value_after(object, name, changes);
+    let slot = slot_with(home, later)?;
     Ok(slot)
 }
 
-// A slot that is there, after one light change.
-fn refill(slot: &mut Slot, object: i32, name: &Text, change: &Change) -> Result<(), AllocError>
+/// The same slot once more, with another value if it got one later.
+#[inline(always)]
+pub(crate) fn slot_with(home: &Slot, later: Option<&Value>) -> Result<Slot, AllocError>
+    ensures { IfOk result (λ s. s ≡ with_later home.now (option_map (λ v. v.now) later.entry)) }
+{
+    let content = match later {
+        Some(value) => Some(value.clone()?),
+        None => match &home.content {
+            Some(value) => Some(value.clone()?),
+            None => None,
+        },
+    };
+    Ok(Slot {
+        content,
+        owner: home.owner,
+        readable: home.readable,
+        writable: home.writable,
+        changeable: home.changeable,
+    })
+}
+
+/// The value that a slot gets last by light changes, if it gets one.
+#[inline(never)]
+pub(crate) fn value_after<'c>(object: i32, name: &Text, changes: &'c [Change]) -> Option<&'c Value>
+    requires { AllLight (map change_of changes.now) }
+    ensures { (w : Plain) (s : SlotOf) → slot_on w object name.now ≡ Some (Some s) → slot_on (apply_all (map change_of changes.now) w) object name.now ≡ Some (Some (with_later s (option_map (λ v. v.now) result))) }
+{
+    let mut last = None;
+    for change in changes {
+        let next = value_by(object, name, change);
+        last = later_of(last, next);
+    }
+    last
+}
+
+// The value that a slot gets by one light change, if it gets one.
+#[inline(always)]
+fn value_by<'c>(object: i32, name: &Text, change: &'c Change) -> Option<&'c Value>
     requires { IsTrue (is_light_change (change_of change.now)) }
-    ensures { OnOk result ((w : Plain) → slot_on w object name.now ≡ Some (Some slot.old) → slot_on (apply (change_of change.now) w) object name.now ≡ Some (Some slot.new)) }
+    ensures { (w : Plain) (s : SlotOf) → slot_on w object name.now ≡ Some (Some s) → slot_on (apply (change_of change.now) w) object name.now ≡ Some (Some (with_later s (option_map (λ v. v.now) result))) }
 {
     match change {
         Change::Value(other, other_name, value) => {
             if *other == object && same_name(name, other_name) {
-                slot.content = Some(value.clone()?);
+                Some(value)
+            } else {
+                None
             }
-            Ok(())
         }
-        _ => Ok(()),
+        _ => None,
+    }
+}
+
+// What is left of two values that may come into a slot one after the other.
+#[inline(always)]
+fn later_of<'c>(first: Option<&'c Value>, second: Option<&'c Value>) -> Option<&'c Value>
+    ensures { (s : SlotOf) → with_later (with_later s (option_map (λ v. v.now) first.entry)) (option_map (λ v. v.now) second.entry) ≡ with_later s (option_map (λ v. v.now) result) }
+{
+    match second {
+        Some(value) => Some(value),
+        None => first,
     }
 }
 

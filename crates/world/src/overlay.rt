@@ -5,14 +5,15 @@ ghost use Rattle.spec_world.specs.World.{World as Plain};
 ghost use Rattle.spec_world.specs.Inherit.{slot_at};
 ghost use Rattle.spec_world.specs.Questions.{ask, apply, apply_all, header_at};
 ghost use Rattle.view.specs.Meanings.{question_of, answer_of, change_of};
-ghost use Rattle.world.specs.Late.{is_light as is_light_change, AllLight};
+ghost use Rattle.world.specs.Late.{is_light as is_light_change, AllLight, with_later};
 ghost use Rattle.world.specs.Amended.{amended_now};
 ghost use Rattle.world.specs.Trace.{AnswersAlike};
 
 use crate::answers::copied;
 use crate::draft::Draft;
-use crate::late::{answer_after, asked_after, is_light, own_slot_after};
+use crate::late::{answer_after, asked_after, is_light, slot_with, value_after};
 use moo_value::text::Text;
+use moo_value::value::Value;
 use std::alloc::{AllocError, Global};
 use std::marker::Model;
 use view::change::Change;
@@ -107,17 +108,33 @@ impl<'h> Overlay<'h> {
 
     /// The slot now of a property on an object, if there are both. Case is ignored.
     #[inline(always)]
-    #[tactic(auto, using(crate::proofs::Alike::slot_alike))]
     pub(crate) fn slot(&self, object: i32, name: &Text) -> Result<Option<Slot>, AllocError>
         ensures { IfOk result (λ s. s ≡ slot_at (amended_now self.now) object name.now) }
     {
+        let (records, later) = self.held(object, name);
+        let Some(slot) = records.slot_there(object, name) else {
+            return Ok(None);
+        };
+        let slot = slot_with(slot, later)?;
+        Ok(Some(slot))
+    }
+
+    // Records, and the value that a slot has now in place of the one that it has there.
+    #[inline(always)]
+    #[tactic(auto, using(crate::proofs::Alike::slot_alike, crate::proofs::Alike::slot_unchanged, crate::proofs::Alike::slot_later))]
+    fn held(&self, object: i32, name: &Text) -> (&Draft, Option<&Value>)
+        ensures { slot_at (amended_now self.now) object name.now ≡ option_map (λ s. with_later s (option_map (λ v. v.now) result.1)) (slot_at result.0.now object name.now) }
+    {
+        if let Some(draft) = &self.fork {
+            return (draft, None);
+        }
         if !self.seen {
-            return self.home.own_slot(object, name);
+            return (self.home, None);
         }
-        match &self.fork {
-            Some(draft) => draft.own_slot(object, name),
-            None => own_slot_after(self.home, object, name, self.changes.as_slice()),
-        }
+        (
+            self.home,
+            value_after(object, name, self.changes.as_slice()),
+        )
     }
 
     /// The parent now that an object names, if there is the object.
@@ -178,6 +195,7 @@ fn is_seen(change: &Change) -> bool
 }
 
 // One change more of a fork of a home, where there is one or it takes one.
+#[inline(always)]
 fn put_on(
     home: &Draft,
     fork: &mut Option<Draft>,
@@ -197,6 +215,7 @@ fn put_on(
 }
 
 // The same where there is none yet: few light changes take none.
+#[inline(never)]
 fn begin(
     home: &Draft,
     fork: &mut Option<Draft>,

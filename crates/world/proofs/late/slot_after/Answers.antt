@@ -1,23 +1,9 @@
-use Rattle.std.proofs.Common.{◌≡◌, ◌∙◌, ℤ, Some, map, sym, ap, subst, arith, rules, w32, to_z, of_z}
-use Rattle.spec_world.specs.World.{World}
-use Rattle.spec_world.specs.Questions.{apply_all, slot_on}
-use Rattle.view.specs.Meanings.{change_of}
-use Rattle.world.proofs.Lightly.{light_at, taken_more, all_taken}
+use Rattle.std.proofs.Common.{◌∙◌, Some, sym, ap, w32}
+use Rattle.std.proofs.lemmas.Int.{to_z-of_z}
+use Rattle.spec_world.specs.World.{Slot}
 use Rattle.world.proofs.late.slot_after.Goals as goal
-
-pub refill-requires : goal.refill-requires
-refill-requires c = light_at c.args.changes.now c.loop-change.change-index c.change-item.result (omega arith) c.change-item.is c.requires
-
-pub loop-change-preserved : goal.loop-change-preserved
-loop-change-preserved c = λ w is.
-    ap (λ (v : World). slot_on v (to_z w32 (of_z w32 c.args.object)) c.args.name.now) (taken_more c.args.changes.now c.loop-change.change-index c.change-item.result w (omega arith) c.change-item.is)
-    ∙ c.in_ok-refill.ensures _ (c.loop-change.invariant w is)
 
 pub returns : goal.returns
 returns c =
-    let number : to_z w32 (of_z w32 c.args.object) ≡ c.args.object = search rules in
-    subst
-    (λ (n : ℤ). (w : World) → slot_on w n c.args.name.now ≡ Some (Some c.args.home.now)
-    → slot_on (apply_all (map change_of c.args.changes.now) w) n c.args.name.now ≡ Some (Some c.loop-change.slot))
-    number
-    (λ w is. ap (λ (v : World). slot_on v (to_z w32 (of_z w32 c.args.object)) c.args.name.now) (sym (all_taken c.args.changes.now c.loop-change.change-index w (omega arith))) ∙ c.loop-change.invariant w is)
+    let becomes = rw (to_z-of_z w32 c.args.object c.ranges.object) at c.value_after-later.ensures in
+    λ w is. becomes w c.args.home.now is ∙ ap (λ (s : Slot). Some (Some s)) (sym c.in_ok-slot.ensures)

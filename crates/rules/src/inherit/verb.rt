@@ -80,7 +80,7 @@ pub fn find_verb<V: View>(
     ensures lasts { Lasts V.holds V.home V.anchor view.old view.new result }
     ensures left { IfOk result (λ f. Tells V.holds V.now view.old view.new (λ w. find_verb_of w object word.now ≡ f)) }
 {
-    find(view, object, word, Purpose::Call)
+    find(view, object, word, &Purpose::Call)
 }
 
 /// The verb that a word names on an object in a command: the first one along the ancestors that fits what the command names.
@@ -95,7 +95,7 @@ pub fn find_command_verb<V: View>(
     ensures lasts { Lasts V.holds V.home V.anchor view.old view.new result }
     ensures left { IfOk result (λ f. Tells V.holds V.now view.old view.new (λ w. find_command_verb_of w object word.now (parts_of parts.now) ≡ f)) }
 {
-    find(view, object, word, Purpose::Command(object, *parts))
+    find(view, object, word, &Purpose::Command(object, *parts))
 }
 
 // The first verb along the ancestors that serves a purpose.
@@ -103,12 +103,12 @@ fn find<V: View>(
     view: &mut V,
     object: i32,
     word: &str,
-    purpose: Purpose,
+    purpose: &Purpose,
 ) -> Result<Option<FoundVerb>, AllocError>
     requires home { V.holds view.old (V.home view.old) }
     requires well_formed { AreAgreeing V.holds V.now view.old }
     ensures lasts { Lasts V.holds V.home V.anchor view.old view.new result }
-    ensures left { IfOk result (λ f. Tells V.holds V.now view.old view.new (λ w. first_on w (passes_of purpose word.now) (ancestors w object) ≡ f)) }
+    ensures left { IfOk result (λ f. Tells V.holds V.now view.old view.new (λ w. first_on w (passes_of purpose.now word.now) (ancestors w object) ≡ f)) }
 {
     let mut next = Some(object);
     while let Some(at) = next {
@@ -121,27 +121,29 @@ fn find<V: View>(
 }
 
 // The first of an object's own verbs that serves a purpose.
+#[inline(always)]
 fn own_verb<V: View>(
     view: &mut V,
     object: i32,
     word: &str,
-    purpose: Purpose,
+    purpose: &Purpose,
 ) -> Result<Option<FoundVerb>, AllocError>
     ensures lasts { Lasts V.holds V.home V.anchor view.old view.new result }
-    ensures left { IfOk result (λ f. Tells V.holds V.now view.old view.new (λ w. own_first object (passes_of purpose word.now) (object_at w object) ≡ f)) }
+    ensures left { IfOk result (λ f. Tells V.holds V.now view.old view.new (λ w. own_first object (passes_of purpose.now word.now) (object_at w object) ≡ f)) }
 {
     let verbs = read_verbs(view, object)?;
     Ok(first_among(object, verbs, word, purpose))
 }
 
 // The first of an object's verbs that serves a purpose.
+#[inline(always)]
 fn first_among(
     definer: i32,
     verbs: Option<Verbs>,
     word: &str,
-    purpose: Purpose,
+    purpose: &Purpose,
 ) -> Option<FoundVerb>
-    ensures { result ≡ first_among_of definer (passes_of purpose word.now) verbs }
+    ensures { result ≡ first_among_of definer (passes_of purpose.now word.now) verbs }
 {
     let verbs = verbs?;
     let place = first_place(verbs.as_slice(), word, purpose)?;
@@ -153,9 +155,9 @@ fn first_among(
 }
 
 // Where the first of several verbs stands that serves a purpose.
-fn first_place(verbs: &[Verb], word: &str, purpose: Purpose) -> Option<usize>
+fn first_place(verbs: &[Verb], word: &str, purpose: &Purpose) -> Option<usize>
     ensures inside { IfSome result (λ i. i < length verbs.now) }
-    ensures found { (o : ℤ) → first_passing o (passes_of purpose word.now) verbs.now ≡ option_map (λ i. record { definer = o; verb = placed verbs.now i }) result }
+    ensures found { (o : ℤ) → first_passing o (passes_of purpose.now word.now) verbs.now ≡ option_map (λ i. record { definer = o; verb = placed verbs.now i }) result }
 {
     for (place, verb) in verbs.iter().enumerate() {
         if passes(verb, word, purpose) {
@@ -165,20 +167,20 @@ fn first_place(verbs: &[Verb], word: &str, purpose: Purpose) -> Option<usize>
     None
 }
 
-fn passes(verb: &Verb, word: &str, purpose: Purpose) -> bool
-    ensures { result ≡ passes_of purpose word.now verb.now }
+fn passes(verb: &Verb, word: &str, purpose: &Purpose) -> bool
+    ensures { result ≡ passes_of purpose.now word.now verb.now }
 {
     match purpose {
         Purpose::Call => verb.callable && matches(verb.names.as_str(), word),
         Purpose::Command(searched, parts) => {
-            matches(verb.names.as_str(), word) && wants(verb, searched, parts)
+            matches(verb.names.as_str(), word) && wants(verb, *searched, parts)
         }
     }
 }
 
 // Whether what a command names is what a verb wants.
-fn wants(verb: &Verb, searched: i32, parts: CommandParts) -> bool
-    ensures { result ≡ wants_of verb.now searched (parts_of parts) }
+fn wants(verb: &Verb, searched: i32, parts: &CommandParts) -> bool
+    ensures { result ≡ wants_of verb.now searched (parts_of parts.now) }
 {
     object_fits(verb.direct, searched, parts.direct)
         && preposition_fits(verb.preposition, parts.preposition)

@@ -14,18 +14,18 @@ returns-in-Some-2-clause-left g c =
     let object = to_z-of_z w32 c.args.object c.ranges.object in
     let at : to_z w32 (of_z w32 c.in-Some.at) ≡ c.in-Some.at = search rules in
     told_on g.V.View.holds g.V.View.now c.args.view.now c.loop-next.view c.own_verb.new.view
-    (λ w. first_on w (passes c.args.purpose c.args.word.now) (ancestors w c.args.object) ≡ first_on w (passes c.args.purpose c.args.word.now) (from w (Some c.in-Some.at)))
-    (λ w. own_first c.in-Some.at (passes c.args.purpose c.args.word.now) (object_at w c.in-Some.at) ≡ Some c.in-Some-2.found)
-    (λ w. first_on w (passes c.args.purpose c.args.word.now) (ancestors w c.args.object) ≡ Some c.in-Some-2.found)
+    (λ w. first_on w (passes c.args.purpose.now c.args.word.now) (ancestors w c.args.object) ≡ first_on w (passes c.args.purpose.now c.args.word.now) (from w (Some c.in-Some.at)))
+    (λ w. own_first c.in-Some.at (passes c.args.purpose.now c.args.word.now) (object_at w c.in-Some.at) ≡ Some c.in-Some-2.found)
+    (λ w. first_on w (passes c.args.purpose.now c.args.word.now) (ancestors w c.args.object) ≡ Some c.in-Some-2.found)
     c.requires.well_formed (rw (c.in-Some.is, object) at c.loop-next.invariant.left) (rw (c.in-Some-2.is, at) at c.in_ok-found.ensures.left)
-    (λ w sound so is. found_on w (passes c.args.purpose c.args.word.now) c.in-Some.at c.in-Some-2.found (first_on w (passes c.args.purpose c.args.word.now) (ancestors w c.args.object)) sound so is)
+    (λ w sound so is. found_on w (passes c.args.purpose.now c.args.word.now) c.in-Some.at c.in-Some-2.found (first_on w (passes c.args.purpose.now c.args.word.now) (ancestors w c.args.object)) sound so is)
 
 pub loop-next-smaller : goal.loop-next-smaller
 loop-next-smaller g c =
     let at : to_z w32 (of_z w32 c.in-Some.at) ≡ c.in-Some.at = search rules in
     rw c.in-Some.is (nearer_told g.V.View.holds g.V.View.now g.V.View.home c.loop-next.view c.parent.new.view (λ w. IsAbove w c.in-Some.at c.in_ok-next.next) c.in_ok-next.next (Some c.in-Some.at)
     c.loop-next.invariant.well_formed
-    (told_on g.V.View.holds g.V.View.now c.loop-next.view c.own_verb.new.view c.parent.new.view (λ w. own_first c.in-Some.at (passes c.args.purpose c.args.word.now) (object_at w c.in-Some.at) ≡ c.in_ok-found.field-0)
+    (told_on g.V.View.holds g.V.View.now c.loop-next.view c.own_verb.new.view c.parent.new.view (λ w. own_first c.in-Some.at (passes c.args.purpose.now c.args.word.now) (object_at w c.in-Some.at) ≡ c.in_ok-found.field-0)
     (λ w. IsAbove w c.in-Some.at c.in_ok-next.next) (λ w. IsAbove w c.in-Some.at c.in_ok-next.next)
     c.loop-next.invariant.well_formed (rw at at c.in_ok-found.ensures.left) (rw at at c.in_ok-next.ensures.left) (λ w sound is up. up))
     c.in_ok-next.ensures.lasts.home_is_left (c.in_ok-next.ensures.lasts.home_stays ∙ c.in_ok-found.ensures.lasts.home_stays)
@@ -42,20 +42,20 @@ loop-next-preserved g c =
       there = c.in_ok-next.ensures.lasts.home_is_left;
       well_formed =
           known_on g.V.View.holds g.V.View.now c.own_verb.new.view c.parent.new.view (λ w. IsAbove w c.in-Some.at c.in_ok-next.next)
-          (known_on g.V.View.holds g.V.View.now c.loop-next.view c.own_verb.new.view (λ w. own_first c.in-Some.at (passes c.args.purpose c.args.word.now) (object_at w c.in-Some.at) ≡ c.in_ok-found.field-0) c.loop-next.invariant.well_formed (rw at at c.in_ok-found.ensures.left))
+          (known_on g.V.View.holds g.V.View.now c.loop-next.view c.own_verb.new.view (λ w. own_first c.in-Some.at (passes c.args.purpose.now c.args.word.now) (object_at w c.in-Some.at) ≡ c.in_ok-found.field-0) c.loop-next.invariant.well_formed (rw at at c.in_ok-found.ensures.left))
           (rw at at c.in_ok-next.ensures.left);
       left =
           rw object (told_on g.V.View.holds g.V.View.now c.args.view.now c.own_verb.new.view c.parent.new.view
-          (λ w. (first_on w (passes c.args.purpose c.args.word.now) (ancestors w c.args.object) ≡ first_on w (passes c.args.purpose c.args.word.now) (from w (Some c.in-Some.at))) × (own_first c.in-Some.at (passes c.args.purpose c.args.word.now) (object_at w c.in-Some.at) ≡ None))
+          (λ w. (first_on w (passes c.args.purpose.now c.args.word.now) (ancestors w c.args.object) ≡ first_on w (passes c.args.purpose.now c.args.word.now) (from w (Some c.in-Some.at))) × (own_first c.in-Some.at (passes c.args.purpose.now c.args.word.now) (object_at w c.in-Some.at) ≡ None))
           (λ w. IsAbove w c.in-Some.at c.in_ok-next.next)
-          (λ w. first_on w (passes c.args.purpose c.args.word.now) (ancestors w c.args.object) ≡ first_on w (passes c.args.purpose c.args.word.now) (from w c.in_ok-next.next)) c.requires.well_formed
+          (λ w. first_on w (passes c.args.purpose.now c.args.word.now) (ancestors w c.args.object) ≡ first_on w (passes c.args.purpose.now c.args.word.now) (from w c.in_ok-next.next)) c.requires.well_formed
           (told_on g.V.View.holds g.V.View.now c.args.view.now c.loop-next.view c.own_verb.new.view
-          (λ w. first_on w (passes c.args.purpose c.args.word.now) (ancestors w c.args.object) ≡ first_on w (passes c.args.purpose c.args.word.now) (from w (Some c.in-Some.at)))
-          (λ w. own_first c.in-Some.at (passes c.args.purpose c.args.word.now) (object_at w c.in-Some.at) ≡ None)
-          (λ w. (first_on w (passes c.args.purpose c.args.word.now) (ancestors w c.args.object) ≡ first_on w (passes c.args.purpose c.args.word.now) (from w (Some c.in-Some.at))) × (own_first c.in-Some.at (passes c.args.purpose c.args.word.now) (object_at w c.in-Some.at) ≡ None))
+          (λ w. first_on w (passes c.args.purpose.now c.args.word.now) (ancestors w c.args.object) ≡ first_on w (passes c.args.purpose.now c.args.word.now) (from w (Some c.in-Some.at)))
+          (λ w. own_first c.in-Some.at (passes c.args.purpose.now c.args.word.now) (object_at w c.in-Some.at) ≡ None)
+          (λ w. (first_on w (passes c.args.purpose.now c.args.word.now) (ancestors w c.args.object) ≡ first_on w (passes c.args.purpose.now c.args.word.now) (from w (Some c.in-Some.at))) × (own_first c.in-Some.at (passes c.args.purpose.now c.args.word.now) (object_at w c.in-Some.at) ≡ None))
           c.requires.well_formed (rw (c.in-Some.is, object) at c.loop-next.invariant.left) (rw (none, at) at c.in_ok-found.ensures.left) (λ w sound so is. (so, is)))
           (rw at at c.in_ok-next.ensures.left)
-          (λ w sound so up. not_found_on w (passes c.args.purpose c.args.word.now) c.in-Some.at c.in_ok-next.next (first_on w (passes c.args.purpose c.args.word.now) (ancestors w c.args.object)) sound so.0 so.1 up));
+          (λ w sound so up. not_found_on w (passes c.args.purpose.now c.args.word.now) c.in-Some.at c.in_ok-next.next (first_on w (passes c.args.purpose.now c.args.word.now) (ancestors w c.args.object)) sound so.0 so.1 up));
     }
 
 pub loop-next-init : goal.loop-next-init
@@ -68,7 +68,7 @@ loop-next-init g c =
       well_formed = c.requires.well_formed;
       left =
           told_before g.V.View.holds g.V.View.now c.args.view.now
-          (λ w. first_on w (passes c.args.purpose c.args.word.now) (ancestors w (to_z w32 (of_z w32 c.args.object))) ≡ first_on w (passes c.args.purpose c.args.word.now) (ancestors w (to_z w32 (of_z w32 c.args.object)))) (λ w is. refl);
+          (λ w. first_on w (passes c.args.purpose.now c.args.word.now) (ancestors w (to_z w32 (of_z w32 c.args.object))) ≡ first_on w (passes c.args.purpose.now c.args.word.now) (ancestors w (to_z w32 (of_z w32 c.args.object)))) (λ w is. refl);
     }
 
 pub returns-clause-left : goal.returns-clause-left
@@ -76,5 +76,5 @@ returns-clause-left g c =
     let object = to_z-of_z w32 c.args.object c.ranges.object in
     let none : c.loop-next.next ≡ None = search rules in
     told_as g.V.View.holds g.V.View.now c.args.view.now c.loop-next.view
-    (λ w. first_on w (passes c.args.purpose c.args.word.now) (ancestors w c.args.object) ≡ first_on w (passes c.args.purpose c.args.word.now) (from w None)) (λ w. first_on w (passes c.args.purpose c.args.word.now) (ancestors w c.args.object) ≡ None)
-    c.requires.well_formed (rw (none, object) at c.loop-next.invariant.left) (λ w sound so. so ∙ nobody_found w (passes c.args.purpose c.args.word.now))
+    (λ w. first_on w (passes c.args.purpose.now c.args.word.now) (ancestors w c.args.object) ≡ first_on w (passes c.args.purpose.now c.args.word.now) (from w None)) (λ w. first_on w (passes c.args.purpose.now c.args.word.now) (ancestors w c.args.object) ≡ None)
+    c.requires.well_formed (rw (none, object) at c.loop-next.invariant.left) (λ w sound so. so ∙ nobody_found w (passes c.args.purpose.now c.args.word.now))

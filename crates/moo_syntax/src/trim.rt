@@ -12,7 +12,6 @@ use reader_trim::expression::{trimmed_arguments, trimmed_codes, trimmed_items};
 use reader_trim::operand::trimmed_operand;
 use std::alloc::{AllocError, Global};
 
-#[tactic(auto, using(crate::proofs::Trimmed::arguments_part, crate::proofs::Trimmed::items_part, crate::proofs::Trimmed::codes_part, crate::proofs::Trimmed::statement_part, crate::proofs::Trimmed::block_part, crate::proofs::Trimmed::branches_part, crate::proofs::Trimmed::arms_part))]
 fn trimmed_part(alloc: Global, part: Part) -> Result<Part, AllocError>
     ensures { IfOk result (λ q. PartStandsFor part q) }
 {

@@ -20,7 +20,7 @@ fn trimmed_scattering(alloc: Global, scattering: Scattering) -> Result<Scatterin
     Ok(Scattering { items, nodes: few })
 }
 
-#[tactic(auto, using(crate::proofs::Few::not_scattered, crate::proofs::Few::perhaps_scattered, crate::proofs::Few::surely_scattered))]
+#[tactic(auto, using(crate::proofs::Few::not_scattered))]
 fn trimmed_braces(alloc: Global, braces: Braces) -> Result<Braces, AllocError>
     ensures { IfOk result (λ b. SimilarBraces (braces_of braces) (braces_of b)) }
 {
@@ -28,13 +28,13 @@ fn trimmed_braces(alloc: Global, braces: Braces) -> Result<Braces, AllocError>
         Braces::NoScatter => Ok(Braces::NoScatter),
         Braces::PerhapsScatter(scattering) => {
             let few = trimmed_scattering(alloc, Box::into_inner(scattering))?;
-            let few = Box::new(alloc, few)?;
-            Ok(Braces::PerhapsScatter(few))
+            let boxed = Box::new(alloc, few)?;
+            Ok(Braces::PerhapsScatter(boxed))
         }
         Braces::SurelyScatter(scattering) => {
             let few = trimmed_scattering(alloc, Box::into_inner(scattering))?;
-            let few = Box::new(alloc, few)?;
-            Ok(Braces::SurelyScatter(few))
+            let boxed = Box::new(alloc, few)?;
+            Ok(Braces::SurelyScatter(boxed))
         }
     }
 }
@@ -50,7 +50,6 @@ fn trimmed_whole(alloc: Global, is_target: bool, whole: Whole) -> Result<Whole, 
 }
 
 /// An operand that may stand in the place of this one.
-#[tactic(auto, using(crate::proofs::Few::similar_operand))]
 pub fn trimmed_operand(alloc: Global, operand: Operand) -> Result<Operand, AllocError>
     ensures { IfOk result (λ o. SimilarOperand (operand_of operand) (operand_of o)) }
 {

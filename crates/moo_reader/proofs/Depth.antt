@@ -1,5 +1,5 @@
 -- Which nodes are too deep, and which are kept.
-use Rattle.std.proofs.Common.{◌≡◌, ℕ, ◌+◌, ◌<◌, ◌≤◌, true, false, if◌then◌else◌, List, [], ◌∷◌, length, drop, get_or, Option, Some, None, refl, sym, ap, ◌∙◌, suc, add-one}
+use Rattle.std.proofs.Common.{◌≡◌, ℕ, ◌+◌, ◌<◌, ◌≤◌, true, false, if◌then◌else◌, List, [], ◌∷◌, length, drop, get_or, Some, None, refl, sym, ap, subst, ◌∙◌, suc, add-one}
 use Rattle.std.specs.Prelude.{nat_lt}
 use Rattle.std.proofs.Math.Seq.{drop-cons}
 use Rattle.std.proofs.Math.ListN.{drop_of_length-le}
@@ -10,8 +10,9 @@ use Rattle.spec_program.specs.KeptNodes.{kept}
 use Rattle.spec_program.specs.ReadExpressions.{Found}
 use Rattle.spec_program.specs.Similar.{SimilarFound}
 use Rattle.spec_program.proofs.KeptNodesTell.{kept_of_both}
-use Rattle.moo_reader.specs.Nodes.{node_of, nodes_of}
+use Rattle.moo_reader.specs.Nodes.{nodes_of}
 use Rattle.moo_reader.specs.declared.node.Node.{Node}
+use Rattle.moo_reader.specs.declared.found.Whole.{Whole}
 
 first_left : (nodes : List Node) (i : ℕ) (n : Node) → i < length nodes → n ≡ get_or nodes i n → drop i nodes ≡ n ∷ drop (i + 1) nodes
 first_left nodes i n h e = drop-cons nodes i n h ∙ ap (λ x. x ∷ drop (suc i) nodes) (sym e) ∙ ap (λ j. n ∷ drop j nodes) (sym (add-one i))
@@ -35,3 +36,10 @@ kept_again ns = ap kept (sym (append-nil ns)) ∙ kept_of_both ns [] ∙ ap kept
 
 pub similar_found : (e d : Found) → e.line ≡ d.line → d.nodes ≡ kept e.nodes → (too_deep e.nodes ≡ None → e.tree ≡ d.tree) → SimilarFound e d
 similar_found e d l n t = record { line = l; parts = record { nodes = kept_again e.nodes ∙ ap kept (sym n); same = t } }
+
+-- in its box
+pub similar_boxed : (e : Found) (w v : Whole) → v ≡ w → nodes_of w.nodes.items ≡ kept e.nodes → (too_deep e.nodes ≡ None → e.tree ≡ w.tree)
+    → SimilarFound e (record { tree = v.tree; line = e.line; nodes = nodes_of v.nodes.items })
+similar_boxed e w v h n t =
+    subst (λ x. SimilarFound e (record { tree = x.tree; line = e.line; nodes = nodes_of x.nodes.items })) (sym h)
+    (similar_found e (record { tree = w.tree; line = e.line; nodes = nodes_of w.nodes.items }) refl n t)

@@ -1,8 +1,8 @@
 -- Lists of nodes.
-use Rattle.std.proofs.Common.{◌≡◌, true, false, if◌then◌else◌, ℕ, zero, suc, ◌+◌, ◌<◌, ◌≤◌, List, [], ◌∷◌, ◌++◌, length, map, drop, get_or, reverse, refl, sym, ap, ◌∙◌, append_assoc, add-one, arith}
+use Rattle.std.proofs.Common.{◌≡◌, true, false, if◌then◌else◌, ℕ, suc, ◌+◌, ◌<◌, ◌≤◌, List, [], ◌∷◌, ◌++◌, length, map, take, drop, set, get_or, reverse, sym, ap, ◌∙◌, append_assoc, add-one, arith}
 use Rattle.std.proofs.Math.Seq.{drop-cons}
 use Rattle.std.proofs.Math.ListN.{drop_of_length-le}
-use Rattle.std.proofs.lemmas.List.{map-append, append-nil, reverse-append}
+use Rattle.std.proofs.lemmas.List.{map-append, append-nil, reverse-append, take-append-drop, take_more_set, drop-set-lt}
 use Rattle.spec_program.specs.Reading.{deeper}
 use Rattle.spec_program.specs.KeptNodes.{matters, kept_behind}
 use Rattle.moo_tree.specs.declared.expression.Argument.{Argument}
@@ -20,20 +20,31 @@ use Rattle.moo_reader.specs.Nodes.{node_of, nodes_of}
 pub nodes_append : (ns ms : List Node) → nodes_of (ns ++ ms) ≡ nodes_of ns ++ nodes_of ms
 nodes_append ns ms = map-append node_of ns ms
 
--- one node more in the node around
-pub one_deeper : (around nodes : List Node) (i : ℕ) (n m : Node) → i < length nodes → n ≡ get_or nodes i n → node_of m ≡ deeper (node_of n)
-    → nodes_of (around ++ m ∷ []) ++ map deeper (nodes_of (drop (i + 1) nodes)) ≡ nodes_of around ++ map deeper (nodes_of (drop i nodes))
-one_deeper around nodes i n m h e d =
+-- one node more in the node around: what stands before it is put into its place
+pub shifted : (nodes : List Node) (i : ℕ) (b n m : Node) → i < length nodes → n ≡ get_or nodes i n → node_of m ≡ deeper (node_of n)
+    → nodes_of (take (i + 1) (set nodes i b)) ++ (node_of m ∷ map deeper (nodes_of (drop (i + 1) (set nodes i b))))
+    ≡ nodes_of (take i nodes) ++ (node_of b ∷ map deeper (nodes_of (drop i nodes)))
+shifted nodes i b n m h e d =
     let split : drop i nodes ≡ n ∷ drop (i + 1) nodes = drop-cons nodes i n h ∙ ap (λ x. x ∷ drop (suc i) nodes) (sym e) ∙ ap
     (λ j. n ∷ drop j nodes) (sym (add-one i)) in
     let rest = map deeper (nodes_of (drop (i + 1) nodes)) in
-    ap (λ x. x ++ rest) (nodes_append around (m ∷ []))
-    ∙ append_assoc (nodes_of around) (node_of m ∷ []) rest
-    ∙ ap (λ x. nodes_of around ++ (x ∷ rest)) d
-    ∙ ap (λ x. nodes_of around ++ map deeper (nodes_of x)) (sym split)
+    ap (λ x. nodes_of x ++ (node_of m ∷ map deeper (nodes_of (drop (i + 1) (set nodes i b))))) (take_more_set nodes i b h)
+    ∙ ap (λ x. nodes_of (take i nodes ++ b ∷ []) ++ (node_of m ∷ map deeper (nodes_of x))) (drop-set-lt (i + 1) nodes i b (omega arith))
+    ∙ ap (λ x. x ++ (node_of m ∷ rest)) (nodes_append (take i nodes) (b ∷ []))
+    ∙ append_assoc (nodes_of (take i nodes)) (node_of b ∷ []) (node_of m ∷ rest)
+    ∙ ap (λ x. nodes_of (take i nodes) ++ (node_of b ∷ x ∷ rest)) d
+    ∙ ap (λ x. nodes_of (take i nodes) ++ (node_of b ∷ map deeper (nodes_of x))) (sym split)
 
-pub none_left : (around nodes : List Node) (i : ℕ) → length nodes ≤ i → nodes_of around ++ map deeper (nodes_of (drop i nodes)) ≡ nodes_of around
-none_left around nodes i h = ap (λ x. nodes_of around ++ map deeper (nodes_of x)) (drop_of_length-le nodes h) ∙ append-nil (nodes_of around)
+take_all : (nodes : List Node) (i : ℕ) → length nodes ≤ i → take i nodes ≡ nodes
+take_all nodes i h =
+    sym (append-nil (take i nodes)) ∙ ap (λ x. take i nodes ++ x) (sym (drop_of_length-le nodes h)) ∙ take-append-drop i nodes
+
+pub all_shifted : (nodes : List Node) (i : ℕ) (b : Node) → length nodes ≤ i
+    → nodes_of (take i nodes) ++ (node_of b ∷ map deeper (nodes_of (drop i nodes))) ≡ nodes_of (nodes ++ b ∷ [])
+all_shifted nodes i b h =
+    ap (λ x. nodes_of (take i nodes) ++ (node_of b ∷ map deeper (nodes_of x))) (drop_of_length-le nodes h)
+    ∙ sym (nodes_append (take i nodes) (b ∷ []))
+    ∙ ap (λ x. nodes_of (x ++ b ∷ [])) (take_all nodes i h)
 
 pub one_before : (reversed : List Argument) (a : Argument) → arguments_of (reverse (reversed ++ a ∷ [])) ≡ arguments_of (a ∷ reverse reversed)
 one_before reversed a = ap arguments_of (reverse-append reversed (a ∷ []))

@@ -1,5 +1,5 @@
 -- What was read, without where it lies in memory.
-use Rattle.std.specs.Prelude.{◌≡◌, Bool, true, false, List, map, reverse, Option, Some, None}
+use Rattle.std.specs.Prelude.{◌≡◌, Bool, true, false, List, reverse, Option, Some, None}
 use Rattle.spec_program.specs.Tree.{Expr, variable, property, index, range, Target, to_variable, to_property, to_index, to_range}
 use Rattle.spec_program.specs.ReadExpressions as by
 use Rattle.spec_program.specs.Frames as f
@@ -22,7 +22,7 @@ use Rattle.moo_reader.specs.declared.found.Join.TheVariants as join
 use Rattle.moo_reader.specs.declared.node.Node.{Node}
 
 abbrev pub found_of : Found → by.Found
-found_of e = record { tree = e.tree; line = e.line; nodes = nodes_of e.nodes.items }
+found_of e = record { tree = e.whole.value.tree; line = e.line; nodes = nodes_of e.whole.value.nodes.items }
 
 abbrev pub arguments_found : Arguments → by.FoundArguments
 arguments_found a = record { tree = arguments_of (reverse a.reversed.items); nodes = nodes_of a.nodes.items }
@@ -37,8 +37,8 @@ join_of join.Either = f.by_either
 
 abbrev pub braces_of : Braces → by.Braces
 braces_of NoScatter = by.no_braces
-braces_of (PerhapsScatter xs ns) = by.perhaps_scatter (items_of xs.items) (nodes_of ns.items)
-braces_of (SurelyScatter xs ns) = by.surely_scatter (items_of xs.items) (nodes_of ns.items)
+braces_of (PerhapsScatter s) = by.perhaps_scatter (items_of s.value.items.items) (nodes_of s.value.nodes.items)
+braces_of (SurelyScatter s) = by.surely_scatter (items_of s.value.items.items) (nodes_of s.value.nodes.items)
 
 -- the target that a tree is, where it is one
 abbrev pub stepped : Option Target → (Target → Target) → Option Target
@@ -57,7 +57,7 @@ target_if true e = as_target e
 target_if false e = None
 
 abbrev pub operand_of : Operand → by.Operand
-operand_of o = record { found = found_of o.found; target = target_if o.is_target o.found.tree; ranged = o.ranged; braces = braces_of o.braces }
+operand_of o = record { found = found_of o.found; target = target_if o.is_target o.found.whole.value.tree; ranged = o.ranged; braces = braces_of o.braces }
 
 abbrev pub allowed_of : Allowed → by.Allowed
 allowed_of a = record { as_list = a.as_list; as_scatter = a.as_scatter; has_rest = a.has_rest }

@@ -9,7 +9,7 @@ ghost use Rattle.moo_value.specs.Operators.{unary_of};
 ghost use Rattle.moo_reader.specs.Nodes.{nodes_of};
 ghost use Rattle.moo_reader.specs.Views.{found_of, join_of, operand_of, arguments_found, codes_found, InOrder};
 
-use crate::found::{Arguments, Braces, Found, FoundCodes, Join, Operand};
+use crate::found::{Arguments, Braces, Found, FoundCodes, Join, Operand, Whole};
 use crate::node::{Node, followed, under};
 use moo_tree::expression::{Argument, Expression, ExpressionNode, Fallback, Item, Target};
 use moo_value::operator::UnaryOperator;
@@ -21,16 +21,14 @@ pub fn found_at(
     alloc: Global,
     line: u64,
     node: ExpressionNode,
-    nodes: &[Node],
+    nodes: Vec<Node>,
 ) -> Result<Found, AllocError>
-    ensures { IfOk result (λ e. found_of e ≡ by.found_at line (node_expr node) (nodes_of nodes.now)) }
+    ensures { IfOk result (λ e. found_of e ≡ by.found_at line (node_expr node) (nodes_of nodes.items)) }
 {
-    let nodes = under(alloc, line, nodes)?;
-    Ok(Found {
-        tree: Expression { node },
-        line,
-        nodes,
-    })
+    let nodes = under(line, nodes)?;
+    let tree = Expression { node };
+    let whole = Box::new(alloc, Whole { tree, nodes })?;
+    Ok(Found { line, whole })
 }
 
 /// An operand that is not assigned to.
@@ -52,11 +50,11 @@ pub fn unary(
     line: u64,
     operand: Found,
 ) -> Result<Found, AllocError>
-    ensures { IfOk result (λ e. found_of e ≡ by.found_at line (tree.unary (unary_of operator) operand.tree) (nodes_of operand.nodes.items)) }
+    ensures { IfOk result (λ e. found_of e ≡ by.found_at line (tree.unary (unary_of operator) (found_of operand).tree) ((found_of operand).nodes)) }
 {
-    let Found { tree, nodes, .. } = operand;
+    let Whole { tree, nodes } = Box::into_inner(operand.whole);
     let tree = Box::new(alloc, tree)?;
-    found_at(alloc, line, ExpressionNode::Unary(operator, tree), &nodes)
+    found_at(alloc, line, ExpressionNode::Unary(operator, tree), nodes)
 }
 
 // Two expressions, and the nodes of both.
@@ -69,17 +67,17 @@ struct Two {
 }
 
 fn parts_of(alloc: Global, one: Found, other: Found) -> Result<Two, AllocError>
-    ensures first { IfOk result (λ p. p.first.value ≡ one.tree) }
-    ensures second { IfOk result (λ p. p.second.value ≡ other.tree) }
+    ensures first { IfOk result (λ p. p.first.value ≡ (found_of one).tree) }
+    ensures second { IfOk result (λ p. p.second.value ≡ (found_of other).tree) }
     ensures line { IfOk result (λ p. p.line ≡ one.line) }
-    ensures nodes { IfOk result (λ p. nodes_of p.nodes.items ≡ nodes_of one.nodes.items ++ nodes_of other.nodes.items) }
+    ensures nodes { IfOk result (λ p. nodes_of p.nodes.items ≡ (found_of one).nodes ++ (found_of other).nodes) }
 {
-    let Found { tree, line, nodes } = one;
-    let Found {
+    let Found { line, whole } = one;
+    let Whole { tree, nodes } = Box::into_inner(whole);
+    let Whole {
         tree: behind,
         nodes: others,
-        ..
-    } = other;
+    } = Box::into_inner(other.whole);
     let nodes = followed(nodes, &others)?;
     let first = Box::new(alloc, tree)?;
     let second = Box::new(alloc, behind)?;
@@ -100,11 +98,12 @@ struct Before {
 }
 
 fn put_before(alloc: Global, found: Found, others: &[Node]) -> Result<Before, AllocError>
-    ensures tree { IfOk result (λ p. p.tree.value ≡ found.tree) }
+    ensures tree { IfOk result (λ p. p.tree.value ≡ (found_of found).tree) }
     ensures line { IfOk result (λ p. p.line ≡ found.line) }
-    ensures nodes { IfOk result (λ p. nodes_of p.nodes.items ≡ nodes_of found.nodes.items ++ nodes_of others.now) }
+    ensures nodes { IfOk result (λ p. nodes_of p.nodes.items ≡ (found_of found).nodes ++ nodes_of others.now) }
 {
-    let Found { tree, line, nodes } = found;
+    let Found { line, whole } = found;
+    let Whole { tree, nodes } = Box::into_inner(whole);
     let nodes = followed(nodes, others)?;
     let tree = Box::new(alloc, tree)?;
     Ok(Before { tree, line, nodes })
@@ -122,8 +121,8 @@ fn join_node(join: Join, left: Box<Expression>, right: Box<Expression>) -> Expre
 
 /// Two expressions and what stands between them.
 pub fn joined(alloc: Global, join: Join, left: Found, right: Found) -> Result<Found, AllocError>
-    ensures { IfOk result (λ e. found_of e ≡ by.found_at left.line (joins (join_of join) left.tree right.tree)
-        (nodes_of left.nodes.items ++ nodes_of right.nodes.items)) }
+    ensures { IfOk result (λ e. found_of e ≡ by.found_at left.line (joins (join_of join) (found_of left).tree (found_of right).tree)
+        ((found_of left).nodes ++ (found_of right).nodes)) }
 {
     let Two {
         first,
@@ -131,7 +130,7 @@ pub fn joined(alloc: Global, join: Join, left: Found, right: Found) -> Result<Fo
         line,
         nodes,
     } = parts_of(alloc, left, right)?;
-    found_at(alloc, line, join_node(join, first, second), &nodes)
+    found_at(alloc, line, join_node(join, first, second), nodes)
 }
 
 /// A condition and the two values.
@@ -141,8 +140,8 @@ pub fn conditional(
     one: Found,
     other: Found,
 ) -> Result<Found, AllocError>
-    ensures { IfOk result (λ e. found_of e ≡ by.found_at condition.line (tree.conditional condition.tree one.tree other.tree)
-        (nodes_of condition.nodes.items ++ (nodes_of one.nodes.items ++ nodes_of other.nodes.items))) }
+    ensures { IfOk result (λ e. found_of e ≡ by.found_at condition.line (tree.conditional (found_of condition).tree (found_of one).tree (found_of other).tree)
+        ((found_of condition).nodes ++ ((found_of one).nodes ++ (found_of other).nodes))) }
 {
     let Two {
         first,
@@ -155,7 +154,7 @@ pub fn conditional(
         alloc,
         line,
         ExpressionNode::Conditional(tree, first, second),
-        &nodes,
+        nodes,
     )
 }
 
@@ -168,7 +167,7 @@ fn property(alloc: Global, object: Found, name: Found) -> Result<Found, AllocErr
         line,
         nodes,
     } = parts_of(alloc, object, name)?;
-    found_at(alloc, line, ExpressionNode::Property(first, second), &nodes)
+    found_at(alloc, line, ExpressionNode::Property(first, second), nodes)
 }
 
 /// A property of an object, by its name.
@@ -185,8 +184,8 @@ pub fn property_of(alloc: Global, object: Found, name: Found) -> Result<Operand,
 }
 
 fn item(alloc: Global, list: Found, index: Found) -> Result<Found, AllocError>
-    ensures { IfOk result (λ e. found_of e ≡ by.found_at list.line (tree.index list.tree index.tree)
-        (nodes_of list.nodes.items ++ nodes_of index.nodes.items)) }
+    ensures { IfOk result (λ e. found_of e ≡ by.found_at list.line (tree.index (found_of list).tree (found_of index).tree)
+        ((found_of list).nodes ++ (found_of index).nodes)) }
 {
     let Two {
         first,
@@ -194,7 +193,7 @@ fn item(alloc: Global, list: Found, index: Found) -> Result<Found, AllocError>
         line,
         nodes,
     } = parts_of(alloc, list, index)?;
-    found_at(alloc, line, ExpressionNode::Index(first, second), &nodes)
+    found_at(alloc, line, ExpressionNode::Index(first, second), nodes)
 }
 
 // Whether an operand is still a target behind one more step: a range is only the last one.
@@ -225,8 +224,8 @@ pub fn index_of(alloc: Global, operand: Operand, index: Found) -> Result<Operand
 }
 
 fn range(alloc: Global, list: Found, first: Found, last: Found) -> Result<Found, AllocError>
-    ensures { IfOk result (λ e. found_of e ≡ by.found_at list.line (tree.range list.tree first.tree last.tree)
-        (nodes_of list.nodes.items ++ (nodes_of first.nodes.items ++ nodes_of last.nodes.items))) }
+    ensures { IfOk result (λ e. found_of e ≡ by.found_at list.line (tree.range (found_of list).tree (found_of first).tree (found_of last).tree)
+        ((found_of list).nodes ++ ((found_of first).nodes ++ (found_of last).nodes))) }
 {
     let Two {
         first,
@@ -239,7 +238,7 @@ fn range(alloc: Global, list: Found, first: Found, last: Found) -> Result<Found,
         alloc,
         line,
         ExpressionNode::Range(tree, first, second),
-        &nodes,
+        nodes,
     )
 }
 
@@ -287,7 +286,7 @@ pub fn with_argument(
 ) -> Result<Arguments, AllocError>
     ensures { IfOk result (λ es. arguments_found es ≡ by.with_argument spliced (found_of found) (arguments_found arguments)) }
 {
-    let Found { tree, nodes, .. } = found;
+    let Whole { tree, nodes } = Box::into_inner(found.whole);
     let Arguments {
         mut reversed,
         nodes: others,
@@ -318,7 +317,7 @@ pub fn call(alloc: Global, name: Text, line: u64, arguments: Arguments) -> Resul
     ensures { IfOk result (λ e. found_of e ≡ by.found_at line (tree.call name (arguments_found arguments).tree) (arguments_found arguments).nodes) }
 {
     let (arguments, nodes) = in_order(arguments);
-    found_at(alloc, line, ExpressionNode::Call(name, arguments), &nodes)
+    found_at(alloc, line, ExpressionNode::Call(name, arguments), nodes)
 }
 
 /// A list.
@@ -326,7 +325,7 @@ pub fn listing(alloc: Global, line: u64, arguments: Arguments) -> Result<Found, 
     ensures { IfOk result (λ e. found_of e ≡ by.found_at line (tree.listing (arguments_found arguments).tree) (arguments_found arguments).nodes) }
 {
     let (arguments, nodes) = in_order(arguments);
-    found_at(alloc, line, ExpressionNode::List(arguments), &nodes)
+    found_at(alloc, line, ExpressionNode::List(arguments), nodes)
 }
 
 /// A call of a verb.
@@ -336,8 +335,8 @@ pub fn verb_call(
     name: Found,
     arguments: Arguments,
 ) -> Result<Found, AllocError>
-    ensures { IfOk result (λ e. found_of e ≡ by.found_at object.line (tree.verb_call object.tree name.tree (arguments_found arguments).tree)
-        (nodes_of object.nodes.items ++ (nodes_of name.nodes.items ++ (arguments_found arguments).nodes))) }
+    ensures { IfOk result (λ e. found_of e ≡ by.found_at object.line (tree.verb_call (found_of object).tree (found_of name).tree (arguments_found arguments).tree)
+        ((found_of object).nodes ++ ((found_of name).nodes ++ (arguments_found arguments).nodes))) }
 {
     let (arguments, of_arguments) = in_order(arguments);
     let Before {
@@ -354,7 +353,7 @@ pub fn verb_call(
         alloc,
         line,
         ExpressionNode::VerbCall(first, second, arguments),
-        &nodes,
+        nodes,
     )
 }
 
@@ -366,22 +365,16 @@ pub fn assignment(
     nodes: Vec<Node>,
     value: Found,
 ) -> Result<Found, AllocError>
-    ensures { IfOk result (λ e. found_of e ≡ by.found_at line (tree.assignment target value.tree)
-        (nodes_of nodes.items ++ nodes_of value.nodes.items)) }
+    ensures { IfOk result (λ e. found_of e ≡ by.found_at line (tree.assignment target (found_of value).tree)
+        (nodes_of nodes.items ++ (found_of value).nodes)) }
 {
-    let Found {
+    let Whole {
         tree,
         nodes: others,
-        ..
-    } = value;
+    } = Box::into_inner(value.whole);
     let nodes = followed(nodes, &others)?;
     let tree = Box::new(alloc, tree)?;
-    found_at(
-        alloc,
-        line,
-        ExpressionNode::Assignment(target, tree),
-        &nodes,
-    )
+    found_at(alloc, line, ExpressionNode::Assignment(target, tree), nodes)
 }
 
 /// An assignment of a list's items.
@@ -392,17 +385,16 @@ pub fn scatter(
     nodes: Vec<Node>,
     value: Found,
 ) -> Result<Found, AllocError>
-    ensures { IfOk result (λ e. found_of e ≡ by.found_at line (tree.scatter (items_of items.items) value.tree)
-        (nodes_of nodes.items ++ nodes_of value.nodes.items)) }
+    ensures { IfOk result (λ e. found_of e ≡ by.found_at line (tree.scatter (items_of items.items) (found_of value).tree)
+        (nodes_of nodes.items ++ (found_of value).nodes)) }
 {
-    let Found {
+    let Whole {
         tree,
         nodes: others,
-        ..
-    } = value;
+    } = Box::into_inner(value.whole);
     let nodes = followed(nodes, &others)?;
     let tree = Box::new(alloc, tree)?;
-    found_at(alloc, line, ExpressionNode::Scatter(items, tree), &nodes)
+    found_at(alloc, line, ExpressionNode::Scatter(items, tree), nodes)
 }
 
 fn catch(alloc: Global, line: u64, found: Found, codes: FoundCodes) -> Result<Found, AllocError>
@@ -417,7 +409,7 @@ fn catch(alloc: Global, line: u64, found: Found, codes: FoundCodes) -> Result<Fo
         alloc,
         line,
         ExpressionNode::Catch(tree, codes, Fallback::TheCode),
-        &nodes,
+        nodes,
     )
 }
 
@@ -441,18 +433,17 @@ fn catch_instead(
     codes: FoundCodes,
     value: Found,
 ) -> Result<Found, AllocError>
-    ensures { IfOk result (λ e. found_of e ≡ (by.caught_with line (found_of found) (codes_found codes) (tree.instead value.tree)
-        (nodes_of value.nodes.items)).found) }
+    ensures { IfOk result (λ e. found_of e ≡ (by.caught_with line (found_of found) (codes_found codes) (tree.instead (found_of value).tree)
+        ((found_of value).nodes)).found) }
 {
     let FoundCodes {
         tree: codes,
         nodes: of_codes,
     } = codes;
-    let Found {
+    let Whole {
         tree: other,
         nodes: of_value,
-        ..
-    } = value;
+    } = Box::into_inner(value.whole);
     let others = followed(of_codes, &of_value)?;
     let other = Box::new(alloc, other)?;
     let Before { tree, nodes, .. } = put_before(alloc, found, &others)?;
@@ -460,7 +451,7 @@ fn catch_instead(
         alloc,
         line,
         ExpressionNode::Catch(tree, codes, Fallback::Instead(other)),
-        &nodes,
+        nodes,
     )
 }
 
@@ -472,8 +463,8 @@ pub fn caught_instead(
     codes: FoundCodes,
     value: Found,
 ) -> Result<Operand, AllocError>
-    ensures { IfOk result (λ o. operand_of o ≡ by.caught_with line (found_of found) (codes_found codes) (tree.instead value.tree)
-        (nodes_of value.nodes.items)) }
+    ensures { IfOk result (λ o. operand_of o ≡ by.caught_with line (found_of found) (codes_found codes) (tree.instead (found_of value).tree)
+        ((found_of value).nodes)) }
 {
     let found = catch_instead(alloc, line, found, codes, value)?;
     Ok(whole(found))

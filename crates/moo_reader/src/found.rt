@@ -5,12 +5,18 @@ use moo_tree::expression::{Argument, Codes, Expression, Item};
 use moo_value::operator::BinaryOperator;
 use moo_value::text::Text;
 
+/// A tree, and the nodes in it.
+#[derive(Drop)]
+pub struct Whole {
+    pub tree: Expression,
+    pub nodes: Vec<Node>,
+}
+
 /// An expression with the line of its first token, its parentheses included.
 #[derive(Drop)]
 pub struct Found {
-    pub tree: Expression,
     pub line: u64,
-    pub nodes: Vec<Node>,
+    pub whole: Box<Whole>,
 }
 
 /// Arguments, the last one first.
@@ -20,12 +26,19 @@ pub struct Arguments {
     pub nodes: Vec<Node>,
 }
 
-/// What braces may be beside a list, with the nodes of their defaults.
+/// Items of a scatter, and the nodes of their defaults.
+#[derive(Drop)]
+pub struct Scattering {
+    pub items: Vec<Item>,
+    pub nodes: Vec<Node>,
+}
+
+/// What braces may be beside a list.
 #[derive(Drop)]
 pub enum Braces {
     NoScatter,
-    PerhapsScatter(Vec<Item>, Vec<Node>),
-    SurelyScatter(Vec<Item>, Vec<Node>),
+    PerhapsScatter(Box<Scattering>),
+    SurelyScatter(Box<Scattering>),
 }
 
 /// What stands before operators: whether it may be assigned to, and whether its last step is a range.

@@ -10,7 +10,9 @@ ghost use Rattle.moo_reader.specs.Nodes.{nodes_of};
 ghost use Rattle.moo_reader.specs.Views.{found_of, operand_of, arguments_found, allowed_of, items_found, braces_of, item_of};
 
 use crate::build::{listing, no_arguments, with_argument};
-use crate::found::{Allowed, Arguments, BracedItem, Braces, Found, Items, Operand};
+use crate::found::{
+    Allowed, Arguments, BracedItem, Braces, Found, Items, Operand, Scattering, Whole,
+};
 use crate::node::{Node, followed};
 use crate::start::variable_found;
 use crate::text::lower_case;
@@ -117,7 +119,7 @@ fn with_default(alloc: Global, word: Text, found: Found, items: Items) -> Result
         mut reversed,
         default_nodes,
     } = items;
-    let Found { tree, nodes, .. } = found;
+    let Whole { tree, nodes } = Box::into_inner(found.whole);
     let default_nodes = followed(nodes, &default_nodes)?;
     let name = lower_case(alloc, &word)?;
     reversed.push(Item::Default(name, tree))?;
@@ -161,16 +163,23 @@ pub fn with_item(alloc: Global, item: BracedItem, items: Items) -> Result<Items,
 }
 
 // What braces may be beside a list.
-fn braces_by(allowed: Allowed, items: Vec<Item>, nodes: Vec<Node>) -> Braces
-    ensures { braces_of result ≡ (if allowed.as_scatter then (if allowed.as_list then by.perhaps_scatter (items_of items.items)
-        (nodes_of nodes.items) else by.surely_scatter (items_of items.items) (nodes_of nodes.items)) else by.no_braces) }
+fn braces_by(
+    alloc: Global,
+    allowed: Allowed,
+    items: Vec<Item>,
+    nodes: Vec<Node>,
+) -> Result<Braces, AllocError>
+    ensures { IfOk result (λ b. braces_of b ≡ (if allowed.as_scatter then (if allowed.as_list then by.perhaps_scatter (items_of items.items)
+        (nodes_of nodes.items) else by.surely_scatter (items_of items.items) (nodes_of nodes.items)) else by.no_braces)) }
 {
     if !allowed.as_scatter {
-        Braces::NoScatter
-    } else if allowed.as_list {
-        Braces::PerhapsScatter(items, nodes)
+        return Ok(Braces::NoScatter);
+    }
+    let scattering = Box::new(alloc, Scattering { items, nodes })?;
+    if allowed.as_list {
+        Ok(Braces::PerhapsScatter(scattering))
     } else {
-        Braces::SurelyScatter(items, nodes)
+        Ok(Braces::SurelyScatter(scattering))
     }
 }
 
@@ -186,7 +195,7 @@ pub fn braces_found(alloc: Global, line: u64, items: Items) -> Result<Operand, A
     } = items;
     let found = listing(alloc, line, arguments)?;
     reversed.reverse();
-    let braces = braces_by(allowed, reversed, default_nodes);
+    let braces = braces_by(alloc, allowed, reversed, default_nodes)?;
     Ok(Operand {
         found,
         is_target: false,

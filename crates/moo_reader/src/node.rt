@@ -30,17 +30,18 @@ impl Node {
 }
 
 /// A node of this line around others.
-#[tactic(auto, using(crate::proofs::Lists::one_deeper, crate::proofs::Lists::none_left))]
-pub fn under(alloc: Global, line: u64, nodes: &[Node]) -> Result<Vec<Node>, AllocError>
-    ensures { IfOk result (λ v. nodes_of v.items ≡ under line (nodes_of nodes.now)) }
+#[tactic(auto, using(crate::proofs::Lists::shifted, crate::proofs::Lists::all_shifted))]
+pub fn under(line: u64, mut nodes: Vec<Node>) -> Result<Vec<Node>, AllocError>
+    ensures { IfOk result (λ v. nodes_of v.items ≡ under line (nodes_of nodes.items)) }
 {
-    let mut around = Vec::with_capacity(alloc, nodes.len().saturating_add(1))?;
-    around.push(Node { depth: 1, line })?;
-    for node in nodes {
-        let node = node.deeper()?;
-        around.push(node)?;
+    let mut before = Node { depth: 1, line };
+    for place in 0..nodes.len() {
+        let next = nodes[place].deeper()?;
+        nodes[place] = before;
+        before = next;
     }
-    Ok(around)
+    nodes.push(before)?;
+    Ok(nodes)
 }
 
 /// Nodes, and others behind them.

@@ -10,7 +10,6 @@ ghost use Rattle.moo_reader.specs.Views.{found_of, operand_of, arguments_found};
 
 use crate::build::{call, found_at, whole};
 use crate::found::{Arguments, Braces, Found, Operand};
-use crate::node::Node;
 use crate::text::lower_case;
 use moo_tree::expression::ExpressionNode;
 use moo_value::text::Text;
@@ -21,8 +20,7 @@ use std::alloc::{AllocError, Global};
 fn leaf(alloc: Global, line: u64, node: ExpressionNode) -> Result<Found, AllocError>
     ensures { IfOk result (λ e. found_of e ≡ by.found_at line (node_expr node) []) }
 {
-    let none: Vec<Node> = Vec::new(alloc);
-    found_at(alloc, line, node, &none)
+    found_at(alloc, line, node, Vec::new(alloc))
 }
 
 /// A literal.

@@ -9,7 +9,7 @@ ghost use Rattle.moo_reader.specs.Views.{found_of, codes_found};
 ghost use Rattle.moo_reader.specs.BlockViews.{statement_found, block_found, branches_found, arms_found, otherwise_of, strays_of};
 
 use crate::block::{Arms, Block, Branches, FoundStatement, Stray};
-use crate::found::{Found, FoundCodes};
+use crate::found::{Found, FoundCodes, Whole};
 use crate::node::{Node, followed, under};
 use moo_tree::statement::{Arm, Branch, Statement, StatementNode};
 use moo_value::text::Text;
@@ -20,11 +20,11 @@ fn simple(
     alloc: Global,
     line: u64,
     node: StatementNode,
-    nodes: &[Node],
+    nodes: Vec<Node>,
 ) -> Result<FoundStatement, AllocError>
-    ensures { IfOk result (λ s. statement_found s ≡ by.simple line (node_statement node) (nodes_of nodes.now)) }
+    ensures { IfOk result (λ s. statement_found s ≡ by.simple line (node_statement node) (nodes_of nodes.items)) }
 {
-    let nodes = under(alloc, line, nodes)?;
+    let nodes = under(line, nodes)?;
     Ok(FoundStatement {
         tree: Statement { node },
         nodes,
@@ -34,26 +34,25 @@ fn simple(
 
 /// An expression whose value is dropped.
 pub fn evaluated(alloc: Global, line: u64, found: Found) -> Result<FoundStatement, AllocError>
-    ensures { IfOk result (λ s. statement_found s ≡ by.simple line (tree.evaluate found.tree) (nodes_of found.nodes.items)) }
+    ensures { IfOk result (λ s. statement_found s ≡ by.simple line (tree.evaluate (found_of found).tree) (found_of found).nodes) }
 {
-    let Found { tree, nodes, .. } = found;
-    simple(alloc, line, StatementNode::Evaluate(tree), &nodes)
+    let Whole { tree, nodes } = Box::into_inner(found.whole);
+    simple(alloc, line, StatementNode::Evaluate(tree), nodes)
 }
 
 /// `return` with a value.
 pub fn returned(alloc: Global, line: u64, found: Found) -> Result<FoundStatement, AllocError>
-    ensures { IfOk result (λ s. statement_found s ≡ by.simple line (tree.give found.tree) (nodes_of found.nodes.items)) }
+    ensures { IfOk result (λ s. statement_found s ≡ by.simple line (tree.give (found_of found).tree) (found_of found).nodes) }
 {
-    let Found { tree, nodes, .. } = found;
-    simple(alloc, line, StatementNode::Return(Some(tree)), &nodes)
+    let Whole { tree, nodes } = Box::into_inner(found.whole);
+    simple(alloc, line, StatementNode::Return(Some(tree)), nodes)
 }
 
 /// `return` without a value.
 pub fn returned_zero(alloc: Global, line: u64) -> Result<FoundStatement, AllocError>
     ensures { IfOk result (λ s. statement_found s ≡ by.simple line tree.give_zero []) }
 {
-    let none: Vec<Node> = Vec::new(alloc);
-    simple(alloc, line, StatementNode::Return(None), &none)
+    simple(alloc, line, StatementNode::Return(None), Vec::new(alloc))
 }
 
 // Strays before others.
@@ -141,7 +140,7 @@ pub fn with_branch(
 ) -> Result<Branches, AllocError>
     ensures { IfOk result (λ b. branches_found b ≡ by.with_branch (found_of condition) (block_found block) (branches_found branches)) }
 {
-    let Found { tree, nodes, .. } = condition;
+    let Whole { tree, nodes } = Box::into_inner(condition.whole);
     let Block {
         reversed: mut body,
         nodes: of_body,
@@ -185,7 +184,7 @@ fn if_node(branches: Vec<Branch>, otherwise: Option<Vec<Statement>>) -> Statemen
 }
 
 /// An `if`.
-pub fn branch_of(alloc: Global, line: u64, branches: Branches) -> Result<FoundStatement, AllocError>
+pub fn branch_of(line: u64, branches: Branches) -> Result<FoundStatement, AllocError>
     ensures { IfOk result (λ s. statement_found s ≡ by.branch_of line (branches_found branches)) }
 {
     let Branches {
@@ -194,7 +193,7 @@ pub fn branch_of(alloc: Global, line: u64, branches: Branches) -> Result<FoundSt
         nodes,
         strays,
     } = branches;
-    let nodes = under(alloc, line, &nodes)?;
+    let nodes = under(line, nodes)?;
     reversed.reverse();
     Ok(FoundStatement {
         tree: Statement {
@@ -254,12 +253,7 @@ pub fn with_arm(
 }
 
 /// A `try` with handlers.
-pub fn guarded_of(
-    alloc: Global,
-    line: u64,
-    block: Block,
-    arms: Arms,
-) -> Result<FoundStatement, AllocError>
+pub fn guarded_of(line: u64, block: Block, arms: Arms) -> Result<FoundStatement, AllocError>
     ensures { IfOk result (λ s. statement_found s ≡ by.guarded_of line (block_found block) (arms_found arms)) }
 {
     let Block {
@@ -274,7 +268,7 @@ pub fn guarded_of(
     } = arms;
     let nodes = followed(nodes, &of_handlers)?;
     let strays = strays_before(strays, other_strays)?;
-    let nodes = under(alloc, line, &nodes)?;
+    let nodes = under(line, nodes)?;
     body.reverse();
     handlers.reverse();
     Ok(FoundStatement {
@@ -290,12 +284,7 @@ pub fn guarded_of(
 }
 
 /// A `try` with a finally part.
-pub fn finished_of(
-    alloc: Global,
-    line: u64,
-    block: Block,
-    cleanup: Block,
-) -> Result<FoundStatement, AllocError>
+pub fn finished_of(line: u64, block: Block, cleanup: Block) -> Result<FoundStatement, AllocError>
     ensures { IfOk result (λ s. statement_found s ≡ by.finished_of line (block_found block) (block_found cleanup)) }
 {
     let Block {
@@ -310,7 +299,7 @@ pub fn finished_of(
     } = cleanup;
     let nodes = followed(nodes, &of_cleanup)?;
     let strays = strays_before(strays, other_strays)?;
-    let nodes = under(alloc, line, &nodes)?;
+    let nodes = under(line, nodes)?;
     body.reverse();
     behind.reverse();
     Ok(FoundStatement {

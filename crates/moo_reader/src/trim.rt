@@ -6,7 +6,7 @@ ghost use Rattle.spec_program.specs.Similar.{SimilarFound};
 ghost use Rattle.moo_reader.specs.Nodes.{nodes_of};
 ghost use Rattle.moo_reader.specs.Views.{found_of};
 
-use crate::found::Found;
+use crate::found::{Found, Whole};
 use crate::node::{Node, kept};
 use moo_tree::expression::{Expression, ExpressionNode};
 use std::alloc::{AllocError, Global};
@@ -44,22 +44,24 @@ fn shallow(tree: Expression, nodes: &[Node]) -> Expression
 }
 
 // What is kept of a tree and its nodes.
-fn few_of(alloc: Global, tree: Expression, line: u64, nodes: &[Node]) -> Result<Found, AllocError>
+fn few_of(alloc: Global, line: u64, tree: Expression, nodes: &[Node]) -> Result<Found, AllocError>
     ensures { IfOk result (λ e. SimilarFound (record { tree = tree; line = line; nodes = nodes_of nodes.now }) (found_of e)) }
 {
-    let few = kept(alloc, nodes)?;
+    let nodes_kept = kept(alloc, nodes)?;
     let tree = shallow(tree, nodes);
-    Ok(Found {
+    let whole = Whole {
         tree,
-        line,
-        nodes: few,
-    })
+        nodes: nodes_kept,
+    };
+    let whole = Box::new(alloc, whole)?;
+    Ok(Found { line, whole })
 }
 
 /// An expression with the nodes that tell where it is too deep, and its tree where it is not: it may stand in the place of the whole one.
 pub fn trimmed(alloc: Global, found: Found) -> Result<Found, AllocError>
     ensures { IfOk result (λ e. SimilarFound (found_of found) (found_of e)) }
 {
-    let Found { tree, line, nodes } = found;
-    few_of(alloc, tree, line, &nodes)
+    let Found { line, whole } = found;
+    let Whole { tree, nodes } = Box::into_inner(whole);
+    few_of(alloc, line, tree, &nodes)
 }

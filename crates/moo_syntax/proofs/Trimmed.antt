@@ -1,5 +1,7 @@
 -- Something similar may stand in the place of what was found, of an operand before its steps, and of what stands before operators.
 use Rattle.std.proofs.Common.{◌≡◌, ℕ, Bool, List, refl, sym, subst}
+use Rattle.std.specs.Prelude.{Box}
+use Rattle.std.specs.Global.{Global}
 use Rattle.spec_program.specs.Tokens.{Placed}
 use Rattle.spec_program.specs.ReadExpressions.{Found, Operand, whole}
 use Rattle.spec_program.specs.Frames as f
@@ -63,33 +65,54 @@ pub operand_part : (p : Part) (x y : CodeOperand) → p ≡ part.Operand x → S
 operand_part p x y e s =
     subst (λ q. PartStandsFor q (part.Operand y)) (sym e) (λ gs ts. found_stands an_operand (all_begun gs an_operand) (operand_of x) (operand_of y) ts s)
 
-pub arguments_part : (p : Part) (x y : CodeArguments) → p ≡ part.Arguments x → SimilarArguments (arguments_found x) (arguments_found y) → PartStandsFor p (part.Arguments y)
-arguments_part p x y e s =
-    subst (λ q. PartStandsFor q (part.Arguments y)) (sym e) (λ gs ts. found_stands some_arguments_read (all_begun gs some_arguments_read) (arguments_found x) (arguments_found y) ts s)
+pub arguments_part : (p : Part) (x y : Box CodeArguments Global) (u v : CodeArguments) → p ≡ part.Arguments x → u ≡ x.value → y.value ≡ v → SimilarArguments (arguments_found u) (arguments_found v)
+    → PartStandsFor p (part.Arguments y)
+arguments_part p x y u v e j k s =
+    let similar : SimilarArguments (arguments_found x.value) (arguments_found y.value) = subst (λ z. SimilarArguments (arguments_found x.value) (arguments_found z)) (sym k) (subst (λ z. SimilarArguments (arguments_found z) (arguments_found v)) j s) in
+    subst (λ q. PartStandsFor q (part.Arguments y)) (sym e)
+    (λ gs ts. found_stands some_arguments_read (all_begun gs some_arguments_read) (arguments_found x.value) (arguments_found y.value) ts similar)
 
-pub items_part : (p : Part) (x y : CodeItems) → p ≡ part.Items x → SimilarItems (items_found x) (items_found y) → PartStandsFor p (part.Items y)
-items_part p x y e s =
-    subst (λ q. PartStandsFor q (part.Items y)) (sym e) (λ gs ts. found_stands some_items_read (all_begun gs some_items_read) (items_found x) (items_found y) ts s)
+pub items_part : (p : Part) (x y : Box CodeItems Global) (u v : CodeItems) → p ≡ part.Items x → u ≡ x.value → y.value ≡ v → SimilarItems (items_found u) (items_found v)
+    → PartStandsFor p (part.Items y)
+items_part p x y u v e j k s =
+    let similar : SimilarItems (items_found x.value) (items_found y.value) = subst (λ z. SimilarItems (items_found x.value) (items_found z)) (sym k) (subst (λ z. SimilarItems (items_found z) (items_found v)) j s) in
+    subst (λ q. PartStandsFor q (part.Items y)) (sym e)
+    (λ gs ts. found_stands some_items_read (all_begun gs some_items_read) (items_found x.value) (items_found y.value) ts similar)
 
-pub codes_part : (p : Part) (x y : CodeFoundCodes) → p ≡ part.Codes x → SimilarCodes (codes_found x) (codes_found y) → PartStandsFor p (part.Codes y)
-codes_part p x y e s =
-    subst (λ q. PartStandsFor q (part.Codes y)) (sym e) (λ gs ts. found_stands some_codes_read (all_begun gs some_codes_read) (codes_found x) (codes_found y) ts s)
+pub codes_part : (p : Part) (x y : Box CodeFoundCodes Global) (u v : CodeFoundCodes) → p ≡ part.Codes x → u ≡ x.value → y.value ≡ v → SimilarCodes (codes_found u) (codes_found v)
+    → PartStandsFor p (part.Codes y)
+codes_part p x y u v e j k s =
+    let similar : SimilarCodes (codes_found x.value) (codes_found y.value) = subst (λ z. SimilarCodes (codes_found x.value) (codes_found z)) (sym k) (subst (λ z. SimilarCodes (codes_found z) (codes_found v)) j s) in
+    subst (λ q. PartStandsFor q (part.Codes y)) (sym e)
+    (λ gs ts. found_stands some_codes_read (all_begun gs some_codes_read) (codes_found x.value) (codes_found y.value) ts similar)
 
-pub statement_part : (p : Part) (x y : CodeFoundStatement) → p ≡ part.Statement x → SimilarStatement (statement_found x) (statement_found y) → PartStandsFor p (part.Statement y)
-statement_part p x y e s =
-    subst (λ q. PartStandsFor q (part.Statement y)) (sym e) (λ gs ts. found_stands a_statement (all_begun gs a_statement) (statement_found x) (statement_found y) ts s)
+pub statement_part : (p : Part) (x y : Box CodeFoundStatement Global) (u v : CodeFoundStatement) → p ≡ part.Statement x → u ≡ x.value → y.value ≡ v → SimilarStatement (statement_found u) (statement_found v)
+    → PartStandsFor p (part.Statement y)
+statement_part p x y u v e j k s =
+    let similar : SimilarStatement (statement_found x.value) (statement_found y.value) = subst (λ z. SimilarStatement (statement_found x.value) (statement_found z)) (sym k) (subst (λ z. SimilarStatement (statement_found z) (statement_found v)) j s) in
+    subst (λ q. PartStandsFor q (part.Statement y)) (sym e)
+    (λ gs ts. found_stands a_statement (all_begun gs a_statement) (statement_found x.value) (statement_found y.value) ts similar)
 
-pub block_part : (p : Part) (x y : CodeBlock) → p ≡ part.Block x → SimilarBlock (block_found x) (block_found y) → PartStandsFor p (part.Block y)
-block_part p x y e s =
-    subst (λ q. PartStandsFor q (part.Block y)) (sym e) (λ gs ts. found_stands a_block (all_begun gs a_block) (block_found x) (block_found y) ts s)
+pub block_part : (p : Part) (x y : Box CodeBlock Global) (u v : CodeBlock) → p ≡ part.Block x → u ≡ x.value → y.value ≡ v → SimilarBlock (block_found u) (block_found v)
+    → PartStandsFor p (part.Block y)
+block_part p x y u v e j k s =
+    let similar : SimilarBlock (block_found x.value) (block_found y.value) = subst (λ z. SimilarBlock (block_found x.value) (block_found z)) (sym k) (subst (λ z. SimilarBlock (block_found z) (block_found v)) j s) in
+    subst (λ q. PartStandsFor q (part.Block y)) (sym e)
+    (λ gs ts. found_stands a_block (all_begun gs a_block) (block_found x.value) (block_found y.value) ts similar)
 
-pub branches_part : (p : Part) (x y : CodeBranches) → p ≡ part.Branches x → SimilarBranches (branches_found x) (branches_found y) → PartStandsFor p (part.Branches y)
-branches_part p x y e s =
-    subst (λ q. PartStandsFor q (part.Branches y)) (sym e) (λ gs ts. found_stands some_branches_read (all_begun gs some_branches_read) (branches_found x) (branches_found y) ts s)
+pub branches_part : (p : Part) (x y : Box CodeBranches Global) (u v : CodeBranches) → p ≡ part.Branches x → u ≡ x.value → y.value ≡ v → SimilarBranches (branches_found u) (branches_found v)
+    → PartStandsFor p (part.Branches y)
+branches_part p x y u v e j k s =
+    let similar : SimilarBranches (branches_found x.value) (branches_found y.value) = subst (λ z. SimilarBranches (branches_found x.value) (branches_found z)) (sym k) (subst (λ z. SimilarBranches (branches_found z) (branches_found v)) j s) in
+    subst (λ q. PartStandsFor q (part.Branches y)) (sym e)
+    (λ gs ts. found_stands some_branches_read (all_begun gs some_branches_read) (branches_found x.value) (branches_found y.value) ts similar)
 
-pub arms_part : (p : Part) (x y : CodeArms) → p ≡ part.Arms x → SimilarArms (arms_found x) (arms_found y) → PartStandsFor p (part.Arms y)
-arms_part p x y e s =
-    subst (λ q. PartStandsFor q (part.Arms y)) (sym e) (λ gs ts. found_stands some_arms_read (all_begun gs some_arms_read) (arms_found x) (arms_found y) ts s)
+pub arms_part : (p : Part) (x y : Box CodeArms Global) (u v : CodeArms) → p ≡ part.Arms x → u ≡ x.value → y.value ≡ v → SimilarArms (arms_found u) (arms_found v)
+    → PartStandsFor p (part.Arms y)
+arms_part p x y u v e j k s =
+    let similar : SimilarArms (arms_found x.value) (arms_found y.value) = subst (λ z. SimilarArms (arms_found x.value) (arms_found z)) (sym k) (subst (λ z. SimilarArms (arms_found z) (arms_found v)) j s) in
+    subst (λ q. PartStandsFor q (part.Arms y)) (sym e)
+    (λ gs ts. found_stands some_arms_read (all_begun gs some_arms_read) (arms_found x.value) (arms_found y.value) ts similar)
 
 pub part_next : (x : Next) (p q : Part) → x ≡ next.Found p → PartStandsFor p q → NextStandsFor x (next.Found q)
 part_next x p q e s = subst (λ y. NextStandsFor y (next.Found q)) (sym e) s

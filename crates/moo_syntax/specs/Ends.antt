@@ -15,7 +15,7 @@ begins_block (frame.Block g ∷ gs) = true
 begins_block (g ∷ gs) = false
 
 abbrev pub part_block : Part → Option FoundBlock
-part_block (part.Block p) = Some (block_found p)
+part_block (part.Block p) = Some (block_found p.value)
 part_block p = None
 
 abbrev pub block_in : Next → Option FoundBlock

@@ -70,31 +70,31 @@ fn fault_at_end(fault: Option<TokenFault>, last: u64) -> SyntaxFault
 fn fault_at(left: &Left, last: u64) -> SyntaxFault
     ensures { (all : List Meant) → by.last_line all ≡ last → IsFault result (by.fault_at all (left_of left.now)) }
 {
-    match next_line(&left.tokens) {
+    match next_line(&left.rest.tokens) {
         Some(line) => SyntaxFault {
             kind: FaultKind::Token,
             line,
         },
-        None => fault_at_end(left.fault, last),
+        None => fault_at_end(left.rest.fault, last),
     }
 }
 
 fn is_at_end(left: &Left) -> bool
     ensures { result ≡ is_end (left_of left.now) }
 {
-    left.tokens.is_empty() && left.fault.is_none()
+    left.rest.tokens.is_empty() && left.rest.fault.is_none()
 }
 
-fn begins_block(begun: &VecDeque<Frame>) -> bool
-    ensures { result ≡ begins_block begun.now.items }
+fn begins_block(begun: &Box<VecDeque<Frame>>) -> bool
+    ensures { result ≡ begins_block begun.now.value.items }
 {
     matches!(begun.front(), Some(Frame::Block(_)))
 }
 
 // Whether a block that is found is the whole text.
 #[tactic(auto, using(crate::proofs::EndsTell::whole_by_frame))]
-fn is_whole(begun: &VecDeque<Frame>) -> bool
-    ensures { result ≡ is_whole (all_begun begun.now.items a_block) }
+fn is_whole(begun: &Box<VecDeque<Frame>>) -> bool
+    ensures { result ≡ is_whole (all_begun begun.now.value.items a_block) }
 {
     !begins_block(begun)
 }
@@ -112,7 +112,7 @@ fn over_by(next: &Next, whole: bool) -> bool
 /// Whether the reader has come to its end: it found the whole text, or no program goes on.
 #[tactic(auto, using(crate::proofs::EndsTell::over_is))]
 pub fn is_over(state: &State) -> bool
-    ensures { result ≡ is_over (next_of state.now.next state.now.begun.items) }
+    ensures { result ≡ is_over (next_of state.now.next state.now.begun.value.items) }
 {
     over_by(&state.next, is_whole(&state.begun))
 }
@@ -131,7 +131,7 @@ fn part_block(part: Part) -> Option<Block>
     ensures { block_if result ≡ part_block part }
 {
     match part {
-        Part::Block(block) => Some(block),
+        Part::Block(block) => Some(Box::into_inner(block)),
         other => {
             discard_part(other);
             None
@@ -153,8 +153,8 @@ fn block_in(next: Next) -> Option<Block>
 
 // The block of the whole text, if that was found.
 #[tactic(auto, using(crate::proofs::EndsTell::text_whole, crate::proofs::EndsTell::text_not_whole))]
-fn whole_block(next: Next, begun: &VecDeque<Frame>) -> Option<Block>
-    ensures { (ts : List Meant) → come_out (next_of next begun.now.items) ts ≡ got_or_stuck (block_if result) ts }
+fn whole_block(next: Next, begun: &Box<VecDeque<Frame>>) -> Option<Block>
+    ensures { (ts : List Meant) → come_out (next_of next begun.now.value.items) ts ≡ got_or_stuck (block_if result) ts }
 {
     if is_whole(begun) {
         block_in(next)

@@ -9,25 +9,28 @@ ghost use Rattle.moo_syntax.specs.Given.{given};
 use crate::ending::is_over;
 use crate::trim::trimmed;
 use moo_token::tokens::Tokens;
-use reader_frames::left::Left;
+use reader_frames::left::{Left, Rest};
 use reader_frames::state::{Next, State};
 use reader_step::step::step;
 use std::alloc::{AllocError, Global};
 use std::collections::VecDeque;
 
 // Where the reader begins: statements, with nothing begun.
-fn start(alloc: Global, tokens: Tokens) -> State
-    ensures { state_of result ≡ start (given tokens) }
+fn start(alloc: Global, tokens: Tokens) -> Result<State, AllocError>
+    ensures { IfOk result (λ s. state_of s ≡ start (given tokens)) }
 {
     let Tokens { tokens, fault } = tokens;
-    State {
+    let rest = Rest {
+        tokens: VecDeque::from(tokens),
+        fault,
+    };
+    let rest = Box::new(alloc, rest)?;
+    let begun = Box::new(alloc, VecDeque::new(alloc))?;
+    Ok(State {
         next: Next::Block,
-        begun: VecDeque::new(alloc),
-        left: Left {
-            tokens: VecDeque::from(tokens),
-            fault,
-        },
-    }
+        begun,
+        left: Left { rest },
+    })
 }
 
 /// Where the reader of these tokens comes to its end.
@@ -35,7 +38,8 @@ fn start(alloc: Global, tokens: Tokens) -> State
 pub fn read(alloc: Global, tokens: Tokens) -> Result<State, AllocError>
     ensures { IfOk result (λ s. outcome (given tokens) (state_of s) ≡ parsed_tokens (given tokens)) }
 {
-    let mut state = start(alloc, tokens);
+    let first = start(alloc, tokens)?;
+    let mut state = first;
     'steps: while !is_over(&state) {
         let next = step(alloc, state)?;
         state = trimmed(alloc, next)?;

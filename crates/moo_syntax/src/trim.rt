@@ -25,31 +25,38 @@ fn trimmed_part(alloc: Global, part: Part) -> Result<Part, AllocError>
             Ok(Part::Operand(operand))
         }
         Part::Arguments(arguments) => {
-            let arguments = trimmed_arguments(alloc, arguments)?;
+            let few = trimmed_arguments(alloc, Box::into_inner(arguments))?;
+            let arguments = Box::new(alloc, few)?;
             Ok(Part::Arguments(arguments))
         }
         Part::Items(items) => {
-            let items = trimmed_items(alloc, items)?;
+            let few = trimmed_items(alloc, Box::into_inner(items))?;
+            let items = Box::new(alloc, few)?;
             Ok(Part::Items(items))
         }
         Part::Codes(codes) => {
-            let codes = trimmed_codes(alloc, codes)?;
+            let few = trimmed_codes(alloc, Box::into_inner(codes))?;
+            let codes = Box::new(alloc, few)?;
             Ok(Part::Codes(codes))
         }
         Part::Statement(statement) => {
-            let statement = trimmed_statement(alloc, statement)?;
+            let few = trimmed_statement(alloc, Box::into_inner(statement))?;
+            let statement = Box::new(alloc, few)?;
             Ok(Part::Statement(statement))
         }
         Part::Block(block) => {
-            let block = trimmed_block(alloc, block)?;
+            let few = trimmed_block(alloc, Box::into_inner(block))?;
+            let block = Box::new(alloc, few)?;
             Ok(Part::Block(block))
         }
         Part::Branches(branches) => {
-            let branches = trimmed_branches(alloc, branches)?;
+            let few = trimmed_branches(alloc, Box::into_inner(branches))?;
+            let branches = Box::new(alloc, few)?;
             Ok(Part::Branches(branches))
         }
         Part::Arms(arms) => {
-            let arms = trimmed_arms(alloc, arms)?;
+            let few = trimmed_arms(alloc, Box::into_inner(arms))?;
+            let arms = Box::new(alloc, few)?;
             Ok(Part::Arms(arms))
         }
     }
@@ -92,14 +99,14 @@ fn is_long(next: &Next) -> bool {
     match next {
         Next::Found(part) => is_long_part(part),
         Next::Steps { operand, .. } => ENOUGH < operand_nodes(operand),
-        Next::Operators { left, .. } => ENOUGH < left.nodes.len(),
+        Next::Operators { left, .. } => ENOUGH < left.whole.nodes.len(),
         _ => false,
     }
 }
 
 fn is_long_part(part: &Part) -> bool {
     let count = match part {
-        Part::Expression(found) => found.nodes.len(),
+        Part::Expression(found) => found.whole.nodes.len(),
         Part::Operand(operand) => operand_nodes(operand),
         Part::Arguments(arguments) => arguments.nodes.len(),
         Part::Items(items) => item_nodes(items),
@@ -115,10 +122,10 @@ fn is_long_part(part: &Part) -> bool {
 fn operand_nodes(operand: &Operand) -> usize {
     let braces = match &operand.braces {
         Braces::NoScatter => 0,
-        Braces::PerhapsScatter(_, nodes) => nodes.len(),
-        Braces::SurelyScatter(_, nodes) => nodes.len(),
+        Braces::PerhapsScatter(scattering) => scattering.nodes.len(),
+        Braces::SurelyScatter(scattering) => scattering.nodes.len(),
     };
-    operand.found.nodes.len().max(braces)
+    operand.found.whole.nodes.len().max(braces)
 }
 
 fn item_nodes(items: &Items) -> usize {

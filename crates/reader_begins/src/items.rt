@@ -26,10 +26,10 @@ use std::collections::VecDeque;
 /// An argument.
 pub fn arguments_begin(
     brackets: bool,
-    begun: VecDeque<Frame>,
+    begun: Box<VecDeque<Frame>>,
     mut left: Left,
 ) -> Result<State, AllocError>
-    ensures { IfOk result (λ s. state_of s ≡ meant.arguments_begin brackets (all_begun begun.items some_arguments_read) (left_of left)) }
+    ensures { IfOk result (λ s. state_of s ≡ meant.arguments_begin brackets (all_begun begun.value.items some_arguments_read) (left_of left)) }
 {
     if left.take_sign(Sign::At) {
         let spliced = true;
@@ -46,10 +46,10 @@ fn expression_item(
     brackets: bool,
     allowed: Allowed,
     spliced: bool,
-    begun: VecDeque<Frame>,
+    begun: Box<VecDeque<Frame>>,
     left: Left,
 ) -> Result<State, AllocError>
-    ensures { IfOk result (λ s. state_of s ≡ meant.expression_item brackets (allowed_of allowed) spliced (all_begun begun.items some_items_read)
+    ensures { IfOk result (λ s. state_of s ≡ meant.expression_item brackets (allowed_of allowed) spliced (all_begun begun.value.items some_items_read)
         (left_of left)) }
 {
     let within = WithinItems::Value {
@@ -65,10 +65,10 @@ fn plain_item(
     alloc: Global,
     brackets: bool,
     allowed: Allowed,
-    begun: VecDeque<Frame>,
+    begun: Box<VecDeque<Frame>>,
     mut left: Left,
 ) -> Result<State, AllocError>
-    ensures { IfOk result (λ s. state_of s ≡ meant.plain_item brackets (allowed_of allowed) (all_begun begun.items some_items_read) (left_of left)) }
+    ensures { IfOk result (λ s. state_of s ≡ meant.plain_item brackets (allowed_of allowed) (all_begun begun.value.items some_items_read) (left_of left)) }
 {
     if let Some(word) = left.take_word_alone()? {
         let Word { text, line } = word;
@@ -83,10 +83,10 @@ fn rest_item(
     alloc: Global,
     brackets: bool,
     allowed: Allowed,
-    begun: VecDeque<Frame>,
+    begun: Box<VecDeque<Frame>>,
     mut left: Left,
 ) -> Result<State, AllocError>
-    ensures { IfOk result (λ s. state_of s ≡ meant.rest_item brackets (allowed_of allowed) (all_begun begun.items some_items_read) (left_of left)) }
+    ensures { IfOk result (λ s. state_of s ≡ meant.rest_item brackets (allowed_of allowed) (all_begun begun.value.items some_items_read) (left_of left)) }
 {
     if let Some(word) = left.take_word_alone()? {
         let Word { text, line } = word;
@@ -102,11 +102,11 @@ fn bare_optional(
     brackets: bool,
     allowed: Allowed,
     name: Text,
-    begun: VecDeque<Frame>,
+    begun: Box<VecDeque<Frame>>,
     left: Left,
 ) -> Result<State, AllocError>
     ensures { IfOk result (λ s. state_of s ≡ by.items_on brackets (scatter_alone (allowed_of allowed)) (f.bare_optional name)
-        (all_begun begun.items some_items_read) (left_of left)) }
+        (all_begun begun.value.items some_items_read) (left_of left)) }
 {
     let item = BracedItem::BareOptional(name);
     items_on(alloc, brackets, scatter_alone(allowed), item, begun, left)
@@ -118,10 +118,10 @@ fn optional_named(
     brackets: bool,
     allowed: Allowed,
     name: Text,
-    begun: VecDeque<Frame>,
+    begun: Box<VecDeque<Frame>>,
     mut left: Left,
 ) -> Result<State, AllocError>
-    ensures { IfOk result (λ s. state_of s ≡ meant.optional_named brackets (allowed_of allowed) (all_begun begun.items some_items_read) name
+    ensures { IfOk result (λ s. state_of s ≡ meant.optional_named brackets (allowed_of allowed) (all_begun begun.value.items some_items_read) name
         (left_of left)) }
 {
     if left.take_sign(Sign::Assign) {
@@ -140,10 +140,10 @@ fn optional_item(
     alloc: Global,
     brackets: bool,
     allowed: Allowed,
-    begun: VecDeque<Frame>,
+    begun: Box<VecDeque<Frame>>,
     mut left: Left,
 ) -> Result<State, AllocError>
-    ensures { IfOk result (λ s. state_of s ≡ meant.optional_item brackets (allowed_of allowed) (all_begun begun.items some_items_read) (left_of left)) }
+    ensures { IfOk result (λ s. state_of s ≡ meant.optional_item brackets (allowed_of allowed) (all_begun begun.value.items some_items_read) (left_of left)) }
 {
     match left.take_word()? {
         Some(word) => optional_named(alloc, brackets, allowed, word.text, begun, left),
@@ -156,10 +156,10 @@ fn listed_item(
     alloc: Global,
     brackets: bool,
     allowed: Allowed,
-    begun: VecDeque<Frame>,
+    begun: Box<VecDeque<Frame>>,
     mut left: Left,
 ) -> Result<State, AllocError>
-    ensures { IfOk result (λ s. state_of s ≡ meant.listed_item brackets (allowed_of allowed) (all_begun begun.items some_items_read) (left_of left)) }
+    ensures { IfOk result (λ s. state_of s ≡ meant.listed_item brackets (allowed_of allowed) (all_begun begun.value.items some_items_read) (left_of left)) }
 {
     if left.take_sign(Sign::At) {
         rest_item(alloc, brackets, allowed, begun, left)
@@ -173,10 +173,10 @@ fn item_of_list(
     alloc: Global,
     brackets: bool,
     allowed: Allowed,
-    begun: VecDeque<Frame>,
+    begun: Box<VecDeque<Frame>>,
     mut left: Left,
 ) -> Result<State, AllocError>
-    ensures { IfOk result (λ s. state_of s ≡ meant.item_of_list allowed.as_scatter brackets (allowed_of allowed) (all_begun begun.items some_items_read)
+    ensures { IfOk result (λ s. state_of s ≡ meant.item_of_list allowed.as_scatter brackets (allowed_of allowed) (all_begun begun.value.items some_items_read)
         (left_of left)) }
 {
     if !allowed.as_scatter {
@@ -197,10 +197,10 @@ fn scatter_plain(
     alloc: Global,
     brackets: bool,
     allowed: Allowed,
-    begun: VecDeque<Frame>,
+    begun: Box<VecDeque<Frame>>,
     mut left: Left,
 ) -> Result<State, AllocError>
-    ensures { IfOk result (λ s. state_of s ≡ meant.scatter_plain brackets (allowed_of allowed) (all_begun begun.items some_items_read) (left_of left)) }
+    ensures { IfOk result (λ s. state_of s ≡ meant.scatter_plain brackets (allowed_of allowed) (all_begun begun.value.items some_items_read) (left_of left)) }
 {
     let Some(word) = left.take_word()? else {
         return Ok(stuck(begun, left));
@@ -215,10 +215,10 @@ fn scatter_rest(
     alloc: Global,
     brackets: bool,
     allowed: Allowed,
-    begun: VecDeque<Frame>,
+    begun: Box<VecDeque<Frame>>,
     mut left: Left,
 ) -> Result<State, AllocError>
-    ensures { IfOk result (λ s. state_of s ≡ meant.scatter_rest brackets (allowed_of allowed) (all_begun begun.items some_items_read) (left_of left)) }
+    ensures { IfOk result (λ s. state_of s ≡ meant.scatter_rest brackets (allowed_of allowed) (all_begun begun.value.items some_items_read) (left_of left)) }
 {
     let Some(word) = left.take_word()? else {
         return Ok(stuck(begun, left));
@@ -233,10 +233,10 @@ fn scatter_unless(
     alloc: Global,
     brackets: bool,
     allowed: Allowed,
-    begun: VecDeque<Frame>,
+    begun: Box<VecDeque<Frame>>,
     mut left: Left,
 ) -> Result<State, AllocError>
-    ensures { IfOk result (λ s. state_of s ≡ meant.scatter_unless allowed.has_rest brackets (allowed_of allowed) (all_begun begun.items some_items_read)
+    ensures { IfOk result (λ s. state_of s ≡ meant.scatter_unless allowed.has_rest brackets (allowed_of allowed) (all_begun begun.value.items some_items_read)
         (left_of left)) }
 {
     if allowed.has_rest {
@@ -257,10 +257,10 @@ fn item_of_scatter(
     alloc: Global,
     brackets: bool,
     allowed: Allowed,
-    begun: VecDeque<Frame>,
+    begun: Box<VecDeque<Frame>>,
     mut left: Left,
 ) -> Result<State, AllocError>
-    ensures { IfOk result (λ s. state_of s ≡ meant.item_of_scatter brackets (allowed_of allowed) (all_begun begun.items some_items_read) (left_of left)) }
+    ensures { IfOk result (λ s. state_of s ≡ meant.item_of_scatter brackets (allowed_of allowed) (all_begun begun.value.items some_items_read) (left_of left)) }
 {
     if left.take_sign(Sign::Question) {
         optional_item(alloc, brackets, allowed, begun, left)
@@ -274,10 +274,10 @@ pub fn items_begin(
     alloc: Global,
     brackets: bool,
     allowed: Allowed,
-    begun: VecDeque<Frame>,
+    begun: Box<VecDeque<Frame>>,
     left: Left,
 ) -> Result<State, AllocError>
-    ensures { IfOk result (λ s. state_of s ≡ meant.item_by allowed.as_list brackets (allowed_of allowed) (all_begun begun.items some_items_read)
+    ensures { IfOk result (λ s. state_of s ≡ meant.item_by allowed.as_list brackets (allowed_of allowed) (all_begun begun.value.items some_items_read)
         (left_of left)) }
 {
     if allowed.as_list {

@@ -118,11 +118,11 @@ fn right_of(
     found: Found,
     join: Join,
     wanted: u8,
-    begun: VecDeque<Frame>,
+    begun: Box<VecDeque<Frame>>,
     left: Left,
 ) -> Result<State, AllocError>
     ensures { IfOk result (λ s. state_of s ≡ goes (reads_expression brackets wanted
-        (push (f.right_of brackets level (found_of found) (join_of join)) (all_begun begun.items an_expression))) (left_of left)) }
+        (push (f.right_of brackets level (found_of found) (join_of join)) (all_begun begun.value.items an_expression))) (left_of left)) }
 {
     let within = WithinExpression::RightOf {
         brackets,
@@ -145,10 +145,10 @@ fn behind_joint(
     level: u8,
     found: Found,
     joint: Joint,
-    begun: VecDeque<Frame>,
+    begun: Box<VecDeque<Frame>>,
     left: Left,
 ) -> Result<State, AllocError>
-    ensures { IfOk result (λ s. state_of s ≡ goes (joint_next brackets level (found_of found) (all_begun begun.items an_expression) (joint_of joint))
+    ensures { IfOk result (λ s. state_of s ≡ goes (joint_next brackets level (found_of found) (all_begun begun.value.items an_expression) (joint_of joint))
         (left_of left)) }
 {
     match joint {
@@ -193,10 +193,10 @@ pub fn operators_begin(
     brackets: bool,
     level: u8,
     found: Found,
-    begun: VecDeque<Frame>,
+    begun: Box<VecDeque<Frame>>,
     mut left: Left,
 ) -> Result<State, AllocError>
-    ensures { IfOk result (λ s. state_of s ≡ operators_begin brackets level (found_of found) (all_begun begun.items an_expression) (left_of left)) }
+    ensures { IfOk result (λ s. state_of s ≡ operators_begin brackets level (found_of found) (all_begun begun.value.items an_expression) (left_of left)) }
 {
     let joint = take_joint(level, &mut left)?;
     behind_joint(brackets, level, found, joint, begun, left)

@@ -20,10 +20,10 @@ pub fn part_begins(
     frame: ExpressionFrame,
     brackets: bool,
     level: u8,
-    begun: VecDeque<Frame>,
+    begun: Box<VecDeque<Frame>>,
     left: Left,
 ) -> Result<State, AllocError>
-    ensures { IfOk result (λ s. state_of s ≡ goes (reads_expression brackets level (expression_begun frame (all_begun begun.items))) (left_of left)) }
+    ensures { IfOk result (λ s. state_of s ≡ goes (reads_expression brackets level (expression_begun frame (all_begun begun.value.items))) (left_of left)) }
 {
     let begun = begin(begun, Frame::Expression(frame))?;
     let next = Next::Expression { brackets, level };
@@ -33,7 +33,7 @@ pub fn part_begins(
 /// A token that no program goes on with is put back.
 pub fn stuck_before(
     placed: Placed,
-    begun: VecDeque<Frame>,
+    begun: Box<VecDeque<Frame>>,
     mut left: Left,
 ) -> Result<State, AllocError>
     ensures { IfOk result (λ s. state_of s ≡ stops (place_meant (place_of placed) ∷ left_of left)) }

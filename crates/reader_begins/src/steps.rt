@@ -29,10 +29,10 @@ use std::collections::VecDeque;
 fn name_in_parentheses(
     brackets: bool,
     line: u64,
-    begun: VecDeque<Frame>,
+    begun: Box<VecDeque<Frame>>,
     left: Left,
 ) -> Result<State, AllocError>
-    ensures { IfOk result (λ s. state_of s ≡ goes (reads_expression brackets 0 (push (f.in_parentheses line) (all_begun begun.items an_expression)))
+    ensures { IfOk result (λ s. state_of s ≡ goes (reads_expression brackets 0 (push (f.in_parentheses line) (all_begun begun.value.items an_expression)))
         (left_of left)) }
 {
     let within = WithinExpression::Parentheses { line };
@@ -50,10 +50,10 @@ fn name_by_sign(
     brackets: bool,
     sign: Sign,
     line: u64,
-    begun: VecDeque<Frame>,
+    begun: Box<VecDeque<Frame>>,
     left: Left,
 ) -> Result<State, AllocError>
-    ensures { IfOk result (λ s. state_of s ≡ name_by brackets (all_begun begun.items an_expression) (t.sign (sign_meant sign)) line (left_of left)
+    ensures { IfOk result (λ s. state_of s ≡ name_by brackets (all_begun begun.value.items an_expression) (t.sign (sign_meant sign)) line (left_of left)
         (record { token = t.sign (sign_meant sign); line = line } ∷ left_of left)) }
 {
     match sign {
@@ -70,10 +70,10 @@ fn name_by(
     alloc: Global,
     brackets: bool,
     placed: Placed,
-    begun: VecDeque<Frame>,
+    begun: Box<VecDeque<Frame>>,
     left: Left,
 ) -> Result<State, AllocError>
-    ensures { IfOk result (λ s. state_of s ≡ name_by brackets (all_begun begun.items an_expression) (token_meant (token_of placed.token)) placed.line
+    ensures { IfOk result (λ s. state_of s ≡ name_by brackets (all_begun begun.value.items an_expression) (token_meant (token_of placed.token)) placed.line
         (left_of left) (place_meant (place_of placed) ∷ left_of left)) }
 {
     let Placed { token, line } = placed;
@@ -93,10 +93,10 @@ fn name_by(
 fn name_begins(
     alloc: Global,
     brackets: bool,
-    begun: VecDeque<Frame>,
+    begun: Box<VecDeque<Frame>>,
     mut left: Left,
 ) -> Result<State, AllocError>
-    ensures { IfOk result (λ s. state_of s ≡ name_begins brackets (all_begun begun.items an_expression) (left_of left)) }
+    ensures { IfOk result (λ s. state_of s ≡ name_begins brackets (all_begun begun.value.items an_expression) (left_of left)) }
 {
     match left.take() {
         Some(placed) => name_by(alloc, brackets, placed, begun, left),
@@ -109,10 +109,10 @@ fn part_named(
     alloc: Global,
     brackets: bool,
     within: WithinOperand,
-    begun: VecDeque<Frame>,
+    begun: Box<VecDeque<Frame>>,
     left: Left,
 ) -> Result<State, AllocError>
-    ensures { IfOk result (λ s. state_of s ≡ name_begins brackets (push (within_operand within) (all_begun begun.items an_operand)) (left_of left)) }
+    ensures { IfOk result (λ s. state_of s ≡ name_begins brackets (push (within_operand within) (all_begun begun.value.items an_operand)) (left_of left)) }
 {
     let begun = begin(begun, Frame::Expression(ExpressionFrame::Operand(within)))?;
     name_begins(alloc, brackets, begun, left)
@@ -122,10 +122,10 @@ fn part_named(
 fn index_begins(
     brackets: bool,
     list: Operand,
-    begun: VecDeque<Frame>,
+    begun: Box<VecDeque<Frame>>,
     left: Left,
 ) -> Result<State, AllocError>
-    ensures { IfOk result (λ s. state_of s ≡ goes (reads_expression true 0 (push (f.index_in brackets (operand_of list)) (all_begun begun.items an_operand)))
+    ensures { IfOk result (λ s. state_of s ≡ goes (reads_expression true 0 (push (f.index_in brackets (operand_of list)) (all_begun begun.value.items an_operand)))
         (left_of left)) }
 {
     let within = WithinOperand::Index { brackets, list };
@@ -133,8 +133,8 @@ fn index_begins(
 }
 
 // The operand without a step.
-fn no_step(operand: Operand, begun: VecDeque<Frame>, left: Left) -> State
-    ensures { state_of result ≡ goes (found (all_begun begun.items an_operand) (operand_of operand)) (left_of left) }
+fn no_step(operand: Operand, begun: Box<VecDeque<Frame>>, left: Left) -> State
+    ensures { state_of result ≡ goes (found (all_begun begun.value.items an_operand) (operand_of operand)) (left_of left) }
 {
     let next = Next::Found(Part::Operand(operand));
     State { next, begun, left }
@@ -144,10 +144,10 @@ fn no_step(operand: Operand, begun: VecDeque<Frame>, left: Left) -> State
 fn no_step_before(
     operand: Operand,
     placed: Placed,
-    begun: VecDeque<Frame>,
+    begun: Box<VecDeque<Frame>>,
     mut left: Left,
 ) -> Result<State, AllocError>
-    ensures { IfOk result (λ s. state_of s ≡ goes (found (all_begun begun.items an_operand) (operand_of operand)) (place_meant (place_of placed) ∷ left_of left)) }
+    ensures { IfOk result (λ s. state_of s ≡ goes (found (all_begun begun.value.items an_operand) (operand_of operand)) (place_meant (place_of placed) ∷ left_of left)) }
 {
     left.put_back(placed)?;
     Ok(no_step(operand, begun, left))
@@ -160,10 +160,10 @@ fn step_by_sign(
     operand: Operand,
     sign: Sign,
     line: u64,
-    begun: VecDeque<Frame>,
+    begun: Box<VecDeque<Frame>>,
     left: Left,
 ) -> Result<State, AllocError>
-    ensures { IfOk result (λ s. state_of s ≡ step_by brackets (operand_of operand) (all_begun begun.items an_operand) (t.sign (sign_meant sign))
+    ensures { IfOk result (λ s. state_of s ≡ step_by brackets (operand_of operand) (all_begun begun.value.items an_operand) (t.sign (sign_meant sign))
         (left_of left) (record { token = t.sign (sign_meant sign); line = line } ∷ left_of left)) }
 {
     match sign {
@@ -191,10 +191,10 @@ fn step_by(
     brackets: bool,
     operand: Operand,
     placed: Placed,
-    begun: VecDeque<Frame>,
+    begun: Box<VecDeque<Frame>>,
     left: Left,
 ) -> Result<State, AllocError>
-    ensures { IfOk result (λ s. state_of s ≡ step_by brackets (operand_of operand) (all_begun begun.items an_operand) (token_meant (token_of placed.token))
+    ensures { IfOk result (λ s. state_of s ≡ step_by brackets (operand_of operand) (all_begun begun.value.items an_operand) (token_meant (token_of placed.token))
         (left_of left) (place_meant (place_of placed) ∷ left_of left)) }
 {
     let Placed { token, line } = placed;
@@ -208,7 +208,7 @@ fn step_by(
 fn is_surely_scatter(braces: &Braces) -> bool
     ensures { result ≡ is_surely_scatter (braces_of braces.now) }
 {
-    matches!(braces, Braces::SurelyScatter(_, _))
+    matches!(braces, Braces::SurelyScatter(_))
 }
 
 // The steps behind an operand that is no scatter.
@@ -217,10 +217,10 @@ fn step_begins(
     alloc: Global,
     brackets: bool,
     operand: Operand,
-    begun: VecDeque<Frame>,
+    begun: Box<VecDeque<Frame>>,
     mut left: Left,
 ) -> Result<State, AllocError>
-    ensures { IfOk result (λ s. state_of s ≡ steps_unless false brackets (operand_of operand) (all_begun begun.items an_operand) (left_of left)) }
+    ensures { IfOk result (λ s. state_of s ≡ steps_unless false brackets (operand_of operand) (all_begun begun.value.items an_operand) (left_of left)) }
 {
     match left.take() {
         Some(placed) => step_by(alloc, brackets, operand, placed, begun, left),
@@ -233,11 +233,11 @@ pub fn steps_begin(
     alloc: Global,
     brackets: bool,
     operand: Operand,
-    begun: VecDeque<Frame>,
+    begun: Box<VecDeque<Frame>>,
     left: Left,
 ) -> Result<State, AllocError>
     ensures { IfOk result (λ s. state_of s ≡ steps_unless (is_surely_scatter (operand_of operand).braces) brackets (operand_of operand)
-        (all_begun begun.items an_operand) (left_of left)) }
+        (all_begun begun.value.items an_operand) (left_of left)) }
 {
     if is_surely_scatter(&operand.braces) {
         return Ok(no_step(operand, begun, left));

@@ -26,10 +26,10 @@ pub fn behind_argument(
     brackets: bool,
     spliced: bool,
     argument: Found,
-    begun: VecDeque<Frame>,
+    begun: Box<VecDeque<Frame>>,
     mut left: Left,
 ) -> Result<State, AllocError>
-    ensures { IfOk result (λ s. state_of s ≡ behind (f.behind_argument brackets spliced) (all_begun begun.items some_arguments_read) (found_of argument)
+    ensures { IfOk result (λ s. state_of s ≡ behind (f.behind_argument brackets spliced) (all_begun begun.value.items some_arguments_read) (found_of argument)
         (left_of left)) }
 {
     if left.take_sign(Sign::Comma) {
@@ -39,7 +39,7 @@ pub fn behind_argument(
         return Ok(State { next, begun, left });
     }
     let arguments = with_argument(spliced, argument, no_arguments(alloc))?;
-    let next = Next::Found(Part::Arguments(arguments));
+    let next = Next::Found(Part::Arguments(Box::new(alloc, arguments)?));
     Ok(State { next, begun, left })
 }
 
@@ -59,19 +59,19 @@ pub fn behind_arguments(
     alloc: Global,
     frame: ArgumentsFrame,
     arguments: Arguments,
-    begun: VecDeque<Frame>,
+    begun: Box<VecDeque<Frame>>,
     left: Left,
 ) -> Result<State, AllocError>
-    ensures { IfOk result (λ s. state_of s ≡ found_by (arguments_begun frame (all_begun begun.items)) (arguments_found arguments) (left_of left)) }
+    ensures { IfOk result (λ s. state_of s ≡ found_by (arguments_begun frame (all_begun begun.value.items)) (arguments_found arguments) (left_of left)) }
 {
     match frame {
         ArgumentsFrame::Behind { spliced, argument } => {
             let arguments = with_argument(spliced, argument, arguments)?;
-            let next = Next::Found(Part::Arguments(arguments));
+            let next = Next::Found(Part::Arguments(Box::new(alloc, arguments)?));
             Ok(State { next, begun, left })
         }
         ArgumentsFrame::To(sign) => {
-            let next = Next::Found(Part::Arguments(arguments));
+            let next = Next::Found(Part::Arguments(Box::new(alloc, arguments)?));
             Ok(past_sign(sign, next, begun, left))
         }
         ArgumentsFrame::CallOf { name, line } => {
@@ -85,7 +85,8 @@ pub fn behind_arguments(
             Ok(State { next, begun, left })
         }
         ArgumentsFrame::Codes => {
-            let next = Next::Found(Part::Codes(as_codes(arguments)));
+            let codes = Box::new(alloc, as_codes(arguments))?;
+            let next = Next::Found(Part::Codes(codes));
             Ok(State { next, begun, left })
         }
     }

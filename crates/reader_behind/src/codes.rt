@@ -24,13 +24,14 @@ fn caught_codes(
     line: u64,
     found: Found,
     codes: FoundCodes,
-    begun: VecDeque<Frame>,
+    begun: Box<VecDeque<Frame>>,
     mut left: Left,
 ) -> Result<State, AllocError>
-    ensures { IfOk result (λ s. state_of s ≡ codes_read brackets line (found_of found) (all_begun begun.items an_operand) (codes_found codes)
+    ensures { IfOk result (λ s. state_of s ≡ codes_read brackets line (found_of found) (all_begun begun.value.items an_operand) (codes_found codes)
         (left_of left)) }
 {
     if left.take_sign(Sign::Arrow) {
+        let codes = Box::new(alloc, codes)?;
         let within = WithinOperand::Instead {
             line,
             caught: found,
@@ -50,10 +51,10 @@ pub fn behind_codes(
     alloc: Global,
     frame: CodesFrame,
     codes: FoundCodes,
-    begun: VecDeque<Frame>,
+    begun: Box<VecDeque<Frame>>,
     left: Left,
 ) -> Result<State, AllocError>
-    ensures { IfOk result (λ s. state_of s ≡ found_by (codes_begun frame (all_begun begun.items)) (codes_found codes) (left_of left)) }
+    ensures { IfOk result (λ s. state_of s ≡ found_by (codes_begun frame (all_begun begun.value.items)) (codes_found codes) (left_of left)) }
 {
     match frame {
         CodesFrame::Caught {
@@ -62,6 +63,7 @@ pub fn behind_codes(
             caught,
         } => caught_codes(alloc, brackets, line, caught, codes, begun, left),
         CodesFrame::Arm { variable } => {
+            let codes = Box::new(alloc, codes)?;
             let frame = BlockFrame::Arm { variable, codes };
             let begun = begin(begun, Frame::Block(frame))?;
             Ok(past_sign(Sign::CloseParenthesis, Next::Block, begun, left))

@@ -19,11 +19,11 @@ use std::alloc::{AllocError, Global};
 use std::collections::VecDeque;
 
 // Behind the closing parenthesis; the line is that of the opening one.
-fn in_parentheses(line: u64, found: Found, begun: VecDeque<Frame>, left: Left) -> State
-    ensures { state_of result ≡ behind (f.in_parentheses line) (all_begun begun.items an_expression) (found_of found) (left_of left) }
+fn in_parentheses(line: u64, found: Found, begun: Box<VecDeque<Frame>>, left: Left) -> State
+    ensures { state_of result ≡ behind (f.in_parentheses line) (all_begun begun.value.items an_expression) (found_of found) (left_of left) }
 {
-    let Found { tree, nodes, .. } = found;
-    let next = Next::Found(Part::Expression(Found { tree, line, nodes }));
+    let Found { whole, .. } = found;
+    let next = Next::Found(Part::Expression(Found { line, whole }));
     past_sign(Sign::CloseParenthesis, next, begun, left)
 }
 
@@ -35,10 +35,10 @@ fn right_of(
     one: Found,
     join: Join,
     other: Found,
-    begun: VecDeque<Frame>,
+    begun: Box<VecDeque<Frame>>,
     left: Left,
 ) -> Result<State, AllocError>
-    ensures { IfOk result (λ s. state_of s ≡ behind (f.right_of brackets level (found_of one) (join_of join)) (all_begun begun.items an_expression)
+    ensures { IfOk result (λ s. state_of s ≡ behind (f.right_of brackets level (found_of one) (join_of join)) (all_begun begun.value.items an_expression)
         (found_of other) (left_of left)) }
 {
     let found = joined(alloc, join, one, other)?;
@@ -56,10 +56,10 @@ fn chosen_first(
     level: u8,
     condition: Found,
     first: Found,
-    begun: VecDeque<Frame>,
+    begun: Box<VecDeque<Frame>>,
     left: Left,
 ) -> Result<State, AllocError>
-    ensures { IfOk result (λ s. state_of s ≡ behind (f.chosen_first brackets level (found_of condition)) (all_begun begun.items an_expression)
+    ensures { IfOk result (λ s. state_of s ≡ behind (f.chosen_first brackets level (found_of condition)) (all_begun begun.value.items an_expression)
         (found_of first) (left_of left)) }
 {
     let within = WithinExpression::ChosenSecond {
@@ -84,11 +84,11 @@ fn chosen_second(
     condition: Found,
     first: Found,
     second: Found,
-    begun: VecDeque<Frame>,
+    begun: Box<VecDeque<Frame>>,
     left: Left,
 ) -> Result<State, AllocError>
     ensures { IfOk result (λ s. state_of s ≡ behind (f.chosen_second brackets level (found_of condition) (found_of first))
-        (all_begun begun.items an_expression) (found_of second) (left_of left)) }
+        (all_begun begun.value.items an_expression) (found_of second) (left_of left)) }
 {
     let found = conditional(alloc, condition, first, second)?;
     let next = Next::Operators {
@@ -104,10 +104,10 @@ pub fn behind_within_expression(
     alloc: Global,
     within: WithinExpression,
     found: Found,
-    begun: VecDeque<Frame>,
+    begun: Box<VecDeque<Frame>>,
     left: Left,
 ) -> Result<State, AllocError>
-    ensures { IfOk result (λ s. state_of s ≡ behind (within_expression within) (all_begun begun.items an_expression) (found_of found) (left_of left)) }
+    ensures { IfOk result (λ s. state_of s ≡ behind (within_expression within) (all_begun begun.value.items an_expression) (found_of found) (left_of left)) }
 {
     match within {
         WithinExpression::Parentheses { line } => Ok(in_parentheses(line, found, begun, left)),
@@ -133,12 +133,12 @@ pub fn behind_within_expression(
             line,
             nodes,
         } => {
-            let found = assignment(alloc, target, line, nodes, found)?;
+            let found = assignment(alloc, Box::into_inner(target), line, nodes, found)?;
             let next = Next::Found(Part::Expression(found));
             Ok(State { next, begun, left })
         }
         WithinExpression::ScatteredTo { items, line, nodes } => {
-            let found = scatter(alloc, items, line, nodes, found)?;
+            let found = scatter(alloc, Box::into_inner(items), line, nodes, found)?;
             let next = Next::Found(Part::Expression(found));
             Ok(State { next, begun, left })
         }

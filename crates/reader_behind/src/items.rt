@@ -23,10 +23,10 @@ pub fn behind_within_items(
     alloc: Global,
     within: WithinItems,
     found: Found,
-    begun: VecDeque<Frame>,
+    begun: Box<VecDeque<Frame>>,
     left: Left,
 ) -> Result<State, AllocError>
-    ensures { IfOk result (λ s. state_of s ≡ behind (within_items within) (all_begun begun.items some_items_read) (found_of found) (left_of left)) }
+    ensures { IfOk result (λ s. state_of s ≡ behind (within_items within) (all_begun begun.value.items some_items_read) (found_of found) (left_of left)) }
 {
     match within {
         WithinItems::Value {
@@ -53,15 +53,15 @@ pub fn behind_items(
     alloc: Global,
     frame: ItemsFrame,
     items: Items,
-    begun: VecDeque<Frame>,
+    begun: Box<VecDeque<Frame>>,
     left: Left,
 ) -> Result<State, AllocError>
-    ensures { IfOk result (λ s. state_of s ≡ found_by (items_begun frame (all_begun begun.items)) (items_found items) (left_of left)) }
+    ensures { IfOk result (λ s. state_of s ≡ found_by (items_begun frame (all_begun begun.value.items)) (items_found items) (left_of left)) }
 {
     match frame {
         ItemsFrame::Behind(item) => {
             let items = with_item(alloc, item, items)?;
-            let next = Next::Found(Part::Items(items));
+            let next = Next::Found(Part::Items(Box::new(alloc, items)?));
             Ok(State { next, begun, left })
         }
         ItemsFrame::Braces { line } => {

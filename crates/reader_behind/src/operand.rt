@@ -29,10 +29,10 @@ fn unary_read(
     operator: UnaryOperator,
     line: u64,
     found: Found,
-    begun: VecDeque<Frame>,
+    begun: Box<VecDeque<Frame>>,
     left: Left,
 ) -> Result<State, AllocError>
-    ensures { IfOk result (λ s. state_of s ≡ behind (f.behind_sign (unary_of operator) line) (all_begun begun.items an_operand) (found_of found)
+    ensures { IfOk result (λ s. state_of s ≡ behind (f.behind_sign (unary_of operator) line) (all_begun begun.value.items an_operand) (found_of found)
         (left_of left)) }
 {
     let found = unary(alloc, operator, line, found)?;
@@ -46,10 +46,10 @@ fn property_named(
     brackets: bool,
     object: Operand,
     name: Found,
-    begun: VecDeque<Frame>,
+    begun: Box<VecDeque<Frame>>,
     left: Left,
 ) -> Result<State, AllocError>
-    ensures { IfOk result (λ s. state_of s ≡ behind (f.property_name brackets (operand_of object)) (all_begun begun.items an_operand) (found_of name)
+    ensures { IfOk result (λ s. state_of s ≡ behind (f.property_name brackets (operand_of object)) (all_begun begun.value.items an_operand) (found_of name)
         (left_of left)) }
 {
     let Operand { found, .. } = object;
@@ -64,10 +64,10 @@ fn verb_named(
     brackets: bool,
     object: Operand,
     name: Found,
-    begun: VecDeque<Frame>,
+    begun: Box<VecDeque<Frame>>,
     mut left: Left,
 ) -> Result<State, AllocError>
-    ensures { IfOk result (λ s. state_of s ≡ behind (f.verb_name brackets (operand_of object)) (all_begun begun.items an_operand) (found_of name)
+    ensures { IfOk result (λ s. state_of s ≡ behind (f.verb_name brackets (operand_of object)) (all_begun begun.value.items an_operand) (found_of name)
         (left_of left)) }
 {
     if !left.take_sign(Sign::OpenParenthesis) {
@@ -89,10 +89,10 @@ fn index_read(
     brackets: bool,
     list: Operand,
     index: Found,
-    begun: VecDeque<Frame>,
+    begun: Box<VecDeque<Frame>>,
     mut left: Left,
 ) -> Result<State, AllocError>
-    ensures { IfOk result (λ s. state_of s ≡ behind (f.index_in brackets (operand_of list)) (all_begun begun.items an_operand) (found_of index)
+    ensures { IfOk result (λ s. state_of s ≡ behind (f.index_in brackets (operand_of list)) (all_begun begun.value.items an_operand) (found_of index)
         (left_of left)) }
 {
     if left.take_sign(Sign::DoubleDot) {
@@ -120,10 +120,10 @@ fn range_read(
     list: Operand,
     first: Found,
     last: Found,
-    begun: VecDeque<Frame>,
+    begun: Box<VecDeque<Frame>>,
     left: Left,
 ) -> Result<State, AllocError>
-    ensures { IfOk result (λ s. state_of s ≡ behind (f.range_in brackets (operand_of list) (found_of first)) (all_begun begun.items an_operand)
+    ensures { IfOk result (λ s. state_of s ≡ behind (f.range_in brackets (operand_of list) (found_of first)) (all_begun begun.value.items an_operand)
         (found_of last) (left_of left)) }
 {
     let operand = range_of(alloc, list, first, last)?;
@@ -137,10 +137,10 @@ fn caught_read(
     brackets: bool,
     line: u64,
     caught: Found,
-    begun: VecDeque<Frame>,
+    begun: Box<VecDeque<Frame>>,
     mut left: Left,
 ) -> Result<State, AllocError>
-    ensures { IfOk result (λ s. state_of s ≡ behind (f.caught_in brackets line) (all_begun begun.items an_operand) (found_of caught) (left_of left)) }
+    ensures { IfOk result (λ s. state_of s ≡ behind (f.caught_in brackets line) (all_begun begun.value.items an_operand) (found_of caught) (left_of left)) }
 {
     if !left.take_sign(Sign::Not) {
         return Ok(stuck(begun, left));
@@ -161,10 +161,10 @@ fn instead_read(
     caught: Found,
     codes: FoundCodes,
     value: Found,
-    begun: VecDeque<Frame>,
+    begun: Box<VecDeque<Frame>>,
     left: Left,
 ) -> Result<State, AllocError>
-    ensures { IfOk result (λ s. state_of s ≡ behind (f.caught_instead line (found_of caught) (codes_found codes)) (all_begun begun.items an_operand)
+    ensures { IfOk result (λ s. state_of s ≡ behind (f.caught_instead line (found_of caught) (codes_found codes)) (all_begun begun.value.items an_operand)
         (found_of value) (left_of left)) }
 {
     let operand = caught_instead(alloc, line, caught, codes, value)?;
@@ -177,10 +177,10 @@ pub fn behind_within_operand(
     alloc: Global,
     within: WithinOperand,
     found: Found,
-    begun: VecDeque<Frame>,
+    begun: Box<VecDeque<Frame>>,
     left: Left,
 ) -> Result<State, AllocError>
-    ensures { IfOk result (λ s. state_of s ≡ behind (within_operand within) (all_begun begun.items an_operand) (found_of found) (left_of left)) }
+    ensures { IfOk result (λ s. state_of s ≡ behind (within_operand within) (all_begun begun.value.items an_operand) (found_of found) (left_of left)) }
 {
     match within {
         WithinOperand::Whole => {
@@ -211,6 +211,14 @@ pub fn behind_within_operand(
             line,
             caught,
             codes,
-        } => instead_read(alloc, line, caught, codes, found, begun, left),
+        } => instead_read(
+            alloc,
+            line,
+            caught,
+            Box::into_inner(codes),
+            found,
+            begun,
+            left,
+        ),
     }
 }

@@ -18,10 +18,10 @@ ghost use Rattle.reader_frames.specs.StateView.{state_of};
 ghost use Rattle.reader_behind.specs.Assigning.{is_assigned};
 
 use crate::target::target_of;
-use moo_reader::found::{Braces, Found, Operand};
+use moo_reader::found::{Braces, Found, Operand, Scattering, Whole};
 use moo_reader::node::Node;
 use moo_token::token::Sign;
-use moo_tree::expression::{Item, Target};
+use moo_tree::expression::Target;
 use reader_frames::frame::{ExpressionFrame, Frame, OperandFrame, WithinExpression};
 use reader_frames::left::Left;
 use reader_frames::state::{Next, State, begin, past_sign, stuck};
@@ -44,8 +44,14 @@ fn is_assigned(level: u8, left: &Left) -> bool
 }
 
 // The operators behind an expression.
-fn operators(brackets: bool, level: u8, found: Found, begun: VecDeque<Frame>, left: Left) -> State
-    ensures { state_of result ≡ goes (reads_operators brackets level (found_of found) (all_begun begun.items an_expression)) (left_of left) }
+fn operators(
+    brackets: bool,
+    level: u8,
+    found: Found,
+    begun: Box<VecDeque<Frame>>,
+    left: Left,
+) -> State
+    ensures { state_of result ≡ goes (reads_operators brackets level (found_of found) (all_begun begun.value.items an_expression)) (left_of left) }
 {
     let next = Next::Operators {
         brackets,
@@ -57,17 +63,19 @@ fn operators(brackets: bool, level: u8, found: Found, begun: VecDeque<Frame>, le
 
 // The value of an assignment.
 fn assigned(
+    alloc: Global,
     brackets: bool,
     target: Target,
     line: u64,
     nodes: Vec<Node>,
-    begun: VecDeque<Frame>,
+    begun: Box<VecDeque<Frame>>,
     left: Left,
 ) -> Result<State, AllocError>
     ensures { IfOk result (λ s. state_of s ≡ ends.past_sign t.assign (reads_expression brackets 0
-        (push (f.assigned_to (record { tree = own_length; line = line; nodes = nodes_of nodes.items }) target) (all_begun begun.items an_expression)))
+        (push (f.assigned_to (record { tree = own_length; line = line; nodes = nodes_of nodes.items }) target) (all_begun begun.value.items an_expression)))
         (left_of left)) }
 {
+    let target = Box::new(alloc, target)?;
     let within = WithinExpression::AssignedTo {
         target,
         line,
@@ -83,16 +91,19 @@ fn assigned(
 
 // The value of a scatter.
 fn scattered(
+    alloc: Global,
     brackets: bool,
-    items: Vec<Item>,
     line: u64,
-    nodes: Vec<Node>,
-    begun: VecDeque<Frame>,
+    scattering: Box<Scattering>,
+    begun: Box<VecDeque<Frame>>,
     left: Left,
 ) -> Result<State, AllocError>
     ensures { IfOk result (λ s. state_of s ≡ ends.past_sign t.assign (reads_expression brackets 0
-        (push (f.scattered_to line (items_of items.items) (nodes_of nodes.items)) (all_begun begun.items an_expression))) (left_of left)) }
+        (push (f.scattered_to line (items_of scattering.value.items.items) (nodes_of scattering.value.nodes.items)) (all_begun begun.value.items an_expression)))
+        (left_of left)) }
 {
+    let Scattering { items, nodes } = Box::into_inner(scattering);
+    let items = Box::new(alloc, items)?;
     let within = WithinExpression::ScatteredTo { items, line, nodes };
     let begun = begin(
         begun,
@@ -110,59 +121,60 @@ fn behind_target(
     level: u8,
     found: Found,
     is_target: bool,
-    begun: VecDeque<Frame>,
+    begun: Box<VecDeque<Frame>>,
     left: Left,
 ) -> Result<State, AllocError>
-    ensures { IfOk result (λ s. state_of s ≡ target_read brackets level (found_of found) (target_if is_target found.tree)
-        (all_begun begun.items an_expression) (left_of left)) }
+    ensures { IfOk result (λ s. state_of s ≡ target_read brackets level (found_of found) (target_if is_target (found_of found).tree)
+        (all_begun begun.value.items an_expression) (left_of left)) }
 {
     let is_read = is_target && is_assigned(level, &left);
     if !is_read {
         return Ok(operators(brackets, level, found, begun, left));
     }
-    let Found { tree, line, nodes } = found;
+    let Found { line, whole } = found;
+    let Whole { tree, nodes } = Box::into_inner(whole);
     let Some(target) = target_of(alloc, tree)? else {
         return Err(AllocError);
     };
-    assigned(brackets, target, line, nodes, begun, left)
+    assigned(alloc, brackets, target, line, nodes, begun, left)
 }
 
 // Behind braces that may be a scatter.
 #[tactic(auto, using(crate::proofs::Assigning::is_assigned_to, crate::proofs::Assigning::is_not_assigned))]
 fn behind_perhaps(
+    alloc: Global,
     brackets: bool,
     level: u8,
     found: Found,
-    items: Vec<Item>,
-    nodes: Vec<Node>,
-    begun: VecDeque<Frame>,
+    scattering: Box<Scattering>,
+    begun: Box<VecDeque<Frame>>,
     left: Left,
 ) -> Result<State, AllocError>
     ensures { IfOk result (λ s. state_of s ≡ braces_read brackets level (by.whole (found_of found))
-        (by.perhaps_scatter (items_of items.items) (nodes_of nodes.items)) (all_begun begun.items an_expression) (left_of left)) }
+        (by.perhaps_scatter (items_of scattering.value.items.items) (nodes_of scattering.value.nodes.items)) (all_begun begun.value.items an_expression) (left_of left)) }
 {
     if is_assigned(level, &left) {
-        return scattered(brackets, items, found.line, nodes, begun, left);
+        return scattered(alloc, brackets, found.line, scattering, begun, left);
     }
     Ok(operators(brackets, level, found, begun, left))
 }
 
 // Behind braces that are a scatter.
 fn behind_surely(
+    alloc: Global,
     brackets: bool,
     level: u8,
     line: u64,
-    items: Vec<Item>,
-    nodes: Vec<Node>,
-    begun: VecDeque<Frame>,
+    scattering: Box<Scattering>,
+    begun: Box<VecDeque<Frame>>,
     left: Left,
 ) -> Result<State, AllocError>
     ensures { IfOk result (λ s. state_of s ≡ scattered_or_stuck (reads_expression brackets 0
-        (push (f.scattered_to line (items_of items.items) (nodes_of nodes.items)) (all_begun begun.items an_expression)))
+        (push (f.scattered_to line (items_of scattering.value.items.items) (nodes_of scattering.value.nodes.items)) (all_begun begun.value.items an_expression)))
         (is_any_level level) (left_of left)) }
 {
     if is_any_level(level) {
-        return scattered(brackets, items, line, nodes, begun, left);
+        return scattered(alloc, brackets, line, scattering, begun, left);
     }
     Ok(stuck(begun, left))
 }
@@ -172,11 +184,11 @@ fn behind_value(
     brackets: bool,
     level: u8,
     operand: Operand,
-    begun: VecDeque<Frame>,
+    begun: Box<VecDeque<Frame>>,
     left: Left,
 ) -> Result<State, AllocError>
     ensures { IfOk result (λ s. state_of s ≡ braces_read brackets level (operand_of operand) (operand_of operand).braces
-        (all_begun begun.items an_expression) (left_of left)) }
+        (all_begun begun.value.items an_expression) (left_of left)) }
 {
     let Operand {
         found,
@@ -186,11 +198,11 @@ fn behind_value(
     } = operand;
     match braces {
         Braces::NoScatter => behind_target(alloc, brackets, level, found, is_target, begun, left),
-        Braces::PerhapsScatter(items, nodes) => {
-            behind_perhaps(brackets, level, found, items, nodes, begun, left)
+        Braces::PerhapsScatter(scattering) => {
+            behind_perhaps(alloc, brackets, level, found, scattering, begun, left)
         }
-        Braces::SurelyScatter(items, nodes) => {
-            behind_surely(brackets, level, found.line, items, nodes, begun, left)
+        Braces::SurelyScatter(scattering) => {
+            behind_surely(alloc, brackets, level, found.line, scattering, begun, left)
         }
     }
 }
@@ -200,10 +212,10 @@ pub fn behind_operand(
     alloc: Global,
     frame: OperandFrame,
     operand: Operand,
-    begun: VecDeque<Frame>,
+    begun: Box<VecDeque<Frame>>,
     left: Left,
 ) -> Result<State, AllocError>
-    ensures { IfOk result (λ s. state_of s ≡ found_by (operand_begun frame (all_begun begun.items)) (operand_of operand) (left_of left)) }
+    ensures { IfOk result (λ s. state_of s ≡ found_by (operand_begun frame (all_begun begun.value.items)) (operand_of operand) (left_of left)) }
 {
     match frame {
         OperandFrame::Steps { brackets } => {

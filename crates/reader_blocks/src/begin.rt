@@ -28,8 +28,8 @@ use std::alloc::{AllocError, Global};
 use std::collections::VecDeque;
 
 /// A branch: its condition in parentheses.
-pub fn branches_begin(begun: VecDeque<Frame>, left: Left) -> Result<State, AllocError>
-    ensures { IfOk result (λ s. state_of s ≡ meant.branches_begin (all_begun begun.items some_branches_read) (left_of left)) }
+pub fn branches_begin(begun: Box<VecDeque<Frame>>, left: Left) -> Result<State, AllocError>
+    ensures { IfOk result (λ s. state_of s ≡ meant.branches_begin (all_begun begun.value.items some_branches_read) (left_of left)) }
 {
     let begun = begin(begun, Frame::Expression(ExpressionFrame::Condition))?;
     let within = WithinExpression::Head;
@@ -48,10 +48,10 @@ pub fn branches_begin(begun: VecDeque<Frame>, left: Left) -> Result<State, Alloc
 fn arm_named(
     alloc: Global,
     variable: Option<Text>,
-    begun: VecDeque<Frame>,
+    begun: Box<VecDeque<Frame>>,
     mut left: Left,
 ) -> Result<State, AllocError>
-    ensures { IfOk result (λ s. state_of s ≡ meant.arm_named variable (all_begun begun.items some_arms_read) (left_of left)) }
+    ensures { IfOk result (λ s. state_of s ≡ meant.arm_named variable (all_begun begun.value.items some_arms_read) (left_of left)) }
 {
     if !left.take_sign(Sign::OpenParenthesis) {
         return Ok(stuck(begun, left));
@@ -64,10 +64,10 @@ fn arm_named(
 #[tactic(auto, using(crate::proofs::Words::arm_by_name))]
 pub fn arms_begin(
     alloc: Global,
-    begun: VecDeque<Frame>,
+    begun: Box<VecDeque<Frame>>,
     mut left: Left,
 ) -> Result<State, AllocError>
-    ensures { IfOk result (λ s. state_of s ≡ meant.arms_begin (all_begun begun.items some_arms_read) (left_of left)) }
+    ensures { IfOk result (λ s. state_of s ≡ meant.arms_begin (all_begun begun.value.items some_arms_read) (left_of left)) }
 {
     let variable = perhaps_name(alloc, &mut left)?;
     arm_named(alloc, variable, begun, left)
@@ -77,23 +77,24 @@ pub fn arms_begin(
 fn ends_before(
     alloc: Global,
     placed: Placed,
-    begun: VecDeque<Frame>,
+    begun: Box<VecDeque<Frame>>,
     mut left: Left,
 ) -> Result<State, AllocError>
-    ensures { IfOk result (λ s. state_of s ≡ goes (found (all_begun begun.items a_block) by.no_statements) (place_meant (place_of placed) ∷ left_of left)) }
+    ensures { IfOk result (λ s. state_of s ≡ goes (found (all_begun begun.value.items a_block) by.no_statements) (place_meant (place_of placed) ∷ left_of left)) }
 {
     left.put_back(placed)?;
-    let next = Next::Found(Part::Block(no_statements(alloc)));
+    let block = Box::new(alloc, no_statements(alloc))?;
+    let next = Next::Found(Part::Block(block));
     Ok(State { next, begun, left })
 }
 
 // An expression, which begins with the next token.
 fn expression_begins(
     placed: Placed,
-    begun: VecDeque<Frame>,
+    begun: Box<VecDeque<Frame>>,
     mut left: Left,
 ) -> Result<State, AllocError>
-    ensures { IfOk result (λ s. state_of s ≡ meant.expression_statement (push f.block_behind (all_begun begun.items a_block)) placed.line
+    ensures { IfOk result (λ s. state_of s ≡ meant.expression_statement (push f.block_behind (all_begun begun.value.items a_block)) placed.line
         (place_meant (place_of placed) ∷ left_of left)) }
 {
     let line = placed.line;
@@ -107,10 +108,10 @@ fn statement_by_keyword(
     alloc: Global,
     keyword: Keyword,
     line: u64,
-    begun: VecDeque<Frame>,
+    begun: Box<VecDeque<Frame>>,
     left: Left,
 ) -> Result<State, AllocError>
-    ensures { IfOk result (λ s. state_of s ≡ meant.statement_by_keyword (all_begun begun.items a_block) (push f.block_behind (all_begun begun.items a_block))
+    ensures { IfOk result (λ s. state_of s ≡ meant.statement_by_keyword (all_begun begun.value.items a_block) (push f.block_behind (all_begun begun.value.items a_block))
         (keyword_meant keyword) line (left_of left) (record { token = t.keyword (keyword_meant keyword); line = line } ∷ left_of left)) }
 {
     match keyword {
@@ -133,10 +134,10 @@ fn statement_by_sign(
     alloc: Global,
     sign: Sign,
     line: u64,
-    begun: VecDeque<Frame>,
+    begun: Box<VecDeque<Frame>>,
     left: Left,
 ) -> Result<State, AllocError>
-    ensures { IfOk result (λ s. state_of s ≡ meant.statement_by_sign (all_begun begun.items a_block) (push f.block_behind (all_begun begun.items a_block))
+    ensures { IfOk result (λ s. state_of s ≡ meant.statement_by_sign (all_begun begun.value.items a_block) (push f.block_behind (all_begun begun.value.items a_block))
         (sign_meant sign) line (left_of left) (record { token = t.sign (sign_meant sign); line = line } ∷ left_of left)) }
 {
     match sign {
@@ -163,10 +164,10 @@ fn statement_by_sign(
 fn statement_by(
     alloc: Global,
     placed: Placed,
-    begun: VecDeque<Frame>,
+    begun: Box<VecDeque<Frame>>,
     left: Left,
 ) -> Result<State, AllocError>
-    ensures { IfOk result (λ s. state_of s ≡ meant.statement_by (all_begun begun.items a_block) (push f.block_behind (all_begun begun.items a_block))
+    ensures { IfOk result (λ s. state_of s ≡ meant.statement_by (all_begun begun.value.items a_block) (push f.block_behind (all_begun begun.value.items a_block))
         (token_meant (token_of placed.token)) placed.line (left_of left) (place_meant (place_of placed) ∷ left_of left)) }
 {
     let Placed { token, line } = placed;
@@ -181,15 +182,16 @@ fn statement_by(
 #[tactic(auto, using(crate::proofs::Words::no_block))]
 pub fn block_begins(
     alloc: Global,
-    begun: VecDeque<Frame>,
+    begun: Box<VecDeque<Frame>>,
     mut left: Left,
 ) -> Result<State, AllocError>
-    ensures { IfOk result (λ s. state_of s ≡ meant.block_begins (all_begun begun.items a_block) (left_of left)) }
+    ensures { IfOk result (λ s. state_of s ≡ meant.block_begins (all_begun begun.value.items a_block) (left_of left)) }
 {
     match left.take() {
         Some(placed) => statement_by(alloc, placed, begun, left),
         None => {
-            let next = Next::Found(Part::Block(no_statements(alloc)));
+            let block = Box::new(alloc, no_statements(alloc))?;
+            let next = Next::Found(Part::Block(block));
             Ok(State { next, begun, left })
         }
     }

@@ -32,14 +32,14 @@ fn last_branch(
     alloc: Global,
     condition: Found,
     block: Block,
-    begun: VecDeque<Frame>,
+    begun: Box<VecDeque<Frame>>,
     left: Left,
 ) -> Result<State, AllocError>
-    ensures { IfOk result (λ s. state_of s ≡ past_keyword t.endif_word (found (all_begun begun.items some_branches_read)
+    ensures { IfOk result (λ s. state_of s ≡ past_keyword t.endif_word (found (all_begun begun.value.items some_branches_read)
         (by.with_branch (found_of condition) (block_found block) by.no_more_branches)) (left_of left)) }
 {
     let branches = with_branch(condition, block, no_more_branches(alloc))?;
-    let next = Next::Found(Part::Branches(branches));
+    let next = Next::Found(Part::Branches(Box::new(alloc, branches)?));
     Ok(past_keyword(Keyword::EndIf, next, begun, left))
 }
 
@@ -48,19 +48,21 @@ fn branch_read(
     alloc: Global,
     condition: Found,
     block: Block,
-    begun: VecDeque<Frame>,
+    begun: Box<VecDeque<Frame>>,
     mut left: Left,
 ) -> Result<State, AllocError>
-    ensures { IfOk result (λ s. state_of s ≡ branch_read (found_of condition) (all_begun begun.items some_branches_read) (block_found block)
+    ensures { IfOk result (λ s. state_of s ≡ branch_read (found_of condition) (all_begun begun.value.items some_branches_read) (block_found block)
         (left_of left)) }
 {
     if left.take_keyword(Keyword::ElseIf) {
+        let block = Box::new(alloc, block)?;
         let frame = BranchesFrame::Behind { condition, block };
         let begun = begin(begun, Frame::Branches(frame))?;
         let next = Next::Branches;
         return Ok(State { next, begun, left });
     }
     if left.take_keyword(Keyword::Else) {
+        let block = Box::new(alloc, block)?;
         let frame = BranchesFrame::Behind { condition, block };
         let begun = begin(begun, Frame::Branches(frame))?;
         let begun = begin(begun, Frame::Block(BlockFrame::Else))?;
@@ -75,15 +77,16 @@ fn branch_read(
 fn arm_read(
     alloc: Global,
     variable: Option<Text>,
-    codes: FoundCodes,
+    codes: Box<FoundCodes>,
     block: Block,
-    begun: VecDeque<Frame>,
+    begun: Box<VecDeque<Frame>>,
     mut left: Left,
 ) -> Result<State, AllocError>
-    ensures { IfOk result (λ s. state_of s ≡ arm_read variable (codes_found codes) (all_begun begun.items some_arms_read) (block_found block)
+    ensures { IfOk result (λ s. state_of s ≡ arm_read variable (codes_found codes.value) (all_begun begun.value.items some_arms_read) (block_found block)
         (left_of left)) }
 {
     if left.take_keyword(Keyword::Except) {
+        let block = Box::new(alloc, block)?;
         let frame = ArmsFrame::Behind {
             variable,
             codes,
@@ -93,30 +96,30 @@ fn arm_read(
         let next = Next::Arms;
         return Ok(State { next, begun, left });
     }
+    let codes = Box::into_inner(codes);
     let arms = with_arm(variable, codes, block, no_more_arms(alloc))?;
-    let next = Next::Found(Part::Arms(arms));
+    let next = Next::Found(Part::Arms(Box::new(alloc, arms)?));
     Ok(past_keyword(Keyword::EndTry, next, begun, left))
 }
 
 // Behind what is tried: what is done finally, or handlers.
 fn tried_read(
+    alloc: Global,
     line: u64,
     block: Block,
-    begun: VecDeque<Frame>,
+    begun: Box<VecDeque<Frame>>,
     mut left: Left,
 ) -> Result<State, AllocError>
-    ensures { IfOk result (λ s. state_of s ≡ tried line (all_begun begun.items a_statement) (block_found block) (left_of left)) }
+    ensures { IfOk result (λ s. state_of s ≡ tried line (all_begun begun.value.items a_statement) (block_found block) (left_of left)) }
 {
+    let tried = Box::new(alloc, block)?;
     if left.take_keyword(Keyword::Finally) {
-        let begun = begin(
-            begun,
-            Frame::Block(BlockFrame::Finally { line, tried: block }),
-        )?;
+        let begun = begin(begun, Frame::Block(BlockFrame::Finally { line, tried }))?;
         let begun = begin(begun, Frame::Block(BlockFrame::To(Keyword::EndTry)))?;
         let next = Next::Block;
         return Ok(State { next, begun, left });
     }
-    let begun = begin(begun, Frame::Arms(ArmsFrame::Try { line, tried: block }))?;
+    let begun = begin(begun, Frame::Arms(ArmsFrame::Try { line, tried }))?;
     Ok(past_keyword(Keyword::Except, Next::Arms, begun, left))
 }
 
@@ -125,35 +128,36 @@ pub fn behind_block(
     alloc: Global,
     frame: BlockFrame,
     block: Block,
-    begun: VecDeque<Frame>,
+    begun: Box<VecDeque<Frame>>,
     left: Left,
 ) -> Result<State, AllocError>
-    ensures { IfOk result (λ s. state_of s ≡ found_by (block_begun frame (all_begun begun.items)) (block_found block) (left_of left)) }
+    ensures { IfOk result (λ s. state_of s ≡ found_by (block_begun frame (all_begun begun.value.items)) (block_found block) (left_of left)) }
 {
     match frame {
         BlockFrame::Behind(statement) => {
-            let block = and_block(statement, block)?;
-            let next = Next::Found(Part::Block(block));
+            let block = and_block(Box::into_inner(statement), block)?;
+            let next = Next::Found(Part::Block(Box::new(alloc, block)?));
             Ok(State { next, begun, left })
         }
         BlockFrame::To(keyword) => {
-            let next = Next::Found(Part::Block(block));
+            let next = Next::Found(Part::Block(Box::new(alloc, block)?));
             Ok(past_keyword(keyword, next, begun, left))
         }
         BlockFrame::Branch { condition } => branch_read(alloc, condition, block, begun, left),
         BlockFrame::Else => {
-            let next = Next::Found(Part::Branches(else_block(alloc, block)));
+            let branches = Box::new(alloc, else_block(alloc, block))?;
+            let next = Next::Found(Part::Branches(branches));
             Ok(State { next, begun, left })
         }
         BlockFrame::Body { line, body } => {
             let statement = with_body(alloc, line, body, block)?;
-            let next = Next::Found(Part::Statement(statement));
+            let next = Next::Found(Part::Statement(Box::new(alloc, statement)?));
             Ok(State { next, begun, left })
         }
-        BlockFrame::Tried { line } => tried_read(line, block, begun, left),
+        BlockFrame::Tried { line } => tried_read(alloc, line, block, begun, left),
         BlockFrame::Finally { line, tried } => {
-            let statement = finished_of(alloc, line, tried, block)?;
-            let next = Next::Found(Part::Statement(statement));
+            let statement = finished_of(line, Box::into_inner(tried), block)?;
+            let next = Next::Found(Part::Statement(Box::new(alloc, statement)?));
             Ok(State { next, begun, left })
         }
         BlockFrame::Arm { variable, codes } => {

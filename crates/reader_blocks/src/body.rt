@@ -11,7 +11,7 @@ ghost use Rattle.reader_frames.specs.FrameViews.{body_of};
 
 use crate::strays::{out_of_fork, out_of_loop};
 use moo_reader::block::{Block, FoundStatement, Stray};
-use moo_reader::found::Found;
+use moo_reader::found::{Found, Whole};
 use moo_reader::node::{Node, followed, under};
 use moo_tree::statement::{Statement, StatementNode};
 use moo_value::text::Text;
@@ -20,7 +20,6 @@ use std::alloc::{AllocError, Global};
 
 // A statement of this line with the nodes of its parts.
 fn statement(
-    alloc: Global,
     line: u64,
     node: StatementNode,
     nodes: Vec<Node>,
@@ -34,7 +33,7 @@ fn statement(
     }) }
 {
     let nodes = followed(nodes, of_body)?;
-    let nodes = under(alloc, line, &nodes)?;
+    let nodes = under(line, nodes)?;
     Ok(FoundStatement {
         tree: Statement { node },
         nodes,
@@ -52,7 +51,7 @@ fn over_list(
 ) -> Result<FoundStatement, AllocError>
     ensures { IfOk result (λ s. statement_found s ≡ f.with_body line (f.list_body variable (found_of list)) (block_found block)) }
 {
-    let Found { tree, nodes, .. } = list;
+    let Whole { tree, nodes } = Box::into_inner(list.whole);
     let Block {
         reversed: mut body,
         nodes: of_body,
@@ -66,7 +65,7 @@ fn over_list(
         list: tree,
         body,
     };
-    statement(alloc, line, node, nodes, &of_body, strays)
+    statement(line, node, nodes, &of_body, strays)
 }
 
 // Over a range of numbers.
@@ -80,12 +79,11 @@ fn over_range(
 ) -> Result<FoundStatement, AllocError>
     ensures { IfOk result (λ s. statement_found s ≡ f.with_body line (f.range_body variable (found_of first) (found_of last)) (block_found block)) }
 {
-    let Found { tree, nodes, .. } = first;
-    let Found {
+    let Whole { tree, nodes } = Box::into_inner(first.whole);
+    let Whole {
         tree: last,
         nodes: of_last,
-        ..
-    } = last;
+    } = Box::into_inner(last.whole);
     let Block {
         reversed: mut body,
         nodes: of_body,
@@ -101,7 +99,7 @@ fn over_range(
         last,
         body,
     };
-    statement(alloc, line, node, nodes, &of_body, strays)
+    statement(line, node, nodes, &of_body, strays)
 }
 
 // While a condition is true.
@@ -114,7 +112,7 @@ fn repeated(
 ) -> Result<FoundStatement, AllocError>
     ensures { IfOk result (λ s. statement_found s ≡ f.with_body line (f.while_body name (found_of condition)) (block_found block)) }
 {
-    let Found { tree, nodes, .. } = condition;
+    let Whole { tree, nodes } = Box::into_inner(condition.whole);
     let Block {
         reversed: mut body,
         nodes: of_body,
@@ -127,7 +125,7 @@ fn repeated(
         condition: tree,
         body,
     };
-    statement(alloc, line, node, nodes, &of_body, strays)
+    statement(line, node, nodes, &of_body, strays)
 }
 
 // Another task.
@@ -140,7 +138,7 @@ fn forked(
 ) -> Result<FoundStatement, AllocError>
     ensures { IfOk result (λ s. statement_found s ≡ f.with_body line (f.fork_body variable (found_of delay)) (block_found block)) }
 {
-    let Found { tree, nodes, .. } = delay;
+    let Whole { tree, nodes } = Box::into_inner(delay.whole);
     let Block {
         reversed: mut body,
         nodes: of_body,
@@ -153,7 +151,7 @@ fn forked(
         delay: tree,
         body,
     };
-    statement(alloc, line, node, nodes, &of_body, strays)
+    statement(line, node, nodes, &of_body, strays)
 }
 
 /// A loop or a fork behind its body.

@@ -20,20 +20,20 @@ pub fn behind_branches(
     alloc: Global,
     frame: BranchesFrame,
     branches: Branches,
-    begun: VecDeque<Frame>,
+    begun: Box<VecDeque<Frame>>,
     left: Left,
 ) -> Result<State, AllocError>
-    ensures { IfOk result (λ s. state_of s ≡ found_by (branches_begun frame (all_begun begun.items)) (branches_found branches) (left_of left)) }
+    ensures { IfOk result (λ s. state_of s ≡ found_by (branches_begun frame (all_begun begun.value.items)) (branches_found branches) (left_of left)) }
 {
     match frame {
         BranchesFrame::If { line } => {
-            let statement = branch_of(alloc, line, branches)?;
-            let next = Next::Found(Part::Statement(statement));
+            let statement = branch_of(line, branches)?;
+            let next = Next::Found(Part::Statement(Box::new(alloc, statement)?));
             Ok(State { next, begun, left })
         }
         BranchesFrame::Behind { condition, block } => {
-            let branches = with_branch(condition, block, branches)?;
-            let next = Next::Found(Part::Branches(branches));
+            let branches = with_branch(condition, Box::into_inner(block), branches)?;
+            let next = Next::Found(Part::Branches(Box::new(alloc, branches)?));
             Ok(State { next, begun, left })
         }
     }
@@ -44,15 +44,15 @@ pub fn behind_arms(
     alloc: Global,
     frame: ArmsFrame,
     arms: Arms,
-    begun: VecDeque<Frame>,
+    begun: Box<VecDeque<Frame>>,
     left: Left,
 ) -> Result<State, AllocError>
-    ensures { IfOk result (λ s. state_of s ≡ found_by (arms_begun frame (all_begun begun.items)) (arms_found arms) (left_of left)) }
+    ensures { IfOk result (λ s. state_of s ≡ found_by (arms_begun frame (all_begun begun.value.items)) (arms_found arms) (left_of left)) }
 {
     match frame {
         ArmsFrame::Try { line, tried } => {
-            let statement = guarded_of(alloc, line, tried, arms)?;
-            let next = Next::Found(Part::Statement(statement));
+            let statement = guarded_of(line, Box::into_inner(tried), arms)?;
+            let next = Next::Found(Part::Statement(Box::new(alloc, statement)?));
             Ok(State { next, begun, left })
         }
         ArmsFrame::Behind {
@@ -60,8 +60,9 @@ pub fn behind_arms(
             codes,
             block,
         } => {
-            let arms = with_arm(variable, codes, block, arms)?;
-            let next = Next::Found(Part::Arms(arms));
+            let codes = Box::into_inner(codes);
+            let arms = with_arm(variable, codes, Box::into_inner(block), arms)?;
+            let next = Next::Found(Part::Arms(Box::new(alloc, arms)?));
             Ok(State { next, begun, left })
         }
     }

@@ -26,10 +26,10 @@ use std::collections::VecDeque;
 /// An expression that is a part of a statement.
 pub fn part_begins(
     within: WithinStatement,
-    begun: VecDeque<Frame>,
+    begun: Box<VecDeque<Frame>>,
     left: Left,
 ) -> Result<State, AllocError>
-    ensures { IfOk result (λ s. state_of s ≡ goes (reads_expression false 0 (push (within_statement within) (all_begun begun.items a_statement)))
+    ensures { IfOk result (λ s. state_of s ≡ goes (reads_expression false 0 (push (within_statement within) (all_begun begun.value.items a_statement)))
         (left_of left)) }
 {
     let begun = begin(begun, Frame::Expression(ExpressionFrame::Statement(within)))?;
@@ -41,8 +41,8 @@ pub fn part_begins(
 }
 
 /// Behind `if`.
-pub fn if_begins(line: u64, begun: VecDeque<Frame>, left: Left) -> Result<State, AllocError>
-    ensures { IfOk result (λ s. state_of s ≡ goes (reads_branches (push (f.branches_of line) (all_begun begun.items a_statement))) (left_of left)) }
+pub fn if_begins(line: u64, begun: Box<VecDeque<Frame>>, left: Left) -> Result<State, AllocError>
+    ensures { IfOk result (λ s. state_of s ≡ goes (reads_branches (push (f.branches_of line) (all_begun begun.value.items a_statement))) (left_of left)) }
 {
     let begun = begin(begun, Frame::Branches(BranchesFrame::If { line }))?;
     let next = Next::Branches;
@@ -53,10 +53,10 @@ pub fn if_begins(line: u64, begun: VecDeque<Frame>, left: Left) -> Result<State,
 fn for_in(
     line: u64,
     variable: Text,
-    begun: VecDeque<Frame>,
+    begun: Box<VecDeque<Frame>>,
     mut left: Left,
 ) -> Result<State, AllocError>
-    ensures { IfOk result (λ s. state_of s ≡ meant.for_in line variable (all_begun begun.items a_statement) (left_of left)) }
+    ensures { IfOk result (λ s. state_of s ≡ meant.for_in line variable (all_begun begun.value.items a_statement) (left_of left)) }
 {
     if left.take_sign(Sign::OpenBracket) {
         let within = WithinStatement::RangeFirst { line, variable };
@@ -69,10 +69,10 @@ fn for_in(
 fn for_named(
     line: u64,
     variable: Text,
-    begun: VecDeque<Frame>,
+    begun: Box<VecDeque<Frame>>,
     mut left: Left,
 ) -> Result<State, AllocError>
-    ensures { IfOk result (λ s. state_of s ≡ meant.for_named line variable (all_begun begun.items a_statement) (left_of left)) }
+    ensures { IfOk result (λ s. state_of s ≡ meant.for_named line variable (all_begun begun.value.items a_statement) (left_of left)) }
 {
     if !left.take_keyword(Keyword::In) {
         return Ok(stuck(begun, left));
@@ -84,10 +84,10 @@ fn for_named(
 pub fn for_begins(
     alloc: Global,
     line: u64,
-    begun: VecDeque<Frame>,
+    begun: Box<VecDeque<Frame>>,
     mut left: Left,
 ) -> Result<State, AllocError>
-    ensures { IfOk result (λ s. state_of s ≡ meant.for_begins line (all_begun begun.items a_statement) (left_of left)) }
+    ensures { IfOk result (λ s. state_of s ≡ meant.for_begins line (all_begun begun.value.items a_statement) (left_of left)) }
 {
     let Some(word) = left.take_word()? else {
         return Ok(stuck(begun, left));
@@ -101,10 +101,10 @@ pub fn for_begins(
 pub fn while_begins(
     alloc: Global,
     line: u64,
-    begun: VecDeque<Frame>,
+    begun: Box<VecDeque<Frame>>,
     mut left: Left,
 ) -> Result<State, AllocError>
-    ensures { IfOk result (λ s. state_of s ≡ meant.while_begins line (all_begun begun.items a_statement) (left_of left)) }
+    ensures { IfOk result (λ s. state_of s ≡ meant.while_begins line (all_begun begun.value.items a_statement) (left_of left)) }
 {
     let name = perhaps_name(alloc, &mut left)?;
     head_begins(line, Head::While(name), begun, left)
@@ -115,18 +115,18 @@ pub fn while_begins(
 pub fn fork_begins(
     alloc: Global,
     line: u64,
-    begun: VecDeque<Frame>,
+    begun: Box<VecDeque<Frame>>,
     mut left: Left,
 ) -> Result<State, AllocError>
-    ensures { IfOk result (λ s. state_of s ≡ meant.fork_begins line (all_begun begun.items a_statement) (left_of left)) }
+    ensures { IfOk result (λ s. state_of s ≡ meant.fork_begins line (all_begun begun.value.items a_statement) (left_of left)) }
 {
     let name = perhaps_name(alloc, &mut left)?;
     head_begins(line, Head::Fork(name), begun, left)
 }
 
 /// Behind `try`.
-pub fn try_begins(line: u64, begun: VecDeque<Frame>, left: Left) -> Result<State, AllocError>
-    ensures { IfOk result (λ s. state_of s ≡ goes (reads_block (push (f.tried line) (all_begun begun.items a_statement))) (left_of left)) }
+pub fn try_begins(line: u64, begun: Box<VecDeque<Frame>>, left: Left) -> Result<State, AllocError>
+    ensures { IfOk result (λ s. state_of s ≡ goes (reads_block (push (f.tried line) (all_begun begun.value.items a_statement))) (left_of left)) }
 {
     let begun = begin(begun, Frame::Block(BlockFrame::Tried { line }))?;
     let next = Next::Block;
@@ -137,14 +137,14 @@ pub fn try_begins(line: u64, begun: VecDeque<Frame>, left: Left) -> Result<State
 pub fn return_begins(
     alloc: Global,
     line: u64,
-    begun: VecDeque<Frame>,
+    begun: Box<VecDeque<Frame>>,
     mut left: Left,
 ) -> Result<State, AllocError>
-    ensures { IfOk result (λ s. state_of s ≡ meant.return_begins line (all_begun begun.items a_statement) (left_of left)) }
+    ensures { IfOk result (λ s. state_of s ≡ meant.return_begins line (all_begun begun.value.items a_statement) (left_of left)) }
 {
     if left.take_sign(Sign::Semicolon) {
         let statement = returned_zero(alloc, line)?;
-        let next = Next::Found(Part::Statement(statement));
+        let next = Next::Found(Part::Statement(Box::new(alloc, statement)?));
         return Ok(State { next, begun, left });
     }
     part_begins(WithinStatement::Returned { line }, begun, left)

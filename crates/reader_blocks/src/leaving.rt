@@ -46,8 +46,7 @@ fn stray(
 ) -> Result<FoundStatement, AllocError>
     ensures { IfOk result (λ s. statement_found s ≡ by.stray line name (node_statement node)) }
 {
-    let none: Vec<Node> = Vec::new(alloc);
-    let nodes = under(alloc, line, &none)?;
+    let nodes = under(line, Vec::new(alloc))?;
     let mut strays = Vec::new(alloc);
     strays.push(Stray {
         line,
@@ -66,15 +65,15 @@ fn stray(
 pub fn break_begins(
     alloc: Global,
     line: u64,
-    begun: VecDeque<Frame>,
+    begun: Box<VecDeque<Frame>>,
     mut left: Left,
 ) -> Result<State, AllocError>
-    ensures { IfOk result (λ s. state_of s ≡ leaving_begins tree.leave_loop line (all_begun begun.items a_statement) (left_of left)) }
+    ensures { IfOk result (λ s. state_of s ≡ leaving_begins tree.leave_loop line (all_begun begun.value.items a_statement) (left_of left)) }
 {
     let name = perhaps_name(alloc, &mut left)?;
     let copy = copied(&name)?;
     let statement = stray(alloc, line, name, StatementNode::Break(copy))?;
-    Ok(statement_ended(statement, begun, left))
+    statement_ended(alloc, statement, begun, left)
 }
 
 /// `continue`.
@@ -82,13 +81,13 @@ pub fn break_begins(
 pub fn continue_begins(
     alloc: Global,
     line: u64,
-    begun: VecDeque<Frame>,
+    begun: Box<VecDeque<Frame>>,
     mut left: Left,
 ) -> Result<State, AllocError>
-    ensures { IfOk result (λ s. state_of s ≡ leaving_begins tree.next_turn line (all_begun begun.items a_statement) (left_of left)) }
+    ensures { IfOk result (λ s. state_of s ≡ leaving_begins tree.next_turn line (all_begun begun.value.items a_statement) (left_of left)) }
 {
     let name = perhaps_name(alloc, &mut left)?;
     let copy = copied(&name)?;
     let statement = stray(alloc, line, name, StatementNode::Continue(copy))?;
-    Ok(statement_ended(statement, begun, left))
+    statement_ended(alloc, statement, begun, left)
 }

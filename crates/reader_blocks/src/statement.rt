@@ -38,10 +38,10 @@ fn range_first(
     line: u64,
     variable: Text,
     first: Found,
-    begun: VecDeque<Frame>,
+    begun: Box<VecDeque<Frame>>,
     left: Left,
 ) -> Result<State, AllocError>
-    ensures { IfOk result (λ s. state_of s ≡ behind (f.range_first line variable) (all_begun begun.items a_statement) (found_of first) (left_of left)) }
+    ensures { IfOk result (λ s. state_of s ≡ behind (f.range_first line variable) (all_begun begun.value.items a_statement) (found_of first) (left_of left)) }
 {
     let within = WithinStatement::RangeLast {
         line,
@@ -62,10 +62,10 @@ fn range_last(
     variable: Text,
     first: Found,
     last: Found,
-    begun: VecDeque<Frame>,
+    begun: Box<VecDeque<Frame>>,
     mut left: Left,
 ) -> Result<State, AllocError>
-    ensures { IfOk result (λ s. state_of s ≡ behind (f.range_last line variable (found_of first)) (all_begun begun.items a_statement) (found_of last)
+    ensures { IfOk result (λ s. state_of s ≡ behind (f.range_last line variable (found_of first)) (all_begun begun.value.items a_statement) (found_of last)
         (left_of left)) }
 {
     if !left.take_sign(Sign::CloseBracket) {
@@ -79,19 +79,19 @@ pub fn behind_within_statement(
     alloc: Global,
     within: WithinStatement,
     found: Found,
-    begun: VecDeque<Frame>,
+    begun: Box<VecDeque<Frame>>,
     left: Left,
 ) -> Result<State, AllocError>
-    ensures { IfOk result (λ s. state_of s ≡ behind (within_statement within) (all_begun begun.items a_statement) (found_of found) (left_of left)) }
+    ensures { IfOk result (λ s. state_of s ≡ behind (within_statement within) (all_begun begun.value.items a_statement) (found_of found) (left_of left)) }
 {
     match within {
         WithinStatement::Evaluated { line } => {
             let statement = evaluated(alloc, line, found)?;
-            Ok(statement_ended(statement, begun, left))
+            statement_ended(alloc, statement, begun, left)
         }
         WithinStatement::Returned { line } => {
             let statement = returned(alloc, line, found)?;
-            Ok(statement_ended(statement, begun, left))
+            statement_ended(alloc, statement, begun, left)
         }
         WithinStatement::HeadOf { line, head } => {
             body_begins(line, body_of(head, found), begun, left)
@@ -110,10 +110,10 @@ pub fn behind_within_statement(
 /// Behind the condition of a branch.
 pub fn behind_condition(
     condition: Found,
-    begun: VecDeque<Frame>,
+    begun: Box<VecDeque<Frame>>,
     left: Left,
 ) -> Result<State, AllocError>
-    ensures { IfOk result (λ s. state_of s ≡ behind f.condition (all_begun begun.items some_branches_read) (found_of condition) (left_of left)) }
+    ensures { IfOk result (λ s. state_of s ≡ behind f.condition (all_begun begun.value.items some_branches_read) (found_of condition) (left_of left)) }
 {
     let begun = begin(begun, Frame::Block(BlockFrame::Branch { condition }))?;
     let next = Next::Block;
@@ -122,11 +122,12 @@ pub fn behind_condition(
 
 /// Behind a statement: those behind it.
 pub fn behind_statement(
-    statement: FoundStatement,
-    begun: VecDeque<Frame>,
+    statement: Box<FoundStatement>,
+    begun: Box<VecDeque<Frame>>,
     left: Left,
 ) -> Result<State, AllocError>
-    ensures { IfOk result (λ s. state_of s ≡ behind f.block_behind (all_begun begun.items a_block) (statement_found statement) (left_of left)) }
+    ensures { IfOk result (λ s. state_of s ≡ behind f.block_behind (all_begun begun.value.items a_block) (statement_found statement.value)
+        (left_of left)) }
 {
     let begun = begin(begun, Frame::Block(BlockFrame::Behind(statement)))?;
     let next = Next::Block;

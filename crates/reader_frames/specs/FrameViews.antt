@@ -59,8 +59,8 @@ within_expression (in_expression.Parentheses line) = f.in_parentheses line
 within_expression (in_expression.RightOf b k a j) = f.right_of b k (found_of a) (join_of j)
 within_expression (in_expression.ChosenFirst b k c) = f.chosen_first b k (found_of c)
 within_expression (in_expression.ChosenSecond b k c x) = f.chosen_second b k (found_of c) (found_of x)
-within_expression (in_expression.AssignedTo t line ns) = f.assigned_to (record { tree = own_length; line = line; nodes = nodes_of ns.items }) t
-within_expression (in_expression.ScatteredTo xs line ns) = f.scattered_to line (items_of xs.items) (nodes_of ns.items)
+within_expression (in_expression.AssignedTo t line ns) = f.assigned_to (record { tree = own_length; line = line; nodes = nodes_of ns.items }) t.value
+within_expression (in_expression.ScatteredTo xs line ns) = f.scattered_to line (items_of xs.value.items) (nodes_of ns.items)
 within_expression in_expression.Head = f.in_head
 
 abbrev pub within_operand : WithinOperand → f.Frame an_expression an_operand
@@ -71,7 +71,7 @@ within_operand (in_operand.VerbName b o) = f.verb_name b (operand_of o)
 within_operand (in_operand.Index b o) = f.index_in b (operand_of o)
 within_operand (in_operand.Range b o i) = f.range_in b (operand_of o) (found_of i)
 within_operand (in_operand.Caught b line) = f.caught_in b line
-within_operand (in_operand.Instead line e c) = f.caught_instead line (found_of e) (codes_found c)
+within_operand (in_operand.Instead line e c) = f.caught_instead line (found_of e) (codes_found c.value)
 
 abbrev pub within_items : WithinItems → f.Frame an_expression some_items_read
 within_items (in_items.Value b a spliced) = f.item_expression b (allowed_of a) spliced
@@ -117,22 +117,22 @@ codes_begun (behind_codes.Caught b line e) gs = push (f.caught_codes b line (fou
 codes_begun (behind_codes.Arm x) gs = push (f.codes_of_arm x) (gs some_arms_read)
 
 abbrev pub block_begun : BlockFrame → Others → Frames a_block
-block_begun (behind_block.Behind s) gs = push (f.statement_before (statement_found s)) (gs a_block)
+block_begun (behind_block.Behind s) gs = push (f.statement_before (statement_found s.value)) (gs a_block)
 block_begun (behind_block.To k) gs = push (f.to_word (keyword_meant k)) (gs a_block)
 block_begun (behind_block.Branch c) gs = push (f.block_of_branch (found_of c)) (gs some_branches_read)
 block_begun behind_block.Else gs = push f.as_else (gs some_branches_read)
 block_begun (behind_block.Body line b) gs = push (f.block_of_body line (body_of b)) (gs a_statement)
 block_begun (behind_block.Tried line) gs = push (f.tried line) (gs a_statement)
-block_begun (behind_block.Finally line p) gs = push (f.finally_of line (block_found p)) (gs a_statement)
-block_begun (behind_block.Arm x c) gs = push (f.block_of_arm x (codes_found c)) (gs some_arms_read)
+block_begun (behind_block.Finally line p) gs = push (f.finally_of line (block_found p.value)) (gs a_statement)
+block_begun (behind_block.Arm x c) gs = push (f.block_of_arm x (codes_found c.value)) (gs some_arms_read)
 
 abbrev pub branches_begun : BranchesFrame → Others → Frames some_branches_read
 branches_begun (behind_branches.If line) gs = push (f.branches_of line) (gs a_statement)
-branches_begun (behind_branches.Behind c p) gs = push (f.branch_before (found_of c) (block_found p)) (gs some_branches_read)
+branches_begun (behind_branches.Behind c p) gs = push (f.branch_before (found_of c) (block_found p.value)) (gs some_branches_read)
 
 abbrev pub arms_begun : ArmsFrame → Others → Frames some_arms_read
-arms_begun (behind_arms.Try line p) gs = push (f.arms_of line (block_found p)) (gs a_statement)
-arms_begun (behind_arms.Behind x c p) gs = push (f.arm_before x (codes_found c) (block_found p)) (gs some_arms_read)
+arms_begun (behind_arms.Try line p) gs = push (f.arms_of line (block_found p.value)) (gs a_statement)
+arms_begun (behind_arms.Behind x c p) gs = push (f.arm_before x (codes_found c.value) (block_found p.value)) (gs some_arms_read)
 
 -- ---- all of them
 

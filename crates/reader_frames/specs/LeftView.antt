@@ -12,7 +12,7 @@ use Rattle.reader_frames.specs.declared.left.Left.{Left}
 use Rattle.reader_frames.specs.declared.left.Word.{Word}
 
 abbrev pub left_of : Left → List meant.Placed
-left_of l = all_meant (places l.tokens.items) (ending_of l.fault)
+left_of l = all_meant (places l.rest.value.tokens.items) (ending_of l.rest.value.fault)
 
 abbrev pub word_of : Option Word → Option (Text × ℕ)
 word_of None = None

@@ -16,13 +16,13 @@ use Rattle.reader_frames.specs.FrameViews.{all_begun}
 abbrev pub part_found : Part → List Frame → meant.Next
 part_found (part.Expression e) gs = meant.found (all_begun gs an_expression) (found_of e)
 part_found (part.Operand o) gs = meant.found (all_begun gs an_operand) (operand_of o)
-part_found (part.Arguments es) gs = meant.found (all_begun gs some_arguments_read) (arguments_found es)
-part_found (part.Items g) gs = meant.found (all_begun gs some_items_read) (items_found g)
-part_found (part.Codes c) gs = meant.found (all_begun gs some_codes_read) (codes_found c)
-part_found (part.Statement s) gs = meant.found (all_begun gs a_statement) (statement_found s)
-part_found (part.Block p) gs = meant.found (all_begun gs a_block) (block_found p)
-part_found (part.Branches b) gs = meant.found (all_begun gs some_branches_read) (branches_found b)
-part_found (part.Arms a) gs = meant.found (all_begun gs some_arms_read) (arms_found a)
+part_found (part.Arguments es) gs = meant.found (all_begun gs some_arguments_read) (arguments_found es.value)
+part_found (part.Items g) gs = meant.found (all_begun gs some_items_read) (items_found g.value)
+part_found (part.Codes c) gs = meant.found (all_begun gs some_codes_read) (codes_found c.value)
+part_found (part.Statement s) gs = meant.found (all_begun gs a_statement) (statement_found s.value)
+part_found (part.Block p) gs = meant.found (all_begun gs a_block) (block_found p.value)
+part_found (part.Branches b) gs = meant.found (all_begun gs some_branches_read) (branches_found b.value)
+part_found (part.Arms a) gs = meant.found (all_begun gs some_arms_read) (arms_found a.value)
 
 abbrev pub next_of : Next → List Frame → meant.Next
 next_of (next.Found p) gs = part_found p gs
@@ -37,4 +37,4 @@ next_of next.Arms gs = meant.reads_arms (all_begun gs some_arms_read)
 next_of next.Sticks gs = meant.sticks
 
 abbrev pub state_of : State → meant.State
-state_of s = record { next = next_of s.next s.begun.items; left = left_of s.left }
+state_of s = record { next = next_of s.next s.begun.value.items; left = left_of s.left }

@@ -31,13 +31,14 @@ pub fn arguments_to(
     alloc: Global,
     sign: Sign,
     brackets: bool,
-    begun: VecDeque<Frame>,
+    begun: Box<VecDeque<Frame>>,
     mut left: Left,
 ) -> Result<State, AllocError>
-    ensures { IfOk result (λ s. state_of s ≡ by.arguments_to (sign_meant sign) brackets (all_begun begun.items some_arguments_read) (left_of left)) }
+    ensures { IfOk result (λ s. state_of s ≡ by.arguments_to (sign_meant sign) brackets (all_begun begun.value.items some_arguments_read) (left_of left)) }
 {
     if left.take_sign(sign) {
-        let next = Next::Found(Part::Arguments(no_arguments(alloc)));
+        let arguments = Box::new(alloc, no_arguments(alloc))?;
+        let next = Next::Found(Part::Arguments(arguments));
         return Ok(State { next, begun, left });
     }
     let begun = begin(begun, Frame::Arguments(ArgumentsFrame::To(sign)))?;
@@ -51,10 +52,10 @@ pub fn items_on(
     brackets: bool,
     allowed: Allowed,
     item: BracedItem,
-    begun: VecDeque<Frame>,
+    begun: Box<VecDeque<Frame>>,
     mut left: Left,
 ) -> Result<State, AllocError>
-    ensures { IfOk result (λ s. state_of s ≡ by.items_on brackets (allowed_of allowed) (item_of item) (all_begun begun.items some_items_read)
+    ensures { IfOk result (λ s. state_of s ≡ by.items_on brackets (allowed_of allowed) (item_of item) (all_begun begun.value.items some_items_read)
         (left_of left)) }
 {
     if left.take_sign(Sign::Comma) {
@@ -63,7 +64,7 @@ pub fn items_on(
         return Ok(State { next, begun, left });
     }
     let items = with_item(alloc, item, no_more(alloc, allowed))?;
-    let next = Next::Found(Part::Items(items));
+    let next = Next::Found(Part::Items(Box::new(alloc, items)?));
     Ok(past_sign(Sign::CloseBrace, next, begun, left))
 }
 
@@ -71,17 +72,17 @@ pub fn items_on(
 pub fn codes_begin(
     alloc: Global,
     brackets: bool,
-    begun: VecDeque<Frame>,
+    begun: Box<VecDeque<Frame>>,
     mut left: Left,
 ) -> Result<State, AllocError>
-    ensures { IfOk result (λ s. state_of s ≡ by.codes_begin brackets (all_begun begun.items some_codes_read) (left_of left)) }
+    ensures { IfOk result (λ s. state_of s ≡ by.codes_begin brackets (all_begun begun.value.items some_codes_read) (left_of left)) }
 {
     if left.take_keyword(Keyword::Any) {
         let codes = FoundCodes {
             tree: Codes::Any,
             nodes: Vec::new(alloc),
         };
-        let next = Next::Found(Part::Codes(codes));
+        let next = Next::Found(Part::Codes(Box::new(alloc, codes)?));
         return Ok(State { next, begun, left });
     }
     let begun = begin(begun, Frame::Arguments(ArgumentsFrame::Codes))?;
@@ -90,21 +91,26 @@ pub fn codes_begin(
 }
 
 /// A statement, which ends with a semicolon.
-pub fn statement_ended(statement: FoundStatement, begun: VecDeque<Frame>, left: Left) -> State
-    ensures { state_of result ≡ by.statement_ended (statement_found statement) (all_begun begun.items a_statement) (left_of left) }
+pub fn statement_ended(
+    alloc: Global,
+    statement: FoundStatement,
+    begun: Box<VecDeque<Frame>>,
+    left: Left,
+) -> Result<State, AllocError>
+    ensures { IfOk result (λ s. state_of s ≡ by.statement_ended (statement_found statement) (all_begun begun.value.items a_statement) (left_of left)) }
 {
-    let next = Next::Found(Part::Statement(statement));
-    past_sign(Sign::Semicolon, next, begun, left)
+    let next = Next::Found(Part::Statement(Box::new(alloc, statement)?));
+    Ok(past_sign(Sign::Semicolon, next, begun, left))
 }
 
 /// The expression of a head in its parentheses.
 pub fn head_begins(
     line: u64,
     head: Head,
-    begun: VecDeque<Frame>,
+    begun: Box<VecDeque<Frame>>,
     left: Left,
 ) -> Result<State, AllocError>
-    ensures { IfOk result (λ s. state_of s ≡ by.head_begins line (head_of head) (all_begun begun.items a_statement) (left_of left)) }
+    ensures { IfOk result (λ s. state_of s ≡ by.head_begins line (head_of head) (all_begun begun.value.items a_statement) (left_of left)) }
 {
     let within = WithinStatement::HeadOf { line, head };
     let begun = begin(begun, Frame::Expression(ExpressionFrame::Statement(within)))?;
@@ -135,10 +141,10 @@ fn end_word(body: &Body) -> Keyword
 pub fn body_begins(
     line: u64,
     body: Body,
-    begun: VecDeque<Frame>,
+    begun: Box<VecDeque<Frame>>,
     left: Left,
 ) -> Result<State, AllocError>
-    ensures { IfOk result (λ s. state_of s ≡ goes (by.body_begins line (body_of body) (all_begun begun.items a_statement)) (left_of left)) }
+    ensures { IfOk result (λ s. state_of s ≡ goes (by.body_begins line (body_of body) (all_begun begun.value.items a_statement)) (left_of left)) }
 {
     let end = end_word(&body);
     let begun = begin(begun, Frame::Block(BlockFrame::Body { line, body }))?;

@@ -66,13 +66,13 @@ pub enum WithinExpression {
     },
     /// The value of an assignment to a target with this line and these nodes.
     AssignedTo {
-        target: Target,
+        target: Box<Target>,
         line: u64,
         nodes: Vec<Node>,
     },
     /// The value of a scatter. The nodes are those of its defaults.
     ScatteredTo {
-        items: Vec<Item>,
+        items: Box<Vec<Item>>,
         line: u64,
         nodes: Vec<Node>,
     },
@@ -120,7 +120,7 @@ pub enum WithinOperand {
     Instead {
         line: u64,
         caught: Found,
-        codes: FoundCodes,
+        codes: Box<FoundCodes>,
     },
 }
 
@@ -236,7 +236,7 @@ pub enum CodesFrame {
 #[derive(Drop)]
 pub enum BlockFrame {
     /// A statement before it.
-    Behind(FoundStatement),
+    Behind(Box<FoundStatement>),
     /// Up to this word.
     To(Keyword),
     /// A branch, by its condition.
@@ -256,12 +256,12 @@ pub enum BlockFrame {
     /// What is done finally behind what is tried.
     Finally {
         line: u64,
-        tried: Block,
+        tried: Box<Block>,
     },
     /// A handler.
     Arm {
         variable: Option<Text>,
-        codes: FoundCodes,
+        codes: Box<FoundCodes>,
     },
 }
 
@@ -271,7 +271,7 @@ pub enum BranchesFrame {
     /// An `if`.
     If { line: u64 },
     /// A branch before them.
-    Behind { condition: Found, block: Block },
+    Behind { condition: Found, block: Box<Block> },
 }
 
 /// Something that goes on behind handlers.
@@ -280,12 +280,12 @@ pub enum ArmsFrame {
     /// A `try`.
     Try {
         line: u64,
-        tried: Block,
+        tried: Box<Block>,
     },
     /// A handler before them.
     Behind {
         variable: Option<Text>,
-        codes: FoundCodes,
-        block: Block,
+        codes: Box<FoundCodes>,
+        block: Box<Block>,
     },
 }

@@ -18,11 +18,17 @@ use moo_value::text::Text;
 use std::alloc::AllocError;
 use std::collections::VecDeque;
 
-/// The tokens that are left, up to the end of the text or up to its first fault.
+/// Tokens up to the end of the text or up to its first fault.
 #[derive(Drop)]
-pub struct Left {
+pub struct Rest {
     pub tokens: VecDeque<Placed>,
     pub fault: Option<TokenFault>,
+}
+
+/// The tokens that are left.
+#[derive(Drop)]
+pub struct Left {
+    pub rest: Box<Rest>,
 }
 
 /// A word as it is written, and its line.
@@ -35,16 +41,16 @@ pub struct Word {
 impl Left {
     /// Takes the next token, if there is one.
     pub fn take(&mut self) -> Option<Placed>
-        ensures { Takes (left_of self.old) result (left_of self.new) self.new.fault }
+        ensures { Takes (left_of self.old) result (left_of self.new) self.new.rest.value.fault }
     {
-        self.tokens.pop_front()
+        self.rest.tokens.pop_front()
     }
 
     /// Puts a token back before the others.
     pub fn put_back(&mut self, placed: Placed) -> Result<(), AllocError>
         ensures { OnOk result (left_of self.new ≡ place_meant (place_of placed) ∷ left_of self.old) }
     {
-        self.tokens.push_front(placed)?;
+        self.rest.tokens.push_front(placed)?;
         Ok(())
     }
 
@@ -52,7 +58,7 @@ impl Left {
     pub fn begins_with(&self, sign: Sign) -> bool
         ensures { result ≡ begins_with (sign_meant sign) (left_of self.now) }
     {
-        match self.tokens.front() {
+        match self.rest.tokens.front() {
             Some(placed) => is_sign(sign, &placed.token),
             None => false,
         }
@@ -62,7 +68,7 @@ impl Left {
     fn begins_with_keyword(&self, keyword: Keyword) -> bool
         ensures { result ≡ begins_with_keyword (keyword_meant keyword) (left_of self.now) }
     {
-        match self.tokens.front() {
+        match self.rest.tokens.front() {
             Some(placed) => is_keyword(keyword, &placed.token),
             None => false,
         }
@@ -75,7 +81,7 @@ impl Left {
     {
         let there = self.begins_with(sign);
         if there {
-            self.tokens.pop_front();
+            self.rest.tokens.pop_front();
         }
         there
     }
@@ -87,7 +93,7 @@ impl Left {
     {
         let there = self.begins_with_keyword(keyword);
         if there {
-            self.tokens.pop_front();
+            self.rest.tokens.pop_front();
         }
         there
     }
@@ -118,7 +124,7 @@ impl Left {
     fn second_ends_item(&self) -> bool
         ensures { result ≡ second_ends_item (left_of self.now) }
     {
-        match self.tokens.get(1) {
+        match self.rest.tokens.get(1) {
             Some(placed) => {
                 is_sign(Sign::Comma, &placed.token) || is_sign(Sign::CloseBrace, &placed.token)
             }

@@ -20,13 +20,13 @@ use std::collections::VecDeque;
 pub enum Part {
     Expression(Found),
     Operand(Operand),
-    Arguments(Arguments),
-    Items(Items),
-    Codes(FoundCodes),
-    Statement(FoundStatement),
-    Block(Block),
-    Branches(Branches),
-    Arms(Arms),
+    Arguments(Box<Arguments>),
+    Items(Box<Items>),
+    Codes(Box<FoundCodes>),
+    Statement(Box<FoundStatement>),
+    Block(Box<Block>),
+    Branches(Box<Branches>),
+    Arms(Box<Arms>),
 }
 
 /// What is read next, or was found.
@@ -67,20 +67,23 @@ pub enum Next {
 #[derive(Drop)]
 pub struct State {
     pub next: Next,
-    pub begun: VecDeque<Frame>,
+    pub begun: Box<VecDeque<Frame>>,
     pub left: Left,
 }
 
 /// Something more that was begun.
-pub fn begin(mut begun: VecDeque<Frame>, frame: Frame) -> Result<VecDeque<Frame>, AllocError>
-    ensures { IfOk result (λ g. g.items ≡ frame ∷ begun.items) }
+pub fn begin(
+    mut begun: Box<VecDeque<Frame>>,
+    frame: Frame,
+) -> Result<Box<VecDeque<Frame>>, AllocError>
+    ensures { IfOk result (λ g. g.value.items ≡ frame ∷ begun.value.items) }
 {
     begun.push_front(frame)?;
     Ok(begun)
 }
 
 /// No program goes on with the next token.
-pub fn stuck(begun: VecDeque<Frame>, left: Left) -> State
+pub fn stuck(begun: Box<VecDeque<Frame>>, left: Left) -> State
     ensures { state_of result ≡ stops (left_of left) }
 {
     State {
@@ -102,8 +105,8 @@ fn discard(next: Next) {
 }
 
 /// What is next behind a sign that has to be there.
-pub fn past_sign(sign: Sign, next: Next, begun: VecDeque<Frame>, mut left: Left) -> State
-    ensures { state_of result ≡ by.past_sign (sign_meant sign) (next_of next begun.items) (left_of left) }
+pub fn past_sign(sign: Sign, next: Next, begun: Box<VecDeque<Frame>>, mut left: Left) -> State
+    ensures { state_of result ≡ by.past_sign (sign_meant sign) (next_of next begun.value.items) (left_of left) }
 {
     if left.take_sign(sign) {
         State { next, begun, left }
@@ -114,8 +117,13 @@ pub fn past_sign(sign: Sign, next: Next, begun: VecDeque<Frame>, mut left: Left)
 }
 
 /// What is next behind a word that has to be there.
-pub fn past_keyword(keyword: Keyword, next: Next, begun: VecDeque<Frame>, mut left: Left) -> State
-    ensures { state_of result ≡ by.past_keyword (keyword_meant keyword) (next_of next begun.items) (left_of left) }
+pub fn past_keyword(
+    keyword: Keyword,
+    next: Next,
+    begun: Box<VecDeque<Frame>>,
+    mut left: Left,
+) -> State
+    ensures { state_of result ≡ by.past_keyword (keyword_meant keyword) (next_of next begun.value.items) (left_of left) }
 {
     if left.take_keyword(keyword) {
         State { next, begun, left }

@@ -29,8 +29,8 @@ use std::alloc::{AllocError, Global};
 use std::collections::VecDeque;
 
 // Takes what was begun last.
-fn pop(begun: &mut VecDeque<Frame>) -> Option<Frame>
-    ensures { Pops begun.old.items result begun.new.items }
+fn pop(begun: &mut Box<VecDeque<Frame>>) -> Option<Frame>
+    ensures { Pops begun.old.value.items result begun.new.value.items }
 {
     begun.pop_front()
 }
@@ -40,10 +40,10 @@ fn behind_expression(
     alloc: Global,
     frame: ExpressionFrame,
     found: Found,
-    begun: VecDeque<Frame>,
+    begun: Box<VecDeque<Frame>>,
     left: Left,
 ) -> Result<State, AllocError>
-    ensures { IfOk result (λ s. state_of s ≡ found_by (expression_begun frame (all_begun begun.items)) (found_of found) (left_of left)) }
+    ensures { IfOk result (λ s. state_of s ≡ found_by (expression_begun frame (all_begun begun.value.items)) (found_of found) (left_of left)) }
 {
     match frame {
         ExpressionFrame::Expression(within) => {
@@ -66,10 +66,10 @@ fn behind_expression(
 fn found_expression(
     alloc: Global,
     found: Found,
-    mut begun: VecDeque<Frame>,
+    mut begun: Box<VecDeque<Frame>>,
     left: Left,
 ) -> Result<State, AllocError>
-    ensures { IfOk result (λ s. state_of s ≡ found_by (all_begun begun.items an_expression) (found_of found) (left_of left)) }
+    ensures { IfOk result (λ s. state_of s ≡ found_by (all_begun begun.value.items an_expression) (found_of found) (left_of left)) }
 {
     let Some(Frame::Expression(frame)) = pop(&mut begun) else {
         return Err(AllocError);
@@ -80,10 +80,10 @@ fn found_expression(
 fn found_operand(
     alloc: Global,
     operand: Operand,
-    mut begun: VecDeque<Frame>,
+    mut begun: Box<VecDeque<Frame>>,
     left: Left,
 ) -> Result<State, AllocError>
-    ensures { IfOk result (λ s. state_of s ≡ found_by (all_begun begun.items an_operand) (operand_of operand) (left_of left)) }
+    ensures { IfOk result (λ s. state_of s ≡ found_by (all_begun begun.value.items an_operand) (operand_of operand) (left_of left)) }
 {
     let Some(Frame::Operand(frame)) = pop(&mut begun) else {
         return Err(AllocError);
@@ -94,10 +94,10 @@ fn found_operand(
 fn found_arguments(
     alloc: Global,
     arguments: Arguments,
-    mut begun: VecDeque<Frame>,
+    mut begun: Box<VecDeque<Frame>>,
     left: Left,
 ) -> Result<State, AllocError>
-    ensures { IfOk result (λ s. state_of s ≡ found_by (all_begun begun.items some_arguments_read) (arguments_found arguments) (left_of left)) }
+    ensures { IfOk result (λ s. state_of s ≡ found_by (all_begun begun.value.items some_arguments_read) (arguments_found arguments) (left_of left)) }
 {
     let Some(Frame::Arguments(frame)) = pop(&mut begun) else {
         return Err(AllocError);
@@ -108,10 +108,10 @@ fn found_arguments(
 fn found_items(
     alloc: Global,
     items: Items,
-    mut begun: VecDeque<Frame>,
+    mut begun: Box<VecDeque<Frame>>,
     left: Left,
 ) -> Result<State, AllocError>
-    ensures { IfOk result (λ s. state_of s ≡ found_by (all_begun begun.items some_items_read) (items_found items) (left_of left)) }
+    ensures { IfOk result (λ s. state_of s ≡ found_by (all_begun begun.value.items some_items_read) (items_found items) (left_of left)) }
 {
     let Some(Frame::Items(frame)) = pop(&mut begun) else {
         return Err(AllocError);
@@ -122,10 +122,10 @@ fn found_items(
 fn found_codes(
     alloc: Global,
     codes: FoundCodes,
-    mut begun: VecDeque<Frame>,
+    mut begun: Box<VecDeque<Frame>>,
     left: Left,
 ) -> Result<State, AllocError>
-    ensures { IfOk result (λ s. state_of s ≡ found_by (all_begun begun.items some_codes_read) (codes_found codes) (left_of left)) }
+    ensures { IfOk result (λ s. state_of s ≡ found_by (all_begun begun.value.items some_codes_read) (codes_found codes) (left_of left)) }
 {
     let Some(Frame::Codes(frame)) = pop(&mut begun) else {
         return Err(AllocError);
@@ -136,10 +136,10 @@ fn found_codes(
 fn found_branches(
     alloc: Global,
     branches: Branches,
-    mut begun: VecDeque<Frame>,
+    mut begun: Box<VecDeque<Frame>>,
     left: Left,
 ) -> Result<State, AllocError>
-    ensures { IfOk result (λ s. state_of s ≡ found_by (all_begun begun.items some_branches_read) (branches_found branches) (left_of left)) }
+    ensures { IfOk result (λ s. state_of s ≡ found_by (all_begun begun.value.items some_branches_read) (branches_found branches) (left_of left)) }
 {
     let Some(Frame::Branches(frame)) = pop(&mut begun) else {
         return Err(AllocError);
@@ -150,10 +150,10 @@ fn found_branches(
 fn found_arms(
     alloc: Global,
     arms: Arms,
-    mut begun: VecDeque<Frame>,
+    mut begun: Box<VecDeque<Frame>>,
     left: Left,
 ) -> Result<State, AllocError>
-    ensures { IfOk result (λ s. state_of s ≡ found_by (all_begun begun.items some_arms_read) (arms_found arms) (left_of left)) }
+    ensures { IfOk result (λ s. state_of s ≡ found_by (all_begun begun.value.items some_arms_read) (arms_found arms) (left_of left)) }
 {
     let Some(Frame::Arms(frame)) = pop(&mut begun) else {
         return Err(AllocError);
@@ -162,11 +162,11 @@ fn found_arms(
 }
 
 fn found_statement(
-    statement: FoundStatement,
-    mut begun: VecDeque<Frame>,
+    statement: Box<FoundStatement>,
+    mut begun: Box<VecDeque<Frame>>,
     left: Left,
 ) -> Result<State, AllocError>
-    ensures { IfOk result (λ s. state_of s ≡ found_by (all_begun begun.items a_statement) (statement_found statement) (left_of left)) }
+    ensures { IfOk result (λ s. state_of s ≡ found_by (all_begun begun.value.items a_statement) (statement_found statement.value) (left_of left)) }
 {
     let Some(Frame::Statement) = pop(&mut begun) else {
         return Err(AllocError);
@@ -177,18 +177,24 @@ fn found_statement(
 // A block under nothing is the whole text.
 fn found_block(
     alloc: Global,
-    block: Block,
-    mut begun: VecDeque<Frame>,
+    block: Box<Block>,
+    mut begun: Box<VecDeque<Frame>>,
     left: Left,
 ) -> Result<State, AllocError>
-    ensures { IfOk result (λ s. state_of s ≡ found_by (all_begun begun.items a_block) (block_found block) (left_of left)) }
+    ensures { IfOk result (λ s. state_of s ≡ found_by (all_begun begun.value.items a_block) (block_found block.value) (left_of left)) }
 {
     match pop(&mut begun) {
         None => {
             let next = Next::Found(Part::Block(block));
             Ok(State { next, begun, left })
         }
-        Some(Frame::Block(frame)) => behind_block(alloc, frame, block, begun, left),
+        Some(Frame::Block(frame)) => behind_block(
+            alloc,
+            frame,
+            Box::into_inner(block),
+            begun,
+            left,
+        ),
         Some(_) => Err(AllocError),
     }
 }
@@ -197,20 +203,25 @@ fn found_block(
 pub fn behind_found(
     alloc: Global,
     part: Part,
-    begun: VecDeque<Frame>,
+    begun: Box<VecDeque<Frame>>,
     left: Left,
 ) -> Result<State, AllocError>
-    ensures { IfOk result (λ s. state_of s ≡ step_of (part_found part begun.items) (left_of left)) }
+    ensures { IfOk result (λ s. state_of s ≡ step_of (part_found part begun.value.items) (left_of left)) }
 {
     match part {
         Part::Expression(found) => found_expression(alloc, found, begun, left),
         Part::Operand(operand) => found_operand(alloc, operand, begun, left),
-        Part::Arguments(arguments) => found_arguments(alloc, arguments, begun, left),
-        Part::Items(items) => found_items(alloc, items, begun, left),
-        Part::Codes(codes) => found_codes(alloc, codes, begun, left),
+        Part::Arguments(arguments) => found_arguments(
+            alloc,
+            Box::into_inner(arguments),
+            begun,
+            left,
+        ),
+        Part::Items(items) => found_items(alloc, Box::into_inner(items), begun, left),
+        Part::Codes(codes) => found_codes(alloc, Box::into_inner(codes), begun, left),
         Part::Statement(statement) => found_statement(statement, begun, left),
         Part::Block(block) => found_block(alloc, block, begun, left),
-        Part::Branches(branches) => found_branches(alloc, branches, begun, left),
-        Part::Arms(arms) => found_arms(alloc, arms, begun, left),
+        Part::Branches(branches) => found_branches(alloc, Box::into_inner(branches), begun, left),
+        Part::Arms(arms) => found_arms(alloc, Box::into_inner(arms), begun, left),
     }
 }

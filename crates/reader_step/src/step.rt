@@ -26,10 +26,10 @@ fn expression_begins(
     alloc: Global,
     brackets: bool,
     level: u8,
-    begun: VecDeque<Frame>,
+    begun: Box<VecDeque<Frame>>,
     left: Left,
 ) -> Result<State, AllocError>
-    ensures { IfOk result (λ s. state_of s ≡ operand_begins brackets level (push (f.value_behind brackets level) (all_begun begun.items an_expression))
+    ensures { IfOk result (λ s. state_of s ≡ operand_begins brackets level (push (f.value_behind brackets level) (all_begun begun.value.items an_expression))
         (left_of left)) }
 {
     let begun = begin(

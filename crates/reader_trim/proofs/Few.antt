@@ -7,12 +7,19 @@ use Rattle.spec_program.specs.Reading as meant
 use Rattle.spec_program.specs.ReadPrograms.{too_deep}
 use Rattle.spec_program.specs.ReadExpressions as by
 use Rattle.spec_program.specs.KeptNodes.{kept}
-use Rattle.spec_program.specs.Similar.{Similar, SimilarTarget, no_target, a_target, SimilarBraces, SimilarOperand}
+use Rattle.spec_program.specs.ReadExpressions.{no_braces}
+use Rattle.spec_program.specs.Similar.{Similar, SimilarTarget, no_target, a_target, SimilarBraces, SimilarOperand, none, perhaps, surely}
 use Rattle.spec_program.proofs.KeptNodesTell.{kept_of_both}
 use Rattle.moo_reader.specs.declared.node.Node.{Node}
 use Rattle.moo_reader.specs.Nodes.{nodes_of}
-use Rattle.moo_reader.specs.Views.{target_if}
-use Rattle.reader_trim.specs.Shallow.{IsShallowOperand}
+use Rattle.moo_reader.specs.Views.{target_if, braces_of}
+use Rattle.moo_reader.specs.declared.found.Whole.{Whole}
+use Rattle.moo_reader.specs.declared.found.Scattering.{Scattering}
+use Rattle.moo_reader.specs.declared.found.Braces.{Braces}
+use Rattle.moo_reader.specs.declared.found.Braces.TheVariants.{NoScatter, PerhapsScatter, SurelyScatter}
+use Rattle.std.specs.Prelude.{Box}
+use Rattle.std.specs.Global.{Global}
+use Rattle.reader_trim.specs.Shallow.{IsShallowOperand, IsFew, IsFewOperand}
 
 -- what is kept of what is kept is the same
 kept_again : (ns ms : List meant.Node) → ms ≡ kept ns → kept ns ≡ kept ms
@@ -44,18 +51,56 @@ either_target ns ms (Some t) (Some u) k e s = a_target ns ms t u (record { nodes
 either_target ns ms None (Some u) k e s = absurd (cc)
 either_target ns ms (Some t) None k e s = absurd (cc)
 
-pub few_of_operand : (line : ℕ) (ns ks ds ms : List Node) (e d : Expr) (b r : Bool) (bs cs : by.Braces) → ks ≡ ns → ds ≡ ns
-    → nodes_of ms ≡ kept (nodes_of ks) → IsShallowOperand (nodes_of ds) b e d → SimilarBraces bs cs
-    → SimilarOperand
-    (record { found = record { tree = e; line = line; nodes = nodes_of ns }; target = target_if b e; ranged = r; braces = bs })
-    (record { found = record { tree = d; line = line; nodes = nodes_of ms }; target = target_if b d; ranged = r; braces = cs })
-few_of_operand line ns ks ds ms e d b r bs cs i j h s c =
-    let shallow = subst (λ n. IsShallowOperand (nodes_of n) b e d) j s in
-    let parts = few_nodes ns ks ds ms e d i j h s.same in
+pub few_of_operand : (b : Bool) (w v : Whole) (ks ds : List Node) → ks ≡ w.nodes.items → ds ≡ w.nodes.items
+    → nodes_of v.nodes.items ≡ kept (nodes_of ks) → IsShallowOperand (nodes_of ds) b w.tree v.tree → IsFewOperand b w v
+few_of_operand b w v ks ds i j h s =
+    let shallow = subst (λ n. IsShallowOperand (nodes_of n) b w.tree v.tree) j s in
+    let parts = few_nodes w.nodes.items ks ds v.nodes.items w.tree v.tree i j h s.same in
     record {
-      found = record { line = refl; parts = parts };
-      target = either_target (nodes_of ns) (nodes_of ms) (target_if b e) (target_if b d) parts.nodes (λ x. ap (target_if b) (shallow.same x))
-          shallow.target;
-      ranged = refl;
-      braces = c;
+      parts = parts;
+      target = either_target (nodes_of w.nodes.items) (nodes_of v.nodes.items) (target_if b w.tree) (target_if b v.tree) parts.nodes
+          (λ x. ap (target_if b) (shallow.same x)) shallow.target;
     }
+
+-- ---- in their boxes
+
+pub not_scattered : (b : Braces) → b ≡ NoScatter → SimilarBraces (braces_of b) no_braces
+not_scattered b i = subst (λ x. SimilarBraces (braces_of x) no_braces) (sym i) none
+
+pub perhaps_scattered : (b : Braces) (s t : Box Scattering Global) (u v : Scattering) → b ≡ PerhapsScatter s → u ≡ s.value → t.value ≡ v → IsFew u v
+    → SimilarBraces (braces_of b) (braces_of (PerhapsScatter t))
+perhaps_scattered b s t u v i j k f =
+    subst (λ x. SimilarBraces (braces_of x) (braces_of (PerhapsScatter t))) (sym i)
+    (perhaps _ _ _ _ (subst (λ x. IsFew s.value x) (sym k) (subst (λ x. IsFew x v) j f)))
+
+pub surely_scattered : (b : Braces) (s t : Box Scattering Global) (u v : Scattering) → b ≡ SurelyScatter s → u ≡ s.value → t.value ≡ v → IsFew u v
+    → SimilarBraces (braces_of b) (braces_of (SurelyScatter t))
+surely_scattered b s t u v i j k f =
+    subst (λ x. SimilarBraces (braces_of x) (braces_of (SurelyScatter t))) (sym i)
+    (surely _ _ _ _ (subst (λ x. IsFew s.value x) (sym k) (subst (λ x. IsFew x v) j f)))
+
+-- what is said of what lies in the boxes is said of the operands
+few_operand : (line : ℕ) (b r : Bool) (w v : Whole) (bs cs : by.Braces) → IsFewOperand b w v → SimilarBraces bs cs
+    → SimilarOperand
+    (record { found = record { tree = w.tree; line = line; nodes = nodes_of w.nodes.items }; target = target_if b w.tree; ranged = r; braces = bs })
+    (record { found = record { tree = v.tree; line = line; nodes = nodes_of v.nodes.items }; target = target_if b v.tree; ranged = r; braces = cs })
+few_operand line b r w v bs cs f c =
+    record { found = record { line = refl; parts = f.parts }; target = f.target; ranged = refl; braces = c }
+
+pub similar_operand : (line : ℕ) (b r : Bool) (s t : Box Whole Global) (u v : Whole) (bs cs : by.Braces) → u ≡ s.value → t.value ≡ v → IsFewOperand b u v
+    → SimilarBraces bs cs
+    → SimilarOperand
+    (record {
+      found = record { tree = s.value.tree; line = line; nodes = nodes_of s.value.nodes.items };
+      target = target_if b s.value.tree;
+      ranged = r;
+      braces = bs;
+    })
+    (record {
+      found = record { tree = t.value.tree; line = line; nodes = nodes_of t.value.nodes.items };
+      target = target_if b t.value.tree;
+      ranged = r;
+      braces = cs;
+    })
+similar_operand line b r s t u v bs cs j k f c =
+    few_operand line b r s.value t.value bs cs (subst (λ x. IsFewOperand b s.value x) (sym k) (subst (λ x. IsFewOperand b x v) j f)) c

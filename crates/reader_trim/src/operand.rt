@@ -3,28 +3,50 @@
 ghost use Rattle.std.specs.Prelude.{IfOk};
 ghost use Rattle.spec_program.specs.Similar.{SimilarOperand, SimilarBraces};
 ghost use Rattle.moo_reader.specs.Views.{operand_of, braces_of};
+ghost use Rattle.reader_trim.specs.Shallow.{IsFew, IsFewOperand};
 
 use crate::shallow::{shallow_list, shallow_operand};
-use moo_reader::found::{Braces, Found, Operand};
+use moo_reader::found::{Braces, Found, Operand, Scattering, Whole};
 use moo_reader::node::kept;
 use std::alloc::{AllocError, Global};
 
+// A scatter, or one without items.
+fn trimmed_scattering(alloc: Global, scattering: Scattering) -> Result<Scattering, AllocError>
+    ensures { IfOk result (λ s. IsFew scattering s) }
+{
+    let Scattering { items, nodes } = scattering;
+    let few = kept(alloc, &nodes)?;
+    let items = shallow_list(alloc, items, &nodes);
+    Ok(Scattering { items, nodes: few })
+}
+
+#[tactic(auto, using(crate::proofs::Few::not_scattered))]
 fn trimmed_braces(alloc: Global, braces: Braces) -> Result<Braces, AllocError>
     ensures { IfOk result (λ b. SimilarBraces (braces_of braces) (braces_of b)) }
 {
     match braces {
         Braces::NoScatter => Ok(Braces::NoScatter),
-        Braces::PerhapsScatter(items, nodes) => {
-            let few = kept(alloc, &nodes)?;
-            let items = shallow_list(alloc, items, &nodes);
-            Ok(Braces::PerhapsScatter(items, few))
+        Braces::PerhapsScatter(scattering) => {
+            let few = trimmed_scattering(alloc, Box::into_inner(scattering))?;
+            let boxed = Box::new(alloc, few)?;
+            Ok(Braces::PerhapsScatter(boxed))
         }
-        Braces::SurelyScatter(items, nodes) => {
-            let few = kept(alloc, &nodes)?;
-            let items = shallow_list(alloc, items, &nodes);
-            Ok(Braces::SurelyScatter(items, few))
+        Braces::SurelyScatter(scattering) => {
+            let few = trimmed_scattering(alloc, Box::into_inner(scattering))?;
+            let boxed = Box::new(alloc, few)?;
+            Ok(Braces::SurelyScatter(boxed))
         }
     }
+}
+
+// What may stand in the place of a tree and its nodes in an operand.
+fn trimmed_whole(alloc: Global, is_target: bool, whole: Whole) -> Result<Whole, AllocError>
+    ensures { IfOk result (λ w. IsFewOperand is_target whole w) }
+{
+    let Whole { tree, nodes } = whole;
+    let few = kept(alloc, &nodes)?;
+    let tree = shallow_operand(alloc, is_target, tree, &nodes)?;
+    Ok(Whole { tree, nodes: few })
 }
 
 /// An operand that may stand in the place of this one.
@@ -32,19 +54,15 @@ pub fn trimmed_operand(alloc: Global, operand: Operand) -> Result<Operand, Alloc
     ensures { IfOk result (λ o. SimilarOperand (operand_of operand) (operand_of o)) }
 {
     let Operand {
-        found: Found { tree, line, nodes },
+        found: Found { line, whole },
         is_target,
         ranged,
         braces,
     } = operand;
-    let few = kept(alloc, &nodes)?;
-    let tree = shallow_operand(alloc, is_target, tree, &nodes)?;
+    let few = trimmed_whole(alloc, is_target, Box::into_inner(whole))?;
+    let whole = Box::new(alloc, few)?;
     let braces = trimmed_braces(alloc, braces)?;
-    let found = Found {
-        tree,
-        line,
-        nodes: few,
-    };
+    let found = Found { line, whole };
     Ok(Operand {
         found,
         is_target,

@@ -1,12 +1,12 @@
 -- Escaped texts.
-use Rattle.std.proofs.Common.{◌≡◌, ℕ, ◌<◌, List, [], ◌∷◌, ◌++◌, IsTrue, IsFalse, Bool, true, false, Option, Some, None, refl, ap, sym, ◌∙◌, arith, ◌==◌, ◌||◌, ◌&&◌, nat_le, cond, append_assoc}
+use Rattle.std.proofs.Common.{◌≡◌, ℕ, ◌<◌, List, [], ◌∷◌, ◌++◌, IsTrue, IsFalse, Bool, Option, Some, refl, ap, sym, ◌∙◌, arith, append_assoc}
 use Rattle.std.specs.Prelude.{unwrap_or}
 use Rattle.std.proofs.lemmas.Bool.Decides.{nat_tests}
 use Rattle.std.proofs.lemmas.List.{append-nil}
-use Rattle.spec_value.specs.Datum.{is_text, is_character}
+use Rattle.spec_value.specs.Datum.{is_text}
 use Rattle.spec_value.specs.Literal.{escape, escaped}
 use Rattle.moo_value.proofs.Characters.{character_below}
-use Rattle.moo_value.specs.Read.{one_character, first_of}
+use Rattle.moo_value.specs.Read.{one_character}
 
 pub one_escape : (c : ℕ) (rest : List ℕ) → one_character (escape c ++ rest) ≡ Some (c, rest)
 one_escape c rest = grind (arith, nat_tests)

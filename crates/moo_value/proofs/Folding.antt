@@ -1,5 +1,5 @@
 -- Values with the case of letters left out.
-use Rattle.std.proofs.Common.{◌≡◌, ◌↔◌, ℕ, zero, suc, ◌<◌, Bool, IsTrue, List, [], ◌∷◌, length, get_or, map, refl, ap, sym, ◌∙◌, arith}
+use Rattle.std.proofs.Common.{◌≡◌, ◌↔◌, ℕ, zero, suc, ◌<◌, Bool, IsTrue, List, [], ◌∷◌, length, get_or, map, refl, ap, arith}
 use Rattle.spec_value.specs.Datum.{Datum, item, list, of_list}
 use Rattle.spec_value.specs.Datum.{folded, folded_data}
 use Rattle.moo_value.proofs.Listing.{list_inj}

@@ -1,5 +1,5 @@
 -- Lists of values.
-use Rattle.std.proofs.Common.{◌≡◌, ◌↔◌, ℕ, zero, suc, ◌+◌, ◌<◌, ◌≤◌, Bool, IsTrue, List, [], ◌∷◌, ◌++◌, length, get_or, drop, refl, ap, sym, ◌∙◌, arith, drop-cons, add-one, append_assoc, codes, take, ◌&&◌}
+use Rattle.std.proofs.Common.{◌≡◌, ◌↔◌, ℕ, zero, suc, ◌+◌, ◌<◌, ◌≤◌, Bool, IsTrue, List, [], ◌∷◌, ◌++◌, length, get_or, drop, refl, ap, sym, ◌∙◌, arith, add-one, take, ◌&&◌}
 use Rattle.std.proofs.lemmas.Bool.Decides.{nat_tests}
 use Rattle.std.proofs.Common.{◌⊎◌, ⊎_elim}
 use Rattle.std.specs.List.{AllZip}
@@ -7,11 +7,10 @@ use Rattle.std.proofs.lemmas.List.Elements.{same_from_all_zip}
 use Rattle.spec_value.specs.Datum.{is_value, are_values, weight, data_weight}
 use Rattle.spec_value.specs.Datum.{Datum, Data, no_data, item, list, of_list, to_list, append, joined}
 use Rattle.std.proofs.lemmas.List.{take_all, drop_all}
-use Rattle.std.proofs.Common.{length-drop, insert, remove, Option, Some, ◌==◌, min, ◌^◌, ◌-◌}
+use Rattle.std.proofs.Common.{length-drop, insert, remove, Some, ◌==◌, min, ◌^◌, ◌-◌}
 use Rattle.std.proofs.Math.ListN.{set}
 use Rattle.spec_value.specs.Places.{item_count, item_at, with_item, inserted, without, first_items, later_items}
 use Rattle.moo_value.specs.Depth.{depth, data_depth}
-use Rattle.spec_value.specs.Literal.{literal, more_text, data_text}
 use Rattle.moo_value.specs.Parts.{with_part}
 
 pub to_list-of_list : (ds : List Datum) → to_list (of_list ds) ≡ ds
@@ -203,6 +202,21 @@ around_part xs ys n m =
     ∙ ap (λ b. joined (of_list (take n xs)) (joined (of_list ys) b)) (later_items-of_list m xs)
     ∙ ap (joined (of_list (take n xs))) (sym (of_list-append ys (drop m xs)))
     ∙ sym (of_list-append (take n xs) (ys ++ drop m xs))
+
+joined_nothing : (ys : Data) → joined ys no_data ≡ ys
+joined_nothing no_data = refl
+joined_nothing (item y ys) = ap (item y) (joined_nothing ys)
+
+first_of_nothing : (n : ℕ) → first_items n no_data ≡ no_data
+first_of_nothing zero = refl
+first_of_nothing (suc n) = refl
+
+later_of_nothing : (n : ℕ) → later_items n no_data ≡ no_data
+later_of_nothing zero = refl
+later_of_nothing (suc n) = refl
+
+pub part_of_nothing : (n m : ℕ) (ys : Data) → with_part no_data n m ys ≡ ys
+part_of_nothing n m ys = ap (λ a. joined a (joined ys (later_items m no_data))) (first_of_nothing n) ∙ ap (joined ys) (later_of_nothing m) ∙ joined_nothing ys
 
 pub data_weight-joined : (xs ys : Data) → data_weight (joined xs ys) ≡ data_weight xs + data_weight ys
 data_weight-joined no_data ys = omega arith

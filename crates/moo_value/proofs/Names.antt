@@ -1,5 +1,5 @@
 -- Errors' names at the front of some bytes.
-use Rattle.std.proofs.Common.{◌≡◌, ℕ, zero, suc, ◌+◌, ◌<◌, List, [], ◌∷◌, length, get_or, drop, refl, ap, sym, ◌∙◌, arith, add-one, Option, Some, None}
+use Rattle.std.proofs.Common.{◌≡◌, ℕ, zero, suc, ◌+◌, ◌<◌, List, [], ◌∷◌, length, get_or, drop, refl, ap, arith, add-one, None}
 use Rattle.spec_value.specs.Literal.{error_name}
 use Rattle.moo_value.specs.Errors.{code_of}
 use Rattle.moo_value.specs.Read.{after_name, first_named, named}

@@ -1,5 +1,5 @@
 -- Which value stands at the front of some bytes.
-use Rattle.std.proofs.Common.{◌≡◌, ℕ, zero, suc, ◌+◌, ◌-◌, ◌<◌, ◌≤◌, ◌^◌, List, [], ◌∷◌, ◌++◌, length, IsTrue, Bool, true, false, Option, Some, None, option_map, refl, ap, sym, ◌∙◌, arith, append_assoc, ◌⊎◌, inl, inr, ⊎_elim, ℤ, pos, negsuc, if◌then◌else◌, Bor, length-append, ◌==◌}
+use Rattle.std.proofs.Common.{◌≡◌, ℕ, suc, ◌-◌, ◌<◌, ◌≤◌, ◌^◌, List, [], ◌∷◌, ◌++◌, length, IsTrue, Bool, true, false, Option, Some, None, option_map, refl, ap, sym, ◌∙◌, arith, append_assoc, ◌⊎◌, inl, inr, ℤ, pos, negsuc, if◌then◌else◌, Bor, length-append, ◌==◌}
 use Rattle.std.proofs.lemmas.List.{append-nil}
 use Rattle.std.specs.Str.{bytes_eq}
 use Rattle.std.proofs.lemmas.Slice.Eq.{bytes_eq-Decides}
@@ -7,8 +7,8 @@ use Rattle.moo_value.proofs.EscapedTexts.{first_same, second_same}
 use Rattle.std.proofs.lemmas.Bool.Decides.{nat_tests}
 use Rattle.std.specs.Fmt.{decimal, signed_decimal}
 use Rattle.std.proofs.lemmas.Fmt.{decimal_nonempty}
-use Rattle.spec_value.specs.Datum.{Datum, integer, object, text, error, list, Data, ErrorCode, no_error, type_mismatch, zero_division, permission_denied, property_not_found, verb_not_found, variable_not_found, invalid_indirection, recursive_move, too_many_calls, range_error, wrong_argument_count, move_refused, invalid_argument, limit_exceeded, float_error, of_list, to_list}
-use Rattle.spec_value.specs.Datum.{is_value, in_number_range, are_values}
+use Rattle.spec_value.specs.Datum.{Datum, integer, object, text, error, list, ErrorCode, no_error, type_mismatch, zero_division, permission_denied, property_not_found, verb_not_found, variable_not_found, invalid_indirection, recursive_move, too_many_calls, range_error, wrong_argument_count, move_refused, invalid_argument, limit_exceeded, float_error, of_list, to_list}
+use Rattle.spec_value.specs.Datum.{is_value, are_values}
 use Rattle.spec_value.specs.Literal.{literal, data_text, more_text, escaped, error_name}
 use Rattle.moo_value.proofs.Listing.{of_list-to_list}
 use Rattle.moo_value.specs.declared.error.MooError.{MooError}

@@ -1,5 +1,5 @@
 -- The test of sameness of the definitions is equality.
-use Rattle.std.proofs.Common.{◌≡◌, ◌↔◌, ℕ, zero, suc, Bool, true, false, IsTrue, List, [], ◌∷◌, refl, ap, sym, ◌∙◌, arith, ◌&&◌, ◌==◌, ℤ, pos, negsuc, subst}
+use Rattle.std.proofs.Common.{◌≡◌, ◌↔◌, ℕ, Bool, true, false, IsTrue, [], ◌∷◌, refl, ap, sym, ◌∙◌, arith, ◌&&◌, ◌==◌, ℤ, pos, negsuc, subst}
 use Rattle.std.proofs.lemmas.Bool.Decides.{nat_tests}
 use Rattle.std.specs.Ordering.{int_eq}
 use Rattle.spec_value.specs.Datum.{ErrorCode, error_number, Text, same_text, Datum, integer, object, text, error, list, Data, no_data, item, same, same_data, folded}

@@ -1,8 +1,8 @@
 -- What a reader finds at the front of some bytes.
-use Rattle.std.specs.Prelude.{◌≡◌, ℕ, zero, suc, ◌≤◌, ℤ, List, [], ◌∷◌, ◌++◌, length, Bool, true, false, IsTrue, ◌&&◌, nat_le, ◌==◌, if◌then◌else◌, Option, Some, None, option_map, IfSome}
+use Rattle.std.specs.Prelude.{◌≡◌, ℕ, suc, ◌≤◌, ℤ, List, [], ◌∷◌, ◌++◌, length, Bool, true, false, IsTrue, ◌&&◌, nat_le, ◌==◌, if◌then◌else◌, Option, Some, None, option_map, IfSome}
 use Rattle.std.specs.Fmt.{signed_decimal}
 use Rattle.std.specs.Borrow.{Bor}
-use Rattle.spec_value.specs.Datum.{Datum, Data, ErrorCode, of_list, to_list, is_text, is_value, are_values, in_number_range}
+use Rattle.spec_value.specs.Datum.{Datum, ErrorCode, of_list, is_text, is_value, are_values, in_number_range}
 use Rattle.spec_value.specs.Literal.{literal, data_text, escaped, error_name}
 use Rattle.moo_value.specs.Depth.{depth, data_depth}
 use Rattle.moo_value.specs.Errors.{code_of}

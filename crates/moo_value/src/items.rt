@@ -92,7 +92,22 @@ fn unshare(items: &mut Arc<Vec<Value>>, more: usize) -> Result<(), AllocError>
     Ok(())
 }
 
+#[inline(always)]
 pub(crate) fn push(items: &mut Arc<Vec<Value>>, item: Value) -> Result<(), AllocError>
+    ensures { let old = of_list (arc_value items.old).items in of_list (arc_value items.new).items ≡ (if is_ok result then append old item else old) }
+{
+    match Arc::get_mut(items) {
+        Some(own) => {
+            own.push(item)?;
+            Ok(())
+        }
+        None => push_shared(items, item),
+    }
+}
+
+// The same where there may be other owners.
+#[inline(never)]
+fn push_shared(items: &mut Arc<Vec<Value>>, item: Value) -> Result<(), AllocError>
     ensures { let old = of_list (arc_value items.old).items in of_list (arc_value items.new).items ≡ (if is_ok result then append old item else old) }
 {
     unshare(items, 1)?;

@@ -1,5 +1,5 @@
 //! Values.
-ghost use Rattle.std.specs.Prelude.{◌≡◌, ◌<◌, ◌≤◌, IfOk, IsTrue, min, is_ok, Some, if◌then◌else◌};
+ghost use Rattle.std.specs.Prelude.{◌≡◌, ◌<◌, ◌≤◌, ◌∷◌, [], IfOk, IsTrue, min, is_ok, Some, if◌then◌else◌};
 ghost use Rattle.spec_value.specs.Datum.{Datum, integer, object, text as text_of, error, list, of_list, is_value};
 
 use crate::error::MooError;
@@ -25,6 +25,8 @@ enum Node {
     Error(MooError),
     // the items, and what they weigh, or the greatest number where that is more
     List(Arc<Vec<Value>>, usize),
+    // a list without items, which takes no memory before it has some
+    Empty(Global),
 }
 
 impl Model for Value {
@@ -125,15 +127,31 @@ impl Value {
     pub fn list(items: Vec<Value>) -> Result<Value, AllocError>
         ensures { IfOk result (λ v. v ≡ list (of_list items.items)) }
     {
+        let alloc = *items.allocator();
+        if items.is_empty() {
+            return Ok(Value {
+                node: Node::Empty(alloc),
+            });
+        }
         items::know_all(&items);
         let weight = items::weight(&items);
-        let alloc = *items.allocator();
         Ok(Value {
             node: Node::List(Arc::new(alloc, items)?, weight),
         })
     }
 
+    // A list of one item.
+    #[inline(never)]
+    fn of_one(alloc: Global, item: Value) -> Result<Value, AllocError>
+        ensures { IfOk result (λ v. v ≡ list (of_list (item ∷ []))) }
+    {
+        let mut items = Vec::new(alloc);
+        items.push(item)?;
+        Value::list(items)
+    }
+
     /// What the value is, to match on.
+    #[inline(always)]
     pub fn shown(&self) -> Shown<'_>
         ensures { shown_datum result ≡ self.now }
     {
@@ -143,6 +161,7 @@ impl Value {
             Node::Text(text) => Shown::Text(text.as_str()),
             Node::Error(code) => Shown::Error(*code),
             Node::List(items, _) => Shown::List(items.as_slice()),
+            Node::Empty(_) => Shown::List(&[]),
         }
     }
 
@@ -174,7 +193,7 @@ impl Value {
         ensures { result ≡ min (weight self.now) usize.MAX }
     {
         match &self.node {
-            Node::Integer(_) | Node::Object(_) | Node::Error(_) => 1,
+            Node::Integer(_) | Node::Object(_) | Node::Error(_) | Node::Empty(_) => 1,
             Node::Text(text) => text.len().saturating_add(1),
             Node::List(_, weight) => weight.saturating_add(1),
         }
@@ -185,17 +204,24 @@ impl Value {
     ghost use Rattle.spec_value.specs.Places.{length_of_list, list_item, list_with, list_inserted, list_without, list_appended};
 
     /// Puts an item at the end of a list, in place where no other owner shares the list. Another kind of value stays.
+    #[inline(always)]
     pub fn push(&mut self, item: Value) -> Result<(), AllocError>
         ensures { self.new ≡ (if is_ok result then list_appended self.old item else self.old) }
     {
         item.know();
         let added = item.weight();
-        let Node::List(items, weight) = &mut self.node else {
-            return Ok(());
-        };
-        items::push(items, item)?;
-        *weight = weight.saturating_add(added);
-        Ok(())
+        match &mut self.node {
+            Node::List(items, weight) => {
+                items::push(items, item)?;
+                *weight = weight.saturating_add(added);
+                Ok(())
+            }
+            Node::Empty(alloc) => {
+                *self = Value::of_one(*alloc, item)?;
+                Ok(())
+            }
+            _ => Ok(()),
+        }
     }
 
     /// Puts another item in a place of a list and gives the one that was there, in place where no other owner shares the list.
@@ -222,12 +248,18 @@ impl Value {
     {
         item.know();
         let added = item.weight();
-        let Node::List(items, weight) = &mut self.node else {
-            return Ok(());
-        };
-        items::insert(items, place, item)?;
-        *weight = weight.saturating_add(added);
-        Ok(())
+        match &mut self.node {
+            Node::List(items, weight) => {
+                items::insert(items, place, item)?;
+                *weight = weight.saturating_add(added);
+                Ok(())
+            }
+            Node::Empty(alloc) => {
+                *self = Value::of_one(*alloc, item)?;
+                Ok(())
+            }
+            _ => Ok(()),
+        }
     }
 
     /// Takes an item out of a list, in place where no other owner shares the list.
@@ -264,13 +296,19 @@ impl Value {
     {
         items::know_all(between);
         let added = items::weight(between);
-        let Node::List(items, weight) = &mut self.node else {
-            return Ok(());
-        };
-        let others = items::weight_around(items, *weight, start, end);
-        items::replace_part(items, start, end, between)?;
-        *weight = others.saturating_add(added);
-        Ok(())
+        match &mut self.node {
+            Node::List(items, weight) => {
+                let others = items::weight_around(items, *weight, start, end);
+                items::replace_part(items, start, end, between)?;
+                *weight = others.saturating_add(added);
+                Ok(())
+            }
+            Node::Empty(alloc) => {
+                *self = Value::list(items::copied(*alloc, between)?)?;
+                Ok(())
+            }
+            _ => Ok(()),
+        }
     }
 }
 
@@ -320,6 +358,9 @@ impl Clone for Value {
             }),
             Node::List(items, weight) => Ok(Value {
                 node: Node::List(items.clone()?, *weight),
+            }),
+            Node::Empty(alloc) => Ok(Value {
+                node: Node::Empty(*alloc),
             }),
         }
     }

@@ -1,13 +1,11 @@
-use Rattle.std.proofs.Common.{◌∷◌, [], ◌++◌, ap, ◌∙◌}
+use Rattle.std.proofs.Common.{◌≡◌, ◌∷◌, [], ◌++◌, ap, ◌∙◌, rules}
 use Rattle.spec_value.specs.Datum.{of_list}
-use Rattle.moo_value.proofs.Listing.{same_items, of_list-push}
+use Rattle.moo_value.proofs.Listing.{of_list-push}
 use Rattle.moo_value.proofs.items.push.Goals as goal
 
-pub returns : goal.returns
-returns c =
-    let before = c.args.items.now.value.items in
-    let same = same_items c.unshare.new.items.value.items c.in_ok-list.list.now.items (λ e. ap (λ v. v.items) e) c.in_ok-list.ensures.value ∙ c.unshare.ensures in
-    ap (λ v. of_list v.items) (c.make_mut.follows.holds c.push.new.self (rw c.in_ok-list.was))
-    ∙ ap of_list c.in_ok-push.ensures.items
+pub returns-in_ok-push-in-Some : goal.returns-in_ok-push-in-Some
+returns-in_ok-push-in-Some c =
+    let same : c.in-Some.own.now.items ≡ c.args.items.now.value.items = search rules in
+    ap of_list c.in_ok-push-in-Some.ensures.items
     ∙ ap (λ ds. of_list (ds ++ c.args.item ∷ [])) same
-    ∙ of_list-push before c.args.item
+    ∙ of_list-push c.args.items.now.value.items c.args.item

@@ -1,8 +1,7 @@
 use Rattle.std.proofs.Common.{◌++◌, ◌∙◌, ap, sym, take, drop, map-id}
-use Rattle.std.specs.Vec.Iter.{into_iter_steps}
 use Rattle.std.proofs.lemmas.Iterator.{items_from_drains}
 use Rattle.std.proofs.lemmas.Iterator.Adapters.{YieldsList-from_vec}
-use Rattle.spec_value.specs.Datum.{Datum, of_list}
+use Rattle.spec_value.specs.Datum.{of_list}
 use Rattle.moo_value.proofs.Listing.{same_items, around_part}
 use Rattle.moo_value.proofs.items.replace_part.Goals as goal
 

@@ -1,4 +1,4 @@
-use Rattle.std.proofs.Common.{◌≡◌, ◌+◌, arith, get_or}
+use Rattle.std.proofs.Common.{◌≡◌, ◌+◌, arith}
 use Rattle.spec_value.specs.Datum.{of_list, weight, data_weight}
 use Rattle.spec_value.specs.Places.{without}
 use Rattle.moo_value.proofs.Listing.{data_weight-without, data_weight-around}

@@ -1,7 +1,5 @@
-use Rattle.std.proofs.Common.{◌≡◌, ◌∷◌, ap, ◌∙◌, arith, None, Some, w32}
-use Rattle.spec_value.specs.Datum.{of_list}
-use Rattle.std.proofs.lemmas.Int.{to_z-of_z}
-use Rattle.std.proofs.Common.{rules, to_z, of_z, [], ◌++◌, List, ℕ, IsTrue, sym, refl, ⊎_elim}
+use Rattle.std.proofs.Common.{◌≡◌, ◌∙◌, arith, None, Some, w32}
+use Rattle.std.proofs.Common.{rules, to_z, of_z, sym, ⊎_elim}
 use Rattle.moo_value.specs.Errors.{code_of}
 use Rattle.moo_value.proofs.Reading.{arm_list, arm_text, arm_object, arm_error, arm_number, begins, some_bytes, item_none, item_some, mark_none, mark_true, mark_false, list_ends, list_goes, rest_values, rest_depth, arm_deep}
 use Rattle.moo_value.proofs.read.+read.Goals as goal

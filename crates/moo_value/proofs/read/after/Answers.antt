@@ -1,4 +1,4 @@
-use Rattle.std.proofs.Common.{◌≡◌, None, sym, ◌∙◌}
+use Rattle.std.proofs.Common.{sym, ◌∙◌}
 use Rattle.moo_value.proofs.Names.{nothing_after}
 use Rattle.moo_value.proofs.read.after.Goals as goal
 

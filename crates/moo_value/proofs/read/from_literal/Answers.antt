@@ -1,5 +1,4 @@
-use Rattle.std.proofs.Common.{◌≡◌, [], ◌++◌, List, ℕ, sym, ◌∙◌, refl, ap, Some, None}
-use Rattle.std.proofs.lemmas.List.{append-nil}
+use Rattle.std.proofs.Common.{◌≡◌, sym, ◌∙◌, ap}
 use Rattle.spec_value.specs.Literal.{literal}
 use Rattle.moo_value.proofs.Reading.{none_found, rest_found, not_empty, texts_differ}
 use Rattle.moo_value.proofs.read.from_literal.Goals as goal

@@ -1,4 +1,4 @@
-use Rattle.std.proofs.Common.{◌≡◌, sym, ◌∙◌, ap}
+use Rattle.std.proofs.Common.{sym, ◌∙◌, ap}
 use Rattle.moo_value.specs.Read.{after_name}
 use Rattle.moo_value.proofs.Names.{not_named}
 use Rattle.moo_value.proofs.Reading.{all_errors}

@@ -1,4 +1,4 @@
-use Rattle.std.proofs.Common.{◌≡◌, ◌++◌, List, ℕ, take, drop, length, ap, sym, ◌∙◌, w32, Some, Ok}
+use Rattle.std.proofs.Common.{◌≡◌, ◌∙◌, w32}
 use Rattle.std.specs.Fmt.{signed_decimal}
 use Rattle.std.proofs.lemmas.Fmt.{parse-signed_decimal, IsAscii-signed}
 use Rattle.std.proofs.lemmas.Str.{IsUtf8-from_ascii}

@@ -1,4 +1,4 @@
-use Rattle.std.proofs.Common.{◌≡◌, ◌∷◌, [], ◌++◌, List, ℕ, ◌<◌, IsTrue, IsFalse, Some, None, string_bytes, ap, sym, ◌∙◌, arith}
+use Rattle.std.proofs.Common.{◌≡◌, ◌∷◌, [], ◌++◌, ◌<◌, IsFalse, string_bytes, ap, sym, ◌∙◌, arith}
 use Rattle.std.proofs.lemmas.Str.Ascii.{encode_ascii}
 use Rattle.spec_value.specs.Datum.{is_text}
 use Rattle.spec_value.specs.Literal.{escaped}

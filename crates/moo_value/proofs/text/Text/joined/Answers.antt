@@ -1,4 +1,4 @@
-use Rattle.std.proofs.Common.{◌++◌, append_assoc}
+use Rattle.std.proofs.Common.{◌++◌}
 use Rattle.moo_value.proofs.Characters.{is_text-append}
 use Rattle.moo_value.proofs.text.Text.joined.Goals as goal
 

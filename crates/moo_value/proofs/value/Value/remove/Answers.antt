@@ -1,4 +1,3 @@
-use Rattle.std.proofs.Common.{◌≡◌, ◌<◌, length}
 use Rattle.spec_value.specs.Datum.{of_list}
 use Rattle.moo_value.proofs.Listing.{sound-without, within}
 use Rattle.moo_value.proofs.value.Value.remove.Goals as goal

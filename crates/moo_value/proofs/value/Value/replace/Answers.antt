@@ -1,5 +1,3 @@
-use Rattle.std.proofs.Common.{◌≡◌, ◌<◌, length}
-use Rattle.spec_value.specs.Datum.{of_list}
 use Rattle.moo_value.proofs.Listing.{sound-with_item, within}
 use Rattle.moo_value.proofs.value.Value.replace.Goals as goal
 

@@ -18,6 +18,7 @@ use crate::moo_bytecode::draft::Item;
 use crate::moo_bytecode::operation::{Caught, HandlerRow, Operation, Reception, Sign};
 use crate::names::Names;
 use crate::open::Open;
+use crate::room::put;
 use crate::scatter::shared;
 use crate::tables::Tables;
 use std::alloc::{AllocError, Global};
@@ -38,6 +39,8 @@ struct Assembly {
     around: Vec<Open>,
     place: usize,
     forks: usize,
+    // memory of constructs that are done with
+    spares: Vec<Vec<usize>>,
 }
 
 /// The code and the handlers of a draft that has so much code.
@@ -61,16 +64,18 @@ impl Assembly {
     fn new(alloc: Global, items: &[Item], size: usize) -> Result<Assembly, AllocError>
         ensures { IfOk result (λ a. (t : TablesRecord) → walk_of t a ≡ start_of (map item_of items.now) size) }
     {
-        let here = Open::new(alloc, items, 0, size)?;
+        let here = Open::new(Vec::new(alloc), items, 0, size)?;
+        let code = Vec::with_capacity(alloc, size)?;
         Ok(Assembly {
             assembled: Assembled {
-                code: Vec::new(alloc),
+                code,
                 handlers: Vec::new(alloc),
             },
             here,
             around: Vec::new(alloc),
             place: 0,
             forks: 0,
+            spares: Vec::new(alloc),
         })
     }
 
@@ -162,9 +167,10 @@ impl Assembly {
             put(&mut self.assembled.code, Instruction::OpenList)?;
             self.place = place;
         }
-        let here = Open::new(alloc, items, self.place, size)?;
+        let spare = spare(alloc, &mut self.spares);
+        let here = Open::new(spare, items, self.place, size)?;
         let around = std::mem::replace(&mut self.here, here);
-        self.around.push(around)?;
+        put(&mut self.around, around)?;
         Ok(())
     }
 
@@ -194,8 +200,18 @@ impl Assembly {
         )?;
         let to = receive(&mut self.assembled.code, tables, &around, past, reception)?;
         self.place = to;
+        let spare = std::mem::replace(&mut self.here.starts, Vec::new(alloc));
+        put(&mut self.spares, spare)?;
         self.here = around;
         Ok(())
+    }
+}
+
+// Memory for the parts of a construct.
+fn spare(alloc: Global, spares: &mut Vec<Vec<usize>>) -> Vec<usize> {
+    match spares.pop() {
+        Some(spare) => spare,
+        None => Vec::new(alloc),
     }
 }
 
@@ -258,14 +274,6 @@ fn lent<'c, 'a>(caught: &'c Option<Caught<'a>>) -> Option<&'c Caught<'a>>
         Some(caught) => Some(caught),
         None => None,
     }
-}
-
-// One more.
-fn put<T: Drop>(list: &mut Vec<T>, item: T) -> Result<(), AllocError>
-    ensures { OnOk result (list.new.items ≡ list.old.items ++ item ∷ []) }
-{
-    list.push(item)?;
-    Ok(())
 }
 
 // What catches a leaving from one place to another in a part of a construct.

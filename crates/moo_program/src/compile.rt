@@ -93,17 +93,24 @@ fn copies<C: Copies>(
     Ok(copies)
 }
 
+// How many items a statement's draft has, as a guess, and for how many there is room at once.
+const ITEMS: usize = 16;
+
+const MOST_ITEMS: usize = 8192;
+
 // The draft of a tree, from its first item to the last.
 fn drafted(alloc: Global, tree: &Tree) -> Result<Draft<'_>, AllocError>
     ensures { IfOk result (λ d. IsDraft tree.now (map item_of d.items.items) d.size) }
 {
-    let mut draft = Draft::new(alloc);
+    let statements = tree.statements();
+    let room = statements.len().saturating_mul(ITEMS).min(MOST_ITEMS);
+    let mut draft = Draft::new(alloc, room)?;
     let around = Around {
         height: 0,
         bracketed: Bracketed::Nothing,
         loops: &[],
     };
-    draft.program(alloc, around, tree.statements())?;
+    draft.program(alloc, around, statements)?;
     turn(&mut draft.items);
     Ok(draft)
 }

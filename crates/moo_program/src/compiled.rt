@@ -31,12 +31,10 @@ impl Compiled {
         ensures whole { IfOk result (λ c. IsWhole c) }
         ensures first { IfOk result (λ c. get_or c.trees.items 0 the_end ≡ tree) }
     {
-        let mut trees = Vec::new(alloc);
+        let mut trees = Vec::with_capacity(alloc, 1)?;
         trees.push(tree)?;
-        let mut compiled = Compiled {
-            trees,
-            codes: Vec::new(alloc),
-        };
+        let codes = Vec::with_capacity(alloc, 1)?;
+        let mut compiled = Compiled { trees, codes };
         'next: for _ in 0..usize::MAX {
             if compiled.trees.len() <= compiled.codes.len() {
                 return Ok(compiled);

@@ -14,6 +14,7 @@ pub mod names;
 mod open;
 pub mod outline;
 pub mod program;
+mod room;
 mod scatter;
 pub mod tables;
 mod within;

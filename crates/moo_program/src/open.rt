@@ -8,7 +8,8 @@ use crate::instruction::Scatter;
 use crate::moo_bytecode::around::{next, plus};
 use crate::moo_bytecode::draft::Item;
 use crate::moo_bytecode::operation::Reception;
-use std::alloc::{AllocError, Global};
+use crate::room::put;
+use std::alloc::AllocError;
 use std::sync::Arc;
 
 /// A construct under way: where its code begins and ends, where its parts begin, and the items of its scattering assignment, once they
@@ -22,12 +23,17 @@ pub struct Open {
 }
 
 impl Open {
-    /// A construct of these items, which begins at a place and has so much code.
-    pub fn new(alloc: Global, items: &[Item], first: usize, size: usize) -> Result<Open, AllocError>
+    /// A construct of these items, which begins at a place and has so much code. It uses the memory of a vector.
+    pub fn new(
+        spare: Vec<usize>,
+        items: &[Item],
+        first: usize,
+        size: usize,
+    ) -> Result<Open, AllocError>
         ensures { IfOk result (λ o. open_of o ≡ opened_of first (map item_of items.now) size) }
     {
         let end = plus(first, size)?;
-        let starts = starts(alloc, items, first)?;
+        let starts = starts(spare, items, first)?;
         Ok(Open {
             first,
             end,
@@ -50,10 +56,11 @@ impl Open {
 }
 
 // Where the parts of a construct begin.
-fn starts(alloc: Global, items: &[Item], first: usize) -> Result<Vec<usize>, AllocError>
+fn starts(spare: Vec<usize>, items: &[Item], first: usize) -> Result<Vec<usize>, AllocError>
     ensures { IfOk result (λ v. v.items ≡ scan 0 first (map item_of items.now)) }
 {
-    let mut starts = Vec::new(alloc);
+    let mut starts = spare;
+    starts.clear();
     let mut place = first;
     let mut i = 0;
     while i < items.len() {
@@ -65,6 +72,7 @@ fn starts(alloc: Global, items: &[Item], first: usize) -> Result<Vec<usize>, All
 }
 
 // Past an item: the place behind it, and how many items are within it.
+#[inline(always)]
 #[tactic(auto, using(std::proofs::lemmas::List::append_assoc))]
 fn pass(starts: &mut Vec<usize>, place: usize, item: &Item) -> Result<(usize, usize), AllocError>
     ensures { IfOk result (λ r. (ds : List Draught) → starts.new.items ++ scan r.1 r.0 ds ≡ starts.old.items ++ scan 0 place (item_of item.now ∷ ds)) }
@@ -72,14 +80,14 @@ fn pass(starts: &mut Vec<usize>, place: usize, item: &Item) -> Result<(usize, us
     match item {
         Item::Own(_) => Ok((next(place)?, 0)),
         Item::Part(opens, count, size) => {
-            starts.push(place)?;
+            put(starts, place)?;
             let code = plus(if *opens { 1 } else { 0 }, *size)?;
             Ok((plus(place, code)?, *count))
         }
         Item::Close(Reception::Straight, _) => Ok((place, 0)),
         Item::Close(Reception::Received(_, _, _), _) => Ok((plus(place, 1)?, 0)),
         Item::Gap => {
-            starts.push(place)?;
+            put(starts, place)?;
             Ok((place, 0))
         }
     }

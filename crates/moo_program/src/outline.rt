@@ -6,6 +6,7 @@ ghost use Rattle.moo_program.specs.Outline.{step_of};
 use crate::emit::narrow;
 use crate::moo_bytecode::draft::Item;
 use crate::moo_bytecode::operation::Reception;
+use crate::room::put;
 use std::alloc::{AllocError, Global};
 
 /// A step of an outline. They come in the order of the code.
@@ -28,11 +29,12 @@ pub fn outline(alloc: Global, items: &[Item]) -> Result<Vec<Step>, AllocError>
     let mut steps = Vec::with_capacity(alloc, items.len())?;
     for i in 0..items.len() {
         let step = made_step(&items[i])?;
-        steps.push(step)?;
+        put(&mut steps, step)?;
     }
     Ok(steps)
 }
 
+#[inline(always)]
 fn made_step(item: &Item) -> Result<Step, AllocError>
     ensures { IfOk result (λ s. s ≡ step_of (item_of item.now)) }
 {

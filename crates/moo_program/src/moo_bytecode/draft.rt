@@ -1,9 +1,10 @@
 //! Drafts of code.
-ghost use Rattle.std.specs.Prelude.{◌≡◌, ◌-◌, [], length, OnOk};
+ghost use Rattle.std.specs.Prelude.{◌≡◌, ◌-◌, [], length, IfOk, OnOk};
 ghost use Rattle.moo_program.specs.Drafting.{operation_of, parts_of, reception_of, caught_of, state, with_own, with_close, with_part, with_gap};
 
 use crate::moo_bytecode::around::{next, plus};
 use crate::moo_bytecode::operation::{Caught, Operation, Reception};
+use crate::room::put;
 use std::alloc::{AllocError, Global};
 
 /// An operation, a part, or a part that has no tree.
@@ -33,22 +34,21 @@ pub struct Mark {
 }
 
 impl<'a> Draft<'a> {
-    /// Nothing.
-    pub fn new(alloc: Global) -> Draft<'a>
-        ensures { state result ≡ ([], 0) }
+    /// Nothing, with room for so many items.
+    pub fn new(alloc: Global, room: usize) -> Result<Draft<'a>, AllocError>
+        ensures { IfOk result (λ d. state d ≡ ([], 0)) }
     {
-        Draft {
-            items: Vec::new(alloc),
-            size: 0,
-        }
+        let items = Vec::with_capacity(alloc, room)?;
+        Ok(Draft { items, size: 0 })
     }
 
     /// An operation before what there is.
+    #[inline(always)]
     pub fn own(&mut self, operation: Operation<'a>) -> Result<(), AllocError>
         ensures { OnOk result (state self.new ≡ with_own (operation_of operation.entry) (parts_of operation.entry) (state self.old)) }
     {
         let size = next(self.size)?;
-        self.items.push(Item::Own(operation))?;
+        put(&mut self.items, Item::Own(operation))?;
         self.size = size;
         Ok(())
     }
@@ -57,7 +57,7 @@ impl<'a> Draft<'a> {
     pub fn gap(&mut self) -> Result<(), AllocError>
         ensures { OnOk result (state self.new ≡ with_gap (state self.old)) }
     {
-        self.items.push(Item::Gap)?;
+        put(&mut self.items, Item::Gap)?;
         Ok(())
     }
 
@@ -73,6 +73,7 @@ impl<'a> Draft<'a> {
     }
 
     /// The end of a part before what there is.
+    #[inline(always)]
     pub fn close(
         &mut self,
         reception: Reception,
@@ -84,19 +85,20 @@ impl<'a> Draft<'a> {
             Reception::Straight => self.size,
             Reception::Received(_, _, _) => plus(1, self.size)?,
         };
-        self.items.push(Item::Close(reception, caught))?;
+        put(&mut self.items, Item::Close(reception, caught))?;
         self.size = size;
         Ok(())
     }
 
     /// The start of a part, of what was put since a mark.
+    #[inline(always)]
     pub fn open(&mut self, opens: bool, mark: Mark) -> Result<(), AllocError>
         ensures { OnOk result (state self.new ≡ with_part opens (length self.old.items.items - mark.items) (self.old.size - mark.size) (state self.old)) }
     {
         let count = self.items.len().saturating_sub(mark.items);
         let inside = self.size.saturating_sub(mark.size);
         let size = plus(if opens { 1 } else { 0 }, self.size)?;
-        self.items.push(Item::Part(opens, count, inside))?;
+        put(&mut self.items, Item::Part(opens, count, inside))?;
         self.size = size;
         Ok(())
     }

@@ -8,5 +8,5 @@ pub returns : goal.returns
 returns c =
     let p = c.args.tree.now in
     is_draft p c.program.new.self c.turn.new.items.items
-    (c.in_ok-program.ensures ∙ ap (λ q. over (program_layout outermost q) (state c.new-draft.result)) c.statements.ensures ∙ ap (over (whole_layout p)) c.new-draft.ensures)
+    (c.in_ok-program.ensures ∙ ap (λ q. over (program_layout outermost q) (state c.in_ok-draft.draft)) c.statements-statements.ensures ∙ ap (over (whole_layout p)) c.in_ok-draft.ensures)
     c.turn.ensures

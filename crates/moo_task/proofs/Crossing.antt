@@ -13,6 +13,7 @@ use Rattle.moo_task.specs.contracts.frame.Frame as frame
 use Rattle.moo_task.specs.contracts.frame.Outer as outer
 use Rattle.moo_task.specs.contracts.native.Native as native
 use Rattle.moo_task.specs.contracts.outers.Outers as outers
+use Rattle.moo_task.specs.contracts.room.Room as room
 use Rattle.moo_task.specs.contracts.start.SharedStart as shared_start
 use Rattle.moo_task.specs.contracts.variables.SharedVariables as shared_variables
 use Rattle.moo_task.specs.contracts.variables.Variable as variable
@@ -82,11 +83,17 @@ outer_send = variants_send outer.enum ((frame_send, tt), ((native_send, tt), tt)
 outer_sync : IsSync outer.the_row
 outer_sync = variants_sync outer.enum ((frame_sync, tt), ((native_sync, tt), tt))
 
+room_send : IsSend room.the_row
+room_send = search (sendable, crosses, operands_send, value_send) depth 60
+
+room_sync : IsSync room.the_row
+room_sync = search (sendable, crosses, operands_sync, value_sync) depth 60
+
 outers_send : IsSend outers.the_row
-outers_send = search (sendable, crosses, outer_send) depth 60
+outers_send = search (sendable, crosses, outer_send, room_send) depth 60
 
 outers_sync : IsSync outers.the_row
-outers_sync = search (sendable, crosses, outer_sync) depth 60
+outers_sync = search (sendable, crosses, outer_sync, room_sync) depth 60
 
 pub task_send : IsSend task.the_row
 task_send = search (sendable, crosses, as_row_send, value_send, outers_send, outers_sync) depth 90

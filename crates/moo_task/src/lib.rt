@@ -17,6 +17,7 @@ pub mod native;
 pub mod outcome;
 pub mod outers;
 pub mod perform;
+pub mod room;
 pub mod running;
 mod same;
 pub mod start;

@@ -1,10 +1,13 @@
 //! What waits for the verb that runs.
-ghost use Rattle.std.specs.Prelude.{◌≡◌, OnOk, OnErr, MatchOption, [], ◌∷◌};
+ghost use Rattle.std.specs.Prelude.{◌≡◌, ◌<◌, OnOk, OnErr, MatchOption, [], ◌∷◌, vec_len, vec_capacity};
 ghost use Rattle.moo_code.specs.Machine.{verb, native, verbs as verbs_of};
 ghost use Rattle.moo_task.specs.Frames.{native_of, kept_of, outer_of, outers_of};
 
 use crate::frame::{Frame, Outer};
+use crate::moo_machine::operands::Operands;
 use crate::native::Native;
+use crate::room::Room;
+use moo_value::value::Value;
 use std::alloc::{AllocError, Global};
 use std::marker::Model;
 
@@ -14,6 +17,8 @@ pub struct Outers {
     // the innermost last
     stack: Vec<Outer>,
     verbs: usize,
+    // what verbs that have returned left for those that come
+    rooms: Vec<Room>,
 }
 
 impl Model for Outers {
@@ -42,6 +47,7 @@ impl Outers {
         Outers {
             stack: Vec::new(alloc),
             verbs: 0,
+            rooms: Vec::new(alloc),
         }
     }
 
@@ -65,9 +71,42 @@ impl Outers {
         ensures ok { OnOk result (self.new ≡ verb (kept_of frame) ∷ self.old) }
         ensures err { OnErr result (self.new ≡ self.old) }
     {
-        self.stack.push(Outer::Verb(frame))?;
+        if self.stack.len() == self.stack.capacity() {
+            one_more_place(&mut self.stack)?;
+        }
+        self.stack.push_reserved(Outer::Verb(frame));
         self.verbs += 1;
         Ok(())
+    }
+
+    /// Room for a verb that comes, left by one that has returned, or none yet.
+    #[inline(always)]
+    pub fn take_room(&mut self, alloc: Global) -> Room
+        ensures { self.new ≡ self.old }
+    {
+        match self.rooms.pop() {
+            Some(room) => room,
+            None => Room::new(alloc),
+        }
+    }
+
+    /// The room of a verb that has returned, for one that comes. Where there is no memory for it, it goes.
+    #[inline(always)]
+    pub fn leave_room(&mut self, slots: Vec<Option<Value>>, operands: Operands)
+        ensures { self.new ≡ self.old }
+    {
+        let room = Room::left(slots, operands);
+        if self.rooms.len() == self.rooms.capacity() && self.rooms.reserve(1).is_err() {
+            return;
+        }
+        self.rooms.push_reserved(room);
+    }
+
+    /// Lets go of the rooms that are left.
+    pub fn forget_rooms(&mut self)
+        ensures { self.new ≡ self.old }
+    {
+        self.rooms.clear();
     }
 
     /// One more built-in function waits.
@@ -93,4 +132,15 @@ impl Outers {
             Some(Outer::Native(native)) => Some(Outer::Native(native)),
         }
     }
+}
+
+// Room for some more.
+#[cold]
+#[inline(never)]
+fn one_more_place(stack: &mut Vec<Outer>) -> Result<(), AllocError>
+    ensures items { stack.new.items ≡ stack.old.items }
+    ensures room { OnOk result (vec_len stack.new < vec_capacity stack.new) }
+{
+    stack.reserve(4)?;
+    Ok(())
 }

@@ -21,6 +21,7 @@ use crate::moo_machine::raising::raised;
 use crate::native::Native;
 use crate::outcome::{End, Outcome};
 use crate::outers::Outers;
+use crate::room::Room;
 use crate::start::SharedStart;
 use moo_program::program::Program;
 use moo_value::answer::{Answer, limited};
@@ -56,7 +57,8 @@ impl Running {
         ensures alone { IfOk result (λ r. r.outer ≡ []) }
         ensures ticks { IfOk result (λ r. ticks_of r ≡ ticks) }
     {
-        let frame = begin(alloc, player, start, call, program, arguments, ticks)?;
+        let room = Room::new(alloc);
+        let frame = begin(room, player, start, call, program, arguments, ticks)?;
         Ok(Running {
             player,
             frame,
@@ -158,7 +160,8 @@ impl Running {
     {
         let start = self.frame.start.clone()?;
         let ticks = self.frame.state.ticks;
-        let called = begin(alloc, self.player, start, call, program, arguments, ticks)?;
+        let room = self.outer.take_room(alloc);
+        let called = begin(room, self.player, start, call, program, arguments, ticks)?;
         let caller = mem::replace(&mut self.frame, called);
         self.outer.push_verb(caller)?;
         Ok(())

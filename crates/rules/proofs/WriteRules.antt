@@ -1,6 +1,6 @@
 -- What a write of a property does, from what was asked.
-use Rattle.std.proofs.Common.{◌≡◌, ℤ, Bool, true, false, ◌||◌, Result, Option, Some, None, refl, sym, ap, ◌∙◌, subst, if◌then◌else◌}
-use Rattle.std.specs.Prelude.{option_map}
+use Rattle.std.proofs.Common.{◌≡◌, ℤ, Bool, true, false, ◌||◌, Result, Ok, Err, Option, Some, None, refl, sym, ap, ◌∙◌, subst, if◌then◌else◌}
+use Rattle.std.specs.Prelude.{option_map, IfOk}
 use Rattle.spec_value.specs.Datum.{Datum, object, text, Text, ErrorCode, permission_denied, type_mismatch, invalid_indirection}
 use Rattle.spec_world.specs.World.{World, Object, Header, Slot, object_at}
 use Rattle.spec_world.specs.Inherit.{slot_of, slot_at, with_slot}
@@ -14,7 +14,8 @@ use Rattle.moo_value.specs.declared.error.MooError.{MooError}
 use Rattle.view.specs.Law.{Goes, Tells}
 use Rattle.rules.specs.BuiltIn.{attribute_of}
 use Rattle.rules.specs.Reading.{missing_error}
-use Rattle.rules.specs.Writing.{IsWritten, write_named, built_in_written, place_error, owner_may}
+use Rattle.view.specs.Writing.{MayWrite, IsWrittenBy}
+use Rattle.rules.specs.Writing.{IsWritten, IsSimplyWritten, write_named, built_in_written, place_error, owner_may}
 use Rattle.rules.specs.declared.access.built_in.Attribute.{Attribute}
 use Rattle.rules.specs.declared.access.built_in.Attribute.TheVariants.{Name, Owner, Flag as FlagOf}
 use Rattle.rules.specs.declared.access.built_in.Flag.TheVariants.{Programmer, Wizard, Readable, Writable, Fertile}
@@ -103,6 +104,33 @@ refused_write w who o p v s is barred = answered w who o p v s false is barred
 pub allowed_write : (w : World) (who o : ℤ) (p : Text) (v : Datum) (s : Slot) → slot_at w o p ≡ Some s → (is_wizard w who || owns_or who s.owner s.writable) ≡ true
     → write_named w who o p v (object_at w o) ≡ wrote (apply (new_value o p v) w)
 allowed_write w who o p v s is granted = answered w who o p v s true is granted ∙ ap (λ x. wrote (put_value w o p v x)) (sym is)
+
+-- what all may do a wizard may too
+or_all : (a b : Bool) → b ≡ true → (a || b) ≡ true
+or_all true b is = refl
+or_all false b is = is
+
+-- a slot that a programmer writes who owns it, or which all may write
+pub simply_written : (w u : World) (who o : ℤ) (p : Text) (v : Datum) (b : Bool) → built_in p ≡ None → IsWrittenBy who o p v b w u → IsSimplyWritten b who (object o) (text p) v w u
+unfolding write
+simply_written w u who o p v true none h =
+    let may : MayWrite who o p w = h.0 in
+    of_own w who o p v none ∙ allowed_write w who o p v may.slot may.there (or_all (is_wizard w who) (owns_or who may.slot.owner may.slot.writable) may.allowed) ∙ ap wrote (sym h.1)
+simply_written w u who o p v false none h = h
+
+module _ {V E : Type 0} (holds : V → World → Type 0) (now : V → World → World) (who : ℤ) (v : Datum) where
+  pub simply_told : (a b : V) (o : ℤ) (p : Text) (r : Result Bool E) → built_in p ≡ None → IfOk r (λ q. Goes holds now a b (IsWrittenBy who o p v q))
+      → IfOk r (λ q. Goes holds now a b (IsSimplyWritten q who (object o) (text p) v))
+  simply_told a b o p (Err e) none goes = tt
+  simply_told a b o p (Ok q) none goes = λ w is. let g = goes w is in (g.0, simply_written (now a w) (now b w) who o p v q none g.1)
+
+  -- the same of values that are an object and a text
+  pub simply_as : (a b : V) (o : ℤ) (p : Text) (x name : Datum) (r : Result Bool E) → object o ≡ x → text p ≡ name → IfOk r (λ q. Goes holds now a b (IsSimplyWritten q who (object o) (text p) v))
+      → IfOk r (λ q. Goes holds now a b (IsSimplyWritten q who x name v))
+  simply_as a b o p x name (Err e) x_is name_is goes = tt
+  simply_as a b o p x name (Ok q) x_is name_is goes = λ w is.
+      let g = goes w is in
+      (g.0, subst (λ (y : Datum). IsSimplyWritten q who x y v (now a w) (now b w)) name_is (subst (λ (y : Datum). IsSimplyWritten q who y (text p) v (now a w) (now b w)) x_is g.1))
 
 -- ---- built-in ones
 

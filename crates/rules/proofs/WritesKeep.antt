@@ -14,7 +14,7 @@ use Rattle.view.specs.Law.{Goes}
 use Rattle.rules.specs.Lines.{AreAgreeing}
 use Rattle.rules.specs.Standing.{IsStanding}
 use Rattle.rules.proofs.InheritStanding.{attributes_stand, content_stands}
-use Rattle.rules.specs.Writing.{IsWritten}
+use Rattle.rules.specs.Writing.{IsWritten, IsSimplyWritten}
 
 filled_so : (w : World) (o : ℤ) (p : Text) (t u : Slot) → IsStanding w → slot_at w o p ≡ Some t → IsTrue (is_some u.content) → IsStanding (with_slot w o p u)
 filled_so w o p t u h found full = content_stands w o p t u h found (λ x is defined. full)
@@ -82,3 +82,9 @@ pub written_known : {V A E : Type 0} (holds : V → World → Type 0) (now : V �
 written_known holds now a b who x y v (Err e) goes known = tt
 written_known holds now a b who x y v (Ok (Ok done)) goes known = λ w is. let g = goes w is in written_well (now a w) (now b w) who x y v (known w g.0) g.1
 written_known holds now a b who x y v (Ok (Err e)) goes known = λ w is. let g = goes w is in subst IsStanding (sym g.1.1) (known w g.0)
+
+pub simply_known : {V E : Type 0} (holds : V → World → Type 0) (now : V → World → World) (a b : V) (who : ℤ) (x y v : Datum) (r : Result Bool E)
+    → IfOk r (λ q. Goes holds now a b (IsSimplyWritten q who x y v)) → AreAgreeing holds now a → OnOk r (AreAgreeing holds now b)
+simply_known holds now a b who x y v (Err e) goes known = tt
+simply_known holds now a b who x y v (Ok true) goes known = λ w is. let g = goes w is in written_well (now a w) (now b w) who x y v (known w g.0) g.1
+simply_known holds now a b who x y v (Ok false) goes known = λ w is. let g = goes w is in subst IsStanding (sym g.1) (known w g.0)

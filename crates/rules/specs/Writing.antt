@@ -5,7 +5,7 @@ use Rattle.spec_value.specs.Datum.{Datum, Text, ErrorCode, invalid_indirection, 
 use Rattle.spec_world.specs.World.{World, Object, Header}
 use Rattle.spec_world.specs.Inherit.{slot_at}
 use Rattle.spec_world.specs.Permissions.{may}
-use Rattle.spec_moo.specs.Properties.{BuiltInProperty, own_name, r_bit, w_bit, f_bit, Written, wrote, refused, writing, with_built_in, write_slot, write_built_in}
+use Rattle.spec_moo.specs.Properties.{BuiltInProperty, own_name, r_bit, w_bit, f_bit, Written, wrote, refused, writing, with_built_in, write_slot, write_built_in, write}
 use Rattle.moo_value.specs.Errors.{code_of}
 use Rattle.moo_value.specs.declared.error.MooError.{MooError}
 
@@ -13,6 +13,11 @@ use Rattle.moo_value.specs.declared.error.MooError.{MooError}
 abbrev pub IsWritten : {A : Type 0} → World → World → Written → Result A MooError → Type 0
 IsWritten before after written (Ok done) = written ≡ wrote after
 IsWritten before after written (Err e) = (written ≡ refused (code_of e)) × (after ≡ before)
+
+-- where it is done the world now is the written one, and else nothing is
+abbrev pub IsSimplyWritten : Bool → ℤ → Datum → Datum → Datum → World → World → Type 0
+IsSimplyWritten true who o p v before after = write before who o p v ≡ wrote after
+IsSimplyWritten false who o p v before after = after ≡ before
 
 -- a property that is no built-in one
 abbrev pub write_named : World → ℤ → ℤ → Text → Datum → Option Object → Written

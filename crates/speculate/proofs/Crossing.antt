@@ -12,9 +12,9 @@ use Rattle.std.proofs.Crossing.{crosses}
 use Rattle.round_claims.proofs.Crossing.{claims_sync, seat_send}
 use Rattle.round_claims.specs.contracts.claims.Claims as claims
 use Rattle.round_claims.specs.contracts.claims.ClaimSeat as seat
-use Rattle.view.proofs.PartsCrossing.{reads_send, changes_send}
+use Rattle.view.proofs.PartsCrossing.{changes_send}
 use Rattle.task_step.proofs.Crossing.{step_send, step_sync, outcome_send}
-use Rattle.world.proofs.Crossing.{count_send, snapshot_send, world_send}
+use Rattle.world.proofs.Crossing.{count_send, reads_send, snapshot_send, world_send}
 use Rattle.speculate.specs.contracts.board.Board as board
 use Rattle.speculate.specs.contracts.guesses.Guess as guess
 use Rattle.speculate.specs.contracts.guesses.Spent as spent

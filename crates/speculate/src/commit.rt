@@ -14,7 +14,7 @@ use crate::trying::try_on;
 use std::alloc::{AllocError, Global};
 use task_step::outcome::Outcome;
 use task_step::step::Step;
-use view::reads::Changes;
+use view::changes::Changes;
 use world::count::Count;
 use world::draft::Draft;
 use world::live::Live;

@@ -12,8 +12,9 @@ use std::snapshot::Snapshot as Remembered;
 use task_step::outcome::Outcome;
 use task_step::step::Step;
 use view::change::Change;
+use view::changes::Changes;
 use view::part::Part;
-use view::reads::{Changes, Reads};
+use world::reads::Reads;
 use world::worlds::{Snapshot, World};
 
 /// What a step reads, changes and answers, found on a snapshot. It is so on each world that gives the answers that were read.

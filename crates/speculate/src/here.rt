@@ -16,7 +16,7 @@ use task_run::list::play_step;
 use task_step::outcome::Outcome;
 use task_step::partial::{Partial, Refusal, refused};
 use task_step::step::Step;
-use view::reads::Changes;
+use view::changes::Changes;
 use world::draft::Draft;
 use world::worlds::World;
 

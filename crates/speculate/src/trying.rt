@@ -9,7 +9,7 @@ use std::alloc::{AllocError, Global};
 use task_run::step::run_step;
 use task_step::outcome::Outcome;
 use task_step::step::Step;
-use view::reads::Changes;
+use view::changes::Changes;
 use world::alone::Alone;
 use world::draft::Draft;
 use world::worlds::World;

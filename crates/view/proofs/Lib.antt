@@ -9,3 +9,5 @@ pub mod Compared
 pub mod Renumbered
 pub mod SoundKeeps
 pub mod Wholes
+pub mod Written
+pub mod Again

@@ -1,4 +1,4 @@
--- What worlds consist of, and what was read and changed, may go to other threads, and be lent to them.
+-- What worlds consist of, questions, answers and changes may go to other threads, and some be lent to them.
 use denote.Param.Send.{IsSend, IsSync, sendable}
 use denote.Param.SendFields.{as_row_send, declared_send, variants_send}
 use Rattle.std.proofs.Crossing.{crosses}
@@ -16,9 +16,7 @@ use Rattle.view.specs.contracts.object.Object as object
 use Rattle.view.specs.contracts.part.Part as part
 use Rattle.view.specs.contracts.question.Answer as answer
 use Rattle.view.specs.contracts.question.Question as question
-use Rattle.view.specs.contracts.reads.Changes as changes
-use Rattle.view.specs.contracts.reads.Read as read
-use Rattle.view.specs.contracts.reads.Reads as reads
+use Rattle.view.specs.contracts.changes.Changes as changes
 use Rattle.view.specs.contracts.slot.Slot as slot
 use Rattle.view.specs.contracts.slots.Slots as slots
 use Rattle.view.specs.contracts.verb.Verb as verb
@@ -87,17 +85,11 @@ object_send = search (sendable, crosses, header_send, slots_send, verbs_send, na
 pub object_sync : IsSync object.the_row
 object_sync = search (sendable, crosses, header_sync, slots_sync, verbs_sync, names_sync, objects_sync) depth 60
 
-question_send : IsSend question.the_row
+pub question_send : IsSend question.the_row
 question_send = search (sendable, crosses, text_send) depth 120
 
-answer_send : IsSend answer.the_row
+pub answer_send : IsSend answer.the_row
 answer_send = search (sendable, crosses, header_send, names_send, objects_send, slot_send, verbs_send, link_send, task_send, players_send) depth 120
-
-read_send : IsSend read.the_row
-read_send = declared_send read.the_type (question_send, (answer_send, tt))
-
-pub reads_send : IsSend reads.the_row
-reads_send = search (sendable, crosses, read_send) depth 60
 
 part_send : IsSend part.the_row
 part_send = search (sendable, crosses, header_send, objects_send, names_send, verbs_send, text_send, slot_send) depth 60

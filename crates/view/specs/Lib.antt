@@ -2,5 +2,6 @@ pub mod Law
 pub mod Meanings
 pub mod Parts
 pub mod QuestionCode
-pub mod ReadMeaning
 pub mod Sound
+pub mod Writing
+pub mod Shared

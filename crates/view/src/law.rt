@@ -2,14 +2,17 @@
 ghost use Rattle.std.specs.Prelude.{◌≡◌, ℕ, option_map, IfOk, OnOk};
 ghost use Rattle.spec_world.specs.World.{World};
 ghost use Rattle.spec_world.specs.Inherit.{slot_at};
-ghost use Rattle.spec_world.specs.Questions.{ask, apply, header_at, about_header, about_slot};
+ghost use Rattle.spec_world.specs.Questions.{ask, apply, header_at, verbs_at, about_header, about_slot, about_verbs};
 ghost use Rattle.view.specs.Meanings.{question_of, answer_of, change_of};
 ghost use Rattle.view.specs.Law.{Goes, Keeps, Lasts, Tells};
+ghost use Rattle.view.specs.Writing.{IsWrittenBy};
 
 use crate::change::Change;
 use crate::question::{Answer, Question};
 use crate::slot::Slot;
+use crate::verb::Verbs;
 use moo_value::text::Text;
+use moo_value::value::Value;
 use std::alloc::AllocError;
 
 /// A world that a step reads and changes.
@@ -76,6 +79,54 @@ pub trait View {
             Answer::Header(None) => Ok(None),
             _ => unreachable!(),
         }
+    }
+
+    /// An object's own verbs, or None where there is no such object, as `get` answers.
+    #[inline(always)]
+    fn verbs(&mut self, object: i32) -> Result<Option<Verbs>, AllocError>
+        ensures lasts { Lasts holds home anchor self.old self.new result }
+        ensures left { IfOk result (λ vs. Tells holds now self.old self.new (λ w. verbs_at w object ≡ vs)) }
+
+        // A start that gives the home's answer to the question for these verbs, at its start and now, stays.
+        ensures kept { OnOk result ((w : World) → holds self.old w →
+            ask w (about_verbs object) ≡ ask (home self.old) (about_verbs object) →
+            ask (now self.old w) (about_verbs object) ≡ ask (now self.old (home self.old)) (about_verbs object) → holds self.new w) }
+    {
+        match self.get(&Question::Verbs(object))? {
+            Answer::Verbs(verbs) => Ok(verbs),
+            _ => unreachable!(),
+        }
+    }
+
+    /// A property's slot on an object gets another value for a programmer, if there is the slot and the programmer owns it or all may write it; whether it
+    /// did. Else nothing changes. Case is ignored. A view that has the slot at hand looks for it but once.
+    #[inline(always)]
+    fn write(
+        &mut self,
+        programmer: i32,
+        object: i32,
+        name: &Text,
+        value: &Value,
+    ) -> Result<bool, AllocError>
+        ensures lasts { Lasts holds home anchor self.old self.new result }
+        ensures left { IfOk result (λ b. Goes holds now self.old self.new (IsWrittenBy programmer object name.now value.now b)) }
+
+        // A start that gives the home's answer to the question for this slot, at its start and now, stays.
+        ensures kept { OnOk result ((w : World) → holds self.old w →
+            ask w (about_slot object name.now) ≡ ask (home self.old) (about_slot object name.now) →
+            ask (now self.old w) (about_slot object name.now) ≡ ask (now self.old (home self.old)) (about_slot object name.now) → holds self.new w) }
+    {
+        let Some(slot) = self.slot(object, name)? else {
+            return Ok(false);
+        };
+        let allowed = slot.is_written_by(programmer);
+        if !allowed {
+            return Ok(false);
+        }
+        let name = name.clone()?;
+        let value = value.clone()?;
+        self.put(Change::Value(object, name, value))?;
+        Ok(true)
     }
 
     /// A change. After an `Err` the view is only to be dropped or undone.

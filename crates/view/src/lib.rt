@@ -5,6 +5,7 @@
 #![tactic(auto)]
 
 pub mod change;
+pub mod changes;
 pub mod header;
 pub mod law;
 pub mod link;
@@ -13,7 +14,6 @@ pub mod object;
 pub mod part;
 pub mod question;
 pub mod readers;
-pub mod reads;
 mod same;
 pub mod slot;
 pub mod slots;

@@ -6,22 +6,23 @@ use std::alloc::{AllocError, Global};
 use std::marker::Model;
 use std::sync::Arc;
 
-/// Objects in their order, shared by their owners: a clone is a count.
+/// Objects in their order, shared by their owners: a clone is a count. None take no memory.
 #[derive(Drop)]
 pub struct Objects {
-    items: Arc<Vec<i32>>,
+    items: Option<Arc<Vec<i32>>>,
 }
 
 impl Model for Objects {
-    ghost use Rattle.std.specs.Prelude.{List, ℤ};
+    ghost use Rattle.std.specs.Prelude.{List, ℤ, option_map};
     ghost use Rattle.std.specs.Arc.{arc_value};
+    ghost use Rattle.view.specs.Shared.{shared_numbers};
     ghost use Rattle.spec_world.specs.WorldCode.{integers_code};
 
     ghost Value = { List ℤ };
 
     ghost coded = { integers_code };
 
-    ghost view = { λ a. (arc_value a.items).items };
+    ghost view = { λ a. shared_numbers (option_map arc_value a.items) };
 }
 
 impl Objects {
@@ -29,8 +30,11 @@ impl Objects {
     pub fn new(alloc: Global, objects: Vec<i32>) -> Result<Objects, AllocError>
         ensures { IfOk result (λ os. os ≡ objects.items) }
     {
+        if objects.is_empty() {
+            return Ok(Objects { items: None });
+        }
         Ok(Objects {
-            items: Arc::new(alloc, objects)?,
+            items: Some(Arc::new(alloc, objects)?),
         })
     }
 
@@ -38,7 +42,10 @@ impl Objects {
     pub fn as_slice(&self) -> &[i32]
         ensures { result.now ≡ self.now }
     {
-        self.items.as_slice()
+        match &self.items {
+            Some(items) => items.as_slice(),
+            None => &[],
+        }
     }
 }
 
@@ -46,9 +53,11 @@ impl Clone for Objects {
     ghost is_clone = { λ objects copy. copy ≡ objects };
 
     fn clone(&self) -> Result<Objects, AllocError> {
-        Ok(Objects {
-            items: self.items.clone()?,
-        })
+        let items = match &self.items {
+            Some(items) => Some(items.clone()?),
+            None => None,
+        };
+        Ok(Objects { items })
     }
 }
 

@@ -1,9 +1,10 @@
 //! Objects.
-ghost use Rattle.std.specs.Prelude.{◌≡◌, IfOk, OnOk, OnErr, IsTrue, IsFalse, None};
+ghost use Rattle.std.specs.Prelude.{◌≡◌, true, false, IfOk, OnOk, OnErr, IsTrue, IsFalse, None};
 ghost use Rattle.spec_value.specs.Datum.{fold_case};
 ghost use Rattle.spec_value.specs.Table.{named, with_name};
 ghost use Rattle.spec_world.specs.Questions.{put_part};
 ghost use Rattle.view.specs.Meanings.{part_of};
+ghost use Rattle.view.specs.Writing.{IsRewritten};
 
 use crate::header::Header;
 use crate::lists::{Names, Objects};
@@ -157,6 +158,17 @@ impl Object {
         ensures left { IsFalse result → (named self.old.slots (fold_case name.now) ≡ None) × (self.new ≡ self.old) }
     {
         self.slots.set_value(name, value)
+    }
+
+    /// Gives a slot another value where it lies, for a programmer, and answers whether there is such a slot that the programmer owns or all may write. Case is
+    /// ignored.
+    #[inline(always)]
+    pub fn write(&mut self, programmer: i32, name: &Text, value: &Value) -> Result<bool, AllocError>
+        ensures done { IfOk result (λ b. b ≡ true → IsRewritten programmer name.now value.now self.old self.new) }
+        ensures left { IfOk result (λ b. b ≡ false → self.new ≡ self.old) }
+        ensures err { OnErr result (self.new ≡ self.old) }
+    {
+        self.slots.write(programmer, name, value)
     }
 
     /// The object with another value in a slot, or None where it has no such slot.

@@ -95,15 +95,13 @@ pub fn read_slot<V: View>(
 }
 
 /// An object's own verbs, or None where there is no such object.
+#[inline(always)]
 pub fn read_verbs<V: View>(view: &mut V, object: i32) -> Result<Option<Verbs>, AllocError>
     ensures lasts { Lasts V.holds V.home V.anchor view.old view.new result }
     ensures left { IfOk result (λ vs. Tells V.holds V.now view.old view.new (λ w. verbs_at w object ≡ vs)) }
     ensures sound { OnOk result (StaysSound V.home V.now view.old view.new) }
 {
-    match view.get(&Question::Verbs(object))? {
-        Answer::Verbs(verbs) => Ok(verbs),
-        _ => unreachable!(),
-    }
+    view.verbs(object)
 }
 
 /// The task of an id, or None where none waits.
@@ -272,7 +270,8 @@ pub fn write_value<V: View>(
     ensures kept { OnOk result (Keeps V.holds view.old view.new) }
     ensures sound { OnOk result (StaysSound V.home V.now view.old view.new) }
 {
-    let change = new_value_of(object, name, value)?;
+    let name = name.clone()?;
+    let change = new_value_of(object, name, value);
     view.put(change)
 }
 
@@ -287,8 +286,8 @@ pub fn raise_next<V: View>(view: &mut V, next: u64) -> Result<(), AllocError>
 }
 
 #[inline(always)]
-fn new_value_of(object: i32, name: &Text, value: Value) -> Result<Change, AllocError>
-    ensures { IfOk result (λ c. change_of c ≡ new_value object name.now value) }
+fn new_value_of(object: i32, name: Text, value: Value) -> Change
+    ensures { change_of result ≡ new_value object name value }
 {
-    Ok(Change::Value(object, name.clone()?, value))
+    Change::Value(object, name, value)
 }

@@ -1,5 +1,6 @@
 //! Slots of properties.
 ghost use Rattle.std.specs.Prelude.{◌≡◌, IfOk};
+ghost use Rattle.spec_world.specs.Permissions.{owns_or};
 
 use moo_value::value::Value;
 use std::alloc::AllocError;
@@ -30,6 +31,16 @@ impl Model for Slot {
       writable = a.writable;
       changeable = a.changeable;
     } };
+}
+
+impl Slot {
+    /// Whether a programmer owns the slot, or all may write it.
+    #[inline(always)]
+    pub fn is_written_by(&self, programmer: i32) -> bool
+        ensures { result ≡ owns_or programmer self.now.owner self.now.writable }
+    {
+        programmer == self.owner || self.writable
+    }
 }
 
 impl Clone for Slot {

@@ -1,9 +1,11 @@
 //! The slots of an object.
-ghost use Rattle.std.specs.Prelude.{◌≡◌, ◌<◌, ◌≤◌, ◌↔◌, IfOk, IfErr, OnOk, OnErr, IsTrue, IsFalse, Some, None, [], ◌∷◌, option_map, MatchOption, ℕ, slice_index_or, slice_set, insert, remove, length, vec_len};
+ghost use Rattle.std.specs.Prelude.{◌≡◌, true, false, ◌<◌, ◌≤◌, ◌↔◌, IfOk, IfErr, OnOk, OnErr, IsTrue, IsFalse, Some, None, [], ◌∷◌, option_map, MatchOption, ℕ, slice_index_or, slice_set, insert, remove, length, vec_len};
 ghost use Rattle.spec_value.specs.Datum.{Text as Characters, fold_case};
 ghost use Rattle.spec_world.specs.World.{Slot as SlotOf};
+ghost use Rattle.spec_world.specs.Permissions.{owns_or};
 ghost use Rattle.spec_value.specs.Table.{named, is_named, with_name, without_name};
 ghost use Rattle.std.specs.Ordering.{nat_cmp};
+ghost use Rattle.view.specs.Writing.{AreRewritten};
 ghost use Rattle.std.specs.Cmp.Lexicographic.{slice_cmp};
 
 use crate::slot::Slot;
@@ -108,6 +110,26 @@ impl Slots {
         };
         fill(&mut self.entries, index, value);
         true
+    }
+
+    /// Gives the slot of a property another value where it lies, for a programmer, and answers whether there is such a slot that the programmer owns or all may
+    /// write. Case is ignored.
+    #[inline(always)]
+    pub fn write(&mut self, programmer: i32, name: &Text, value: &Value) -> Result<bool, AllocError>
+        ensures done { IfOk result (λ b. b ≡ true → AreRewritten programmer name.now value.now self.old self.new) }
+        ensures left { IfOk result (λ b. b ≡ false → self.new ≡ self.old) }
+        ensures err { OnErr result (self.new ≡ self.old) }
+    {
+        let Some(index) = position(&self.entries, name) else {
+            return Ok(false);
+        };
+        let allowed = is_written_at(&self.entries, index, programmer);
+        if !allowed {
+            return Ok(false);
+        }
+        let value = value.clone()?;
+        fill(&mut self.entries, index, value);
+        Ok(true)
     }
 
     /// The slots with another value in one, or None where there is no such slot.
@@ -305,6 +327,15 @@ fn is_folded(text: &[u8], folded: &[u8]) -> bool
         }
     }
     true
+}
+
+// Whether a programmer owns the slot at an index, or all may write it.
+#[inline(always)]
+fn is_written_at(entries: &[(Text, Slot)], index: usize, programmer: i32) -> bool
+    requires { index < length entries.now }
+    ensures { (e : Characters × SlotOf) × (e ≡ slice_index_or entries.now index e) × (result ≡ owns_or programmer (e.1).owner (e.1).writable) }
+{
+    entries[index].1.is_written_by(programmer)
 }
 
 // The slot at an index has another value.

@@ -3,9 +3,9 @@ use Rattle.std.proofs.Common.{◌≡◌, ℤ, List, Option, Some, None, refl, sy
 use Rattle.std.specs.Prelude.{option_map}
 use Rattle.spec_value.specs.Datum.{Datum, Text, fold_case}
 use Rattle.spec_value.specs.Table.{named}
-use Rattle.spec_world.specs.World.{World, Object, Header, Slot, object_at}
+use Rattle.spec_world.specs.World.{World, Object, Header, Slot, Verb, object_at}
 use Rattle.spec_world.specs.Inherit.{slot_of, slot_at}
-use Rattle.spec_world.specs.Questions.{ask, header_at, slot_on, the_header, the_slot, about_header, about_slot, Change, apply_all}
+use Rattle.spec_world.specs.Questions.{ask, header_at, verbs_at, slot_on, the_header, the_slot, the_verbs, about_header, about_slot, about_verbs, Change, apply_all}
 use Rattle.view.proofs.SlotsTold.{slot_told, no_object_told}
 use Rattle.world.specs.Late.{AllLight, with_later}
 use Rattle.world.specs.Trace.{AnswersAlike}
@@ -52,6 +52,16 @@ parent_alike v w o alike = same_parent (header_at v o) (header_at w o) (alike (a
 --- no light change gives an object another parent
 pub parent_lightly : (cs : List Change) (w : World) (o : ℤ) → AllLight cs → option_map (λ x. x.parent) (header_at (apply_all cs w) o) ≡ option_map (λ x. x.parent) (header_at w o)
 parent_lightly cs w o all = same_parent (header_at (apply_all cs w) o) (header_at w o) (all_unseen cs w (about_header o) all refl)
+
+same_verbs : (x y : Option (List Verb)) → the_verbs x ≡ the_verbs y → x ≡ y
+same_verbs x y is = cc
+
+pub verbs_alike : (v w : World) (o : ℤ) → AnswersAlike v w → verbs_at v o ≡ verbs_at w o
+verbs_alike v w o alike = same_verbs (verbs_at v o) (verbs_at w o) (alike (about_verbs o))
+
+--- no light change gives an object other verbs
+pub verbs_lightly : (cs : List Change) (w : World) (o : ℤ) → AllLight cs → verbs_at (apply_all cs w) o ≡ verbs_at w o
+verbs_lightly cs w o all = same_verbs (verbs_at (apply_all cs w) o) (verbs_at w o) (all_unseen cs w (about_verbs o) all refl)
 
 --- a slot with a value that it may have got later
 pub slot_unchanged : (s : Option Slot) → option_map (λ t. with_later t None) s ≡ s

@@ -7,6 +7,7 @@ use Rattle.spec_world.specs.World.{World, Object, Slot, object_at, with_object}
 use Rattle.spec_world.specs.Inherit.{slot_of, put_slot, with_slot}
 use Rattle.spec_world.specs.Families.{change_at, change_object}
 use Rattle.spec_world.specs.Questions.{apply, new_value, put_value}
+use Rattle.view.specs.Writing.{MayWrite, IsRewritten}
 use Rattle.world.specs.Revised.{RevisesRecord, revalued}
 
 -- one object changes, if it is there
@@ -63,6 +64,14 @@ changed_one w o p v x (Err e) is h = tt
 pub value_revised : (w : World) (o : ℤ) (p : Text) (v : Datum) (after : Numbered Object) → RevisesRecord (λ x y. Some y ≡ revalued x p v) o w.objects after
     → record w { objects = after } ≡ apply (new_value o p v) w
 value_revised w o p v after r = ap (λ (os : Numbered Object). record w { objects = os }) r.records ∙ sym (object_changes w o p v r.before r.after r.found r.made)
+
+-- a value that a programmer wrote
+pub value_written : (w : World) (who o : ℤ) (p : Text) (v : Datum) (after : Numbered Object) → RevisesRecord (IsRewritten who p v) o w.objects after
+    → MayWrite who o p w × (record w { objects = after } ≡ apply (new_value o p v) w)
+value_written w who o p v after r = (
+  record { slot = r.made.slot; there = ap (λ (x : Option Object). slot_of x p) r.found ∙ r.made.there; allowed = r.made.allowed },
+  value_revised w o p v after (record { before = r.before; after = r.after; found = r.found; made = r.made.object; records = r.records }),
+)
 
 pub part_revised : (w : World) (o : ℤ) (f : Object → Object) (after : Numbered Object) → RevisesRecord (λ x y. y ≡ f x) o w.objects after
     → record w { objects = after } ≡ change_object w o f

@@ -4,8 +4,8 @@ use Rattle.spec_world.specs.World.{World}
 use Rattle.spec_world.specs.Questions as meant
 use Rattle.spec_world.specs.Questions.{ask, Agrees}
 use Rattle.view.specs.Meanings.{question_of, answer_of}
-use Rattle.view.specs.ReadMeaning.{read_of}
-use Rattle.view.specs.declared.reads.Read.{Read}
+use Rattle.world.specs.ReadMeaning.{read_of}
+use Rattle.world.specs.declared.reads.Read.{Read}
 
 -- the question of a read that is there, with its answer
 pub read_at : (rs : List Read) (i : ℕ) (x : Read) (q : meant.Question) → i < length rs → x ≡ slice_index_or rs i x → question_of x.question ≡ q

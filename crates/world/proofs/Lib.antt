@@ -21,3 +21,4 @@ pub mod PairsWalks
 pub mod LinksKept
 pub mod DueWalks
 pub mod Alike
+pub mod Written

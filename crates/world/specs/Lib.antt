@@ -15,3 +15,4 @@ pub mod LinkTable
 pub mod Revised
 pub mod Due
 pub mod Moved
+pub mod ReadMeaning

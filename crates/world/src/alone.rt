@@ -1,23 +1,26 @@
 //! A view of a world that nobody else changes meanwhile.
-ghost use Rattle.std.specs.Prelude.{◌≡◌, [], IfOk, OnOk};
+ghost use Rattle.std.specs.Prelude.{◌≡◌, true, false, [], IfOk, OnOk};
 ghost use Rattle.std.specs.Option.{unwrap_or};
 ghost use Rattle.spec_world.specs.Questions.{ask, apply, apply_all};
 ghost use Rattle.view.specs.Meanings.{question_of, answer_of, change_of};
 ghost use Rattle.view.specs.Sound.{IsSound};
 ghost use Rattle.view.specs.Law.{Goes, Keeps};
+ghost use Rattle.view.specs.Writing.{IsWrittenBy};
 ghost use Rattle.world.specs.Amended.{amended_now};
 
 use crate::draft::Draft;
 use crate::overlay::Overlay;
 use crate::worlds::World;
 use moo_value::text::Text;
+use moo_value::value::Value;
 use std::alloc::{AllocError, Global};
 use std::marker::Model;
 use view::change::Change;
+use view::changes::Changes;
 use view::law::View;
 use view::question::{Answer, Question};
-use view::reads::Changes;
 use view::slot::Slot;
+use view::verb::Verbs;
 
 /// A view of a world, which is borrowed and stays as it is. It keeps the changes, and nothing of what was read.
 #[derive(Drop)]
@@ -57,6 +60,48 @@ impl<'w> Alone<'w> {
         let Alone { overlay } = self;
         overlay.finish()
     }
+
+    // A slot gets another value for a programmer in the records with the changes, if they are there and nobody shares the object.
+    #[inline(always)]
+    #[tactic(auto, using(crate::proofs::Written::further_written))]
+    fn write_there(
+        &mut self,
+        programmer: i32,
+        object: i32,
+        name: &Text,
+        value: &Value,
+    ) -> Result<bool, AllocError>
+        ensures home { self.new.home ≡ self.old.home }
+        ensures done { IfOk result (λ b. b ≡ true → IsWrittenBy programmer object name.now value.now true (amended_now self.old) (amended_now self.new)) }
+        ensures left { IfOk result (λ b. b ≡ false → self.new ≡ self.old) }
+    {
+        self.overlay.write(programmer, object, name, value)
+    }
+
+    // The same by a change.
+    #[inline(never)]
+    fn write_anew(
+        &mut self,
+        programmer: i32,
+        object: i32,
+        name: &Text,
+        value: &Value,
+    ) -> Result<bool, AllocError>
+        ensures home { self.new.home ≡ self.old.home }
+        ensures now { IfOk result (λ b. IsWrittenBy programmer object name.now value.now b (amended_now self.old) (amended_now self.new)) }
+    {
+        let Some(slot) = self.overlay.slot(object, name)? else {
+            return Ok(false);
+        };
+        let allowed = slot.is_written_by(programmer);
+        if !allowed {
+            return Ok(false);
+        }
+        let name = name.clone()?;
+        let value = value.clone()?;
+        self.overlay.put(Change::Value(object, name, value))?;
+        Ok(true)
+    }
 }
 
 impl<'w> View for Alone<'w> {
@@ -77,8 +122,28 @@ impl<'w> View for Alone<'w> {
         self.overlay.slot(object, name)
     }
 
+    #[inline(always)]
+    fn write(
+        &mut self,
+        programmer: i32,
+        object: i32,
+        name: &Text,
+        value: &Value,
+    ) -> Result<bool, AllocError> {
+        let done = self.write_there(programmer, object, name, value)?;
+        if done {
+            return Ok(true);
+        }
+        self.write_anew(programmer, object, name, value)
+    }
+
     fn parent(&mut self, object: i32) -> Result<Option<i32>, AllocError> {
         Ok(self.overlay.parent(object))
+    }
+
+    #[inline(always)]
+    fn verbs(&mut self, object: i32) -> Result<Option<Verbs>, AllocError> {
+        self.overlay.verbs(object).cloned()
     }
 
     #[tactic(auto, using(crate::proofs::History::apply_all_last))]

@@ -2,13 +2,13 @@
 ghost use Rattle.std.specs.Prelude.{◌≡◌, ◌++◌, ◌∷◌, [], List, Some, map, option_map, Contains, IfSome, OnOk, OnErr};
 ghost use Rattle.spec_world.specs.Questions.{Read as Meant};
 ghost use Rattle.view.specs.Meanings.{question_of, answer_of};
-ghost use Rattle.view.specs.ReadMeaning.{read_of};
+ghost use Rattle.world.specs.ReadMeaning.{read_of};
 
 use crate::questions::{mark_of, same_question};
+use crate::reads::{Read, Reads};
 use std::alloc::{AllocError, Global};
 use std::marker::Model;
 use view::question::{Answer, Question};
-use view::reads::{Read, Reads};
 
 // As long as there are so many reads at most, their marks alone are looked at.
 const FEW: usize = 12;

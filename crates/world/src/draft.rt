@@ -13,6 +13,7 @@ ghost use Rattle.world.specs.Numbered.{numbered};
 use crate::choice::{AllNumbers, gather};
 use crate::edits::{NewPart, NewValue};
 use crate::links::Links;
+use crate::reads::Reads;
 use crate::records::{put_record, record_at, revise_record, same_records, set_record};
 use crate::tasks::Tasks;
 use moo_task::task::Task;
@@ -21,13 +22,13 @@ use moo_value::value::Value;
 use std::alloc::{AllocError, Global};
 use std::marker::Model;
 use view::change::Change;
+use view::changes::Changes;
 use view::header::Header;
 use view::link::Link;
 use view::lists::{Names, Numbers, Objects, Players};
 use view::object::Object;
 use view::part::Part;
 use view::question::{Answer, Question};
-use view::reads::{Changes, Reads};
 use view::slot::Slot;
 use view::verb::Verbs;
 use world_table::Table;
@@ -271,7 +272,9 @@ impl Draft {
         Some(self.header(number)?.parent)
     }
 
-    fn verbs(&self, number: i32) -> Option<&Verbs>
+    /// An object's own verbs, if there is the object.
+    #[inline(always)]
+    pub(crate) fn verbs(&self, number: i32) -> Option<&Verbs>
         ensures { option_map (λ v. v.now) result ≡ verbs_at self.now number }
     {
         Some(self.object(number)?.verbs())

@@ -2,6 +2,7 @@
 ghost use Rattle.std.specs.Prelude.{◌≡◌, Some};
 ghost use Rattle.spec_world.specs.Questions.{put_part};
 ghost use Rattle.view.specs.Meanings.{part_of};
+ghost use Rattle.view.specs.Writing.{IsRewritten};
 ghost use Rattle.world.specs.Revised.{revalued};
 
 use moo_value::text::Text;
@@ -41,5 +42,22 @@ impl Revision<Object> for NewValue<'_> {
         let value = self.value.clone()?;
         let done = found.set_value(self.name, value);
         Ok(done)
+    }
+}
+
+/// Another value in a slot that a programmer may write, of an object that has the slot.
+#[derive(Drop)]
+pub(crate) struct WrittenValue<'a> {
+    pub(crate) programmer: i32,
+    pub(crate) name: &'a Text,
+    pub(crate) value: &'a Value,
+}
+
+impl Revision<Object> for WrittenValue<'_> {
+    ghost makes = { λ n x y. IsRewritten n.programmer n.name.now n.value.now x y };
+
+    #[inline(always)]
+    fn revise(&self, found: &mut Object) -> Result<bool, AllocError> {
+        found.write(self.programmer, self.name, self.value)
     }
 }

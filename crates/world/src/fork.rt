@@ -9,8 +9,8 @@ use crate::draft::Draft;
 use crate::worlds::World;
 use std::alloc::AllocError;
 use view::change::Change;
+use view::changes::Changes;
 use view::question::{Answer, Question};
-use view::reads::Changes;
 
 /// The changes stand in a fork of the world's records until they are kept. Dropped, it leaves the world as it was.
 pub struct Forked<'w, T> {

@@ -13,6 +13,7 @@ use view::change::Change;
 use view::law::View;
 use view::question::{Answer, Question};
 use view::slot::Slot;
+use view::verb::Verbs;
 
 /// A view of the world itself.
 pub type Live<'w> = Fork<'w>;
@@ -36,6 +37,10 @@ impl<'w> View for Forked<'w, Draft> {
 
     fn parent(&mut self, object: i32) -> Result<Option<i32>, AllocError> {
         Ok(self.records().parent(object))
+    }
+
+    fn verbs(&mut self, object: i32) -> Result<Option<Verbs>, AllocError> {
+        self.records().verbs(object).cloned()
     }
 
     fn put(&mut self, change: Change) -> Result<(), AllocError> {

@@ -1,10 +1,11 @@
 //! Changes over records that stay as they are.
-ghost use Rattle.std.specs.Prelude.{◌≡◌, ◌++◌, ◌∷◌, [], false, None, option_map, IsTrue, IfOk, OnOk, OnErr};
+ghost use Rattle.std.specs.Prelude.{◌≡◌, ◌++◌, ◌∷◌, [], true, false, None, option_map, IsTrue, IfOk, OnOk, OnErr};
 ghost use Rattle.std.specs.Option.{unwrap_or};
 ghost use Rattle.spec_world.specs.World.{World as Plain};
 ghost use Rattle.spec_world.specs.Inherit.{slot_at};
-ghost use Rattle.spec_world.specs.Questions.{ask, apply, apply_all, header_at};
+ghost use Rattle.spec_world.specs.Questions.{ask, apply, apply_all, header_at, verbs_at};
 ghost use Rattle.view.specs.Meanings.{question_of, answer_of, change_of};
+ghost use Rattle.view.specs.Writing.{MayWrite, GoesFurther};
 ghost use Rattle.world.specs.Late.{is_light as is_light_change, AllLight, with_later};
 ghost use Rattle.world.specs.Amended.{amended_now};
 ghost use Rattle.world.specs.Trace.{AnswersAlike};
@@ -17,9 +18,10 @@ use moo_value::value::Value;
 use std::alloc::{AllocError, Global};
 use std::marker::Model;
 use view::change::Change;
+use view::changes::Changes;
 use view::question::{Answer, Question};
-use view::reads::Changes;
 use view::slot::Slot;
+use view::verb::Verbs;
 
 // So many changes are asked through, one after another, before records are made of them.
 const FEW: usize = 4;
@@ -153,6 +155,22 @@ impl<'h> Overlay<'h> {
         }
     }
 
+    /// The verbs now of an object, if there is the object.
+    #[inline(always)]
+    #[tactic(auto, using(crate::proofs::Alike::verbs_alike, crate::proofs::Alike::verbs_lightly))]
+    pub(crate) fn verbs(&self, object: i32) -> Option<&Verbs>
+        ensures { option_map (λ v. v.now) result ≡ verbs_at (amended_now self.now) object }
+    {
+        if !self.seen {
+            return self.home.verbs(object);
+        }
+        match &self.fork {
+            Some(draft) => draft.verbs(object),
+            // No light change gives an object other verbs.
+            None => self.home.verbs(object),
+        }
+    }
+
     /// The answer now to a question, to which the home has this answer.
     #[inline(always)]
     pub(crate) fn answer(&self, question: &Question, home: &Answer) -> Result<Answer, AllocError>
@@ -166,6 +184,35 @@ impl<'h> Overlay<'h> {
             Some(draft) => draft.ask(question),
             None => answer_after(self.alloc, question, home, self.changes.as_slice()),
         }
+    }
+
+    /// A slot gets another value for a programmer in the records with the changes, if they are there; whether it does. Else nothing changes: it does not where there is
+    /// no such slot, nor where the programmer may not write it, nor where another world shares the object. After an `Err` nothing is known of the changes.
+    #[inline(always)]
+    pub(crate) fn write(
+        &mut self,
+        programmer: i32,
+        object: i32,
+        name: &Text,
+        value: &Value,
+    ) -> Result<bool, AllocError>
+        ensures home { self.new.home ≡ self.old.home }
+        ensures done { IfOk result (λ b. b ≡ true → MayWrite programmer object name.now (amended_now self.old) × GoesFurther object name.now value.now self.old.changes self.new.changes) }
+        ensures left { IfOk result (λ b. b ≡ false → self.new ≡ self.old) }
+    {
+        let Some(draft) = &mut self.fork else {
+            return Ok(false);
+        };
+        let done = draft.write(programmer, object, name, value)?;
+        if !done {
+            return Ok(false);
+        }
+        if remember(&mut self.changes, object, name, value).is_err() {
+            forget(&mut self.fork, &mut self.changes, self.alloc);
+            return Err(AllocError);
+        }
+        self.seen = true;
+        Ok(true)
     }
 
     /// A change. After an `Err` nothing is known of the changes.
@@ -192,6 +239,39 @@ fn is_seen(change: &Change) -> bool
     ensures { result ≡ false → (w : Plain) → AnswersAlike (apply (change_of change.now) w) w }
 {
     !matches!(change, Change::Next(_))
+}
+
+// Another value in a slot is the last of the changes.
+#[inline(always)]
+fn remember(
+    changes: &mut Changes,
+    object: i32,
+    name: &Text,
+    value: &Value,
+) -> Result<(), AllocError>
+    ensures { OnOk result (GoesFurther object name.now value.now changes.old changes.new) }
+{
+    let renewed = changes.renew(object, name, value)?;
+    if renewed {
+        return Ok(());
+    }
+    push_value(changes, object, name, value)
+}
+
+// The same by one change more.
+#[inline(never)]
+#[tactic(auto, using(crate::proofs::Written::pushed))]
+fn push_value(
+    changes: &mut Changes,
+    object: i32,
+    name: &Text,
+    value: &Value,
+) -> Result<(), AllocError>
+    ensures { OnOk result (GoesFurther object name.now value.now changes.old changes.new) }
+{
+    let name = name.clone()?;
+    let value = value.clone()?;
+    changes.push(Change::Value(object, name, value))
 }
 
 // One change more of a fork of a home, where there is one or it takes one.

@@ -9,13 +9,14 @@ ghost use Rattle.world.specs.Trace.{Trace, IsStart, IsTold, world_now};
 use crate::asked::Asked;
 use crate::overlay::Overlay;
 use crate::questions::mark_of;
+use crate::reads::Reads;
 use crate::worlds::Snapshot;
 use std::alloc::{AllocError, Global};
 use std::marker::Model;
 use view::change::Change;
+use view::changes::Changes;
 use view::law::View;
 use view::question::{Answer, Question};
-use view::reads::{Changes, Reads};
 
 /// A view of a snapshot. It keeps the questions with the snapshot's answers, and the changes; the snapshot stays as it is.
 #[derive(Drop)]

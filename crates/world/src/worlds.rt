@@ -9,11 +9,12 @@ ghost use Rattle.world.specs.Due.{by_moment, due_ids, first_due_from};
 use crate::count::Count;
 use crate::draft::Draft;
 use crate::prepared::Prepared;
+use crate::reads::Reads;
 use std::alloc::{AllocError, Global};
 use std::marker::Model;
 use std::snapshot::Snapshot as Remembered;
+use view::changes::Changes;
 use view::question::{Answer, Question};
-use view::reads::{Changes, Reads};
 
 /// A world. It is well formed.
 #[derive(Drop)]

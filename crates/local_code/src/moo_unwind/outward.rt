@@ -10,9 +10,11 @@ use crate::moo_unwind::offer::Offer;
 use crate::moo_unwind::unwind::leave;
 use moo_task::frame::{Frame, Outer};
 use moo_task::moo_machine::leaving::{Failure, Leaving};
+use moo_task::moo_machine::verb::State;
 use moo_task::outcome::{End, Outcome};
 use moo_task::running::Running;
 use std::alloc::{AllocError, Global};
+use std::mem;
 
 /// A leaving is offered to the handlers of the verb that runs. Their variables are among those of its program; that it has a slot for each is tested
 /// while it runs.
@@ -53,12 +55,34 @@ fn raise_into(task: &mut Running, frame: Frame, failure: Failure) -> Result<Outc
     Ok(Outcome::Leaves(Leaving::Failed(failure)))
 }
 
-/// A verb that waited runs again, with the ticks that are left.
+/// A verb that waited runs again, with the ticks that are left. The one that ran leaves its room.
 #[inline(always)]
 pub fn resume(task: &mut Running, frame: Frame)
     ensures { task.new ≡ resumed task.old frame }
 {
     let ticks = task.frame.state.ticks;
-    task.frame = frame;
+    let left = mem::replace(&mut task.frame, frame);
     task.frame.state.ticks = ticks;
+    leave_room(task, left);
+}
+
+// A verb that has returned leaves its room.
+#[inline(always)]
+fn leave_room(task: &mut Running, left: Frame)
+    ensures { task.new ≡ task.old }
+{
+    let Frame {
+        call: _call,
+        start: _start,
+        program: _program,
+        further: _further,
+        state,
+    } = left;
+    let State {
+        place: _,
+        operands,
+        slots,
+        ticks: _,
+    } = state;
+    task.outer.leave_room(slots, operands);
 }

@@ -91,6 +91,14 @@ impl Operands {
         self.values.truncate(stay);
     }
 
+    /// Lets go of all.
+    #[inline(always)]
+    pub fn clear(&mut self)
+        ensures { self.new ≡ [] }
+    {
+        self.values.clear();
+    }
+
     /// Lets go of all but so many at the bottom.
     pub fn keep_lowest(&mut self, count: usize)
         ensures { self.new ≡ lowest count self.old }

@@ -1,6 +1,6 @@
 //! Properties written by programs.
 ghost use Rattle.std.specs.Prelude.{◌≡◌, ◌||◌, IfOk, OnOk, option_map};
-ghost use Rattle.spec_value.specs.Datum.{Datum, is_true};
+ghost use Rattle.spec_value.specs.Datum.{Datum, object as object_of, text, is_true};
 ghost use Rattle.spec_world.specs.World.{Object, object_at};
 ghost use Rattle.spec_world.specs.Permissions.{is_wizard as is_wizard_of};
 ghost use Rattle.spec_moo.specs.Properties.{own_name, own_owner, write, write_object, with_built_in};
@@ -8,7 +8,7 @@ ghost use Rattle.moo_value.specs.Errors.{code_of};
 ghost use Rattle.rules.specs.Lines.{AreAgreeing};
 ghost use Rattle.view.specs.Law.{Goes, Lasts, Tells};
 ghost use Rattle.rules.specs.BuiltIn.{attribute_of, flag_of, property_of};
-ghost use Rattle.rules.specs.Writing.{IsWritten, write_named, built_in_written, place_error, owner_may as owner_may_of, is_bit as is_bit_of};
+ghost use Rattle.rules.specs.Writing.{IsWritten, IsSimplyWritten, write_named as write_named_of, built_in_written, place_error, owner_may as owner_may_of, is_bit as is_bit_of};
 
 use crate::access::built_in::{Attribute, BuiltIn, Flag, named};
 use crate::access::reading::missing;
@@ -49,6 +49,47 @@ pub fn write_property<V: View>(
     }
 }
 
+/// Gives a property another value, by an object and a name, for a programmer who owns it or where all may write it, unless it is a built-in one; whether it
+/// did. Else nothing is done.
+#[inline(always)]
+pub fn write_simply<V: View>(
+    view: &mut V,
+    programmer: i32,
+    object: &Value,
+    name: &Value,
+    value: &Value,
+) -> Result<bool, AllocError>
+    requires { V.holds view.old (V.home view.old) }
+    ensures lasts { Lasts V.holds V.home V.anchor view.old view.new result }
+    ensures left { IfOk result (λ b. Goes V.holds V.now view.old view.new (IsSimplyWritten b programmer object.now name.now value.now)) }
+    ensures well_formed { AreAgreeing V.holds V.now view.old → OnOk result (AreAgreeing V.holds V.now view.new) }
+{
+    match (object.shown(), name.as_text()) {
+        (Shown::Object(object), Some(name)) => write_named(view, programmer, object, name, value),
+        _ => Ok(false),
+    }
+}
+
+// The same by an object's number and a text.
+#[inline(always)]
+fn write_named<V: View>(
+    view: &mut V,
+    programmer: i32,
+    object: i32,
+    name: &Text,
+    value: &Value,
+) -> Result<bool, AllocError>
+    requires { V.holds view.old (V.home view.old) }
+    ensures lasts { Lasts V.holds V.home V.anchor view.old view.new result }
+    ensures left { IfOk result (λ b. Goes V.holds V.now view.old view.new (IsSimplyWritten b programmer (object_of object) (text name.now) value.now)) }
+{
+    let property = named(name.as_str());
+    match property {
+        Some(_) => Ok(false),
+        None => view.write(programmer, object, name, value),
+    }
+}
+
 /// Gives an object's property another value, by its name, for a programmer.
 #[inline(always)]
 pub fn write_by_name<V: View>(
@@ -80,7 +121,7 @@ fn write_own<V: View>(
 ) -> Result<Result<(), MooError>, AllocError>
     ensures lasts { Lasts V.holds V.home V.anchor view.old view.new result }
     ensures left { IfOk result (λ a. Goes V.holds V.now view.old view.new
-        (λ before after. IsWritten before after (write_named before programmer object name.now value (object_at before object)) a)) }
+        (λ before after. IsWritten before after (write_named_of before programmer object name.now value (object_at before object)) a)) }
 {
     let Some(slot) = read_slot(view, object, name)? else {
         let error = missing(view, object)?;

@@ -8,19 +8,30 @@ ghost use Rattle.spec_world.specs.VerbNames.{any_spells, spells as spells_of, sp
 
 /// Whether one of a verb's names, cut at spaces, spells a word. A name without a star spells itself, `a*` each word that `a`
 /// begins, and `a*b` each beginning of `ab` that has all of `a`. Case is ignored.
+#[inline(always)]
 pub fn matches(names: &str, word: &str) -> bool
     ensures { result ≡ any_spells names.now word.now }
 {
     any_matches(names.as_bytes(), word.as_bytes())
 }
 
+// One name alone, without a star, comes first.
 #[tactic(auto, using(crate::proofs::Spelling::plain_spells))]
+#[inline(always)]
 fn any_matches(names: &[u8], word: &[u8]) -> bool
     ensures { result ≡ any_spells names.now word.now }
 {
     if is_plain(names) {
         return is_same(names, word);
     }
+    one_matches(names, word)
+}
+
+// Whether one of several names spells a word.
+#[inline(never)]
+fn one_matches(names: &[u8], word: &[u8]) -> bool
+    ensures { result ≡ any_spells names.now word.now }
+{
     let mut from = 0;
     while from < names.len() {
         let rest = &names[from..];
@@ -34,6 +45,7 @@ fn any_matches(names: &[u8], word: &[u8]) -> bool
 }
 
 // Whether names are one alone, without a star.
+#[inline(always)]
 fn is_plain(names: &[u8]) -> bool
     ensures { IsTrue result → IsPlain names.now }
 {
@@ -71,6 +83,7 @@ fn spells(name: &[u8], word: &[u8]) -> bool
 
 /// Whether two texts are the same. Case is ignored.
 #[tactic(auto, using(crate::proofs::Spelling::same_whole, crate::proofs::Spelling::other_length))]
+#[inline(always)]
 pub fn is_same(a: &[u8], b: &[u8]) -> bool
     ensures { result ≡ same_text (fold_case a.now) (fold_case b.now) }
 {
@@ -110,6 +123,7 @@ fn star(name: &[u8]) -> Option<usize>
 
 /// Whether a text begins with another one. Case is ignored.
 #[tactic(auto, using(crate::proofs::Spelling::begins_on, crate::proofs::Spelling::begins_past))]
+#[inline(always)]
 pub fn begins_with(text: &[u8], front: &[u8]) -> bool
     ensures { result ≡ begins true (fold_case text.now) (fold_case front.now) }
 {

@@ -55,6 +55,7 @@ pub fn run<V: View, N: Natives>(
                 });
             }
             Outcome::Waits(waiting) => {
+                task.outer.forget_rooms();
                 let Running {
                     player: _,
                     frame,

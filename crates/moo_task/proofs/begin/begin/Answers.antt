@@ -7,5 +7,5 @@ pub returns-clause-frame : goal.returns-clause-frame
 returns-clause-frame c args h =
     let player : to_z w32 (of_z w32 c.args.player) ≡ c.args.player = search rules in
     begins (to_z w32 (of_z w32 c.args.player)) c.args.program c.args.call c.args.start c.as_start.result.now args _
-    c.in_ok-slots.slots.items c.none.result c.new.result (c.in_ok-slots.ensures args h) c.as_start.ensures c.none.ensures c.new.ensures
+    c.start_slots.new.slots.items c.none.result c.clear.new.self (c.in_ok-start_slots.ensures args h) c.as_start.ensures c.none.ensures c.clear.ensures
     ∙ ap (λ (z : ℤ). begun z c.args.start c.args.call c.args.program args) player

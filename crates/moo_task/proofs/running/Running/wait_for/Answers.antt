@@ -14,7 +14,8 @@ returns-clause-begins c args h =
 
 pub returns-clause-waits : goal.returns-clause-waits
 returns-clause-waits c =
-    c.in_ok-push_verb.ensures.ok ∙ ap (λ (f : Frame). verb (kept_of f) ∷ c.args.self.now.outer) c.replace-caller.ensures.value
+    c.in_ok-push_verb.ensures.ok ∙ ap (λ (f : Frame). verb (kept_of f) ∷ c.take_room-room.new.self) c.replace-caller.ensures.value
+    ∙ ap (λ ks. verb (kept_of c.args.self.now.frame) ∷ ks) c.take_room-room.ensures
 
 pub returns-clause-ticks : goal.returns-clause-ticks
 returns-clause-ticks c = ap (λ (f : Frame). f.state.ticks) c.replace-caller.ensures.after ∙ c.in_ok-called.ensures.ticks

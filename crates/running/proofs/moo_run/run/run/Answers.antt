@@ -1,10 +1,11 @@
-use Rattle.std.proofs.Common.{◌<◌, ◌∙◌, ap, refl, sym, subst}
+use Rattle.std.proofs.Common.{◌<◌, ◌∷◌, ◌∙◌, ap, refl, sym, subst}
 use Rattle.spec_world.specs.World.{World}
 use Rattle.spec_moo.specs.Pending.{out_of_ticks}
 use Rattle.spec_moo.specs.Segment.{stopped}
-use Rattle.moo_code.specs.Machine.{halts, lacks_operand}
+use Rattle.moo_code.specs.Machine.{halts, waits, verb, lacks_operand}
 use Rattle.moo_code.specs.Lasting.{lasting}
 use Rattle.moo_code.specs.Runs.{ran, IsOver}
+use Rattle.moo_task.specs.Effects.{waiting_of}
 use Rattle.moo_task.specs.Outcomes.{ticks_of, running_kept}
 use Rattle.moo_task.specs.declared.outcome.Outcome.{Outcome}
 use Rattle.local_code.specs.Scenes.{scene_at, led_at}
@@ -113,7 +114,9 @@ returns-in-Waits-clause-stopped g c w h =
           (running_kept c.go_asking.new.task) c.go_asking.new.task.outer (ticks_of c.go_asking.new.task) _ (comes_onward c.args.task.player c.instructions.task c.go_asking.new.task c.instructions.deeds (view.now c.instructions.view w) (view.now c.go_asking.new.view w) c.instructions.invariant.player ((c.in_ok-go_asking.ensures.comes w (c.in_ok-outcome.ensures.step w h).0).1 c.instructions.deeds) _ was.1)
           (step_to c.args.task.player c.go_asking.new.task c.step.new.task c.instructions.deeds c.step.new.deeds (view.now c.go_asking.new.view w) (view.now c.step.new.view w) c.in_ok-outcome.outcome
           _ (c.in_ok-go_asking.ensures.player ∙ c.instructions.invariant.player) l.1
-          (ap (λ (o : Outcome). led_at o c.step.new.deeds (view.now c.step.new.view w) c.step.new.task) c.in-Waits.is))),
+          (ap (λ (o : Outcome). led_at o c.step.new.deeds (view.now c.step.new.view w) c.step.new.task) c.in-Waits.is
+          ∙ ap (λ ks. waits (scene_at c.step.new.deeds (view.now c.step.new.view w) c.step.new.task) (waiting_of c.in-Waits.waiting) (verb (running_kept c.step.new.task) ∷ ks) (ticks_of c.step.new.task))
+          (sym c.forget_rooms.ensures)))),
     )
 
 pub unreachable-requires-in-LacksOperand : goal.unreachable-requires-in-LacksOperand

@@ -1,6 +1,6 @@
 use Rattle.std.proofs.Common.{◌↔◌, map, drop}
 use Rattle.spec_world.specs.Questions.{Agrees}
-use Rattle.view.specs.ReadMeaning.{read_of}
+use Rattle.world.specs.ReadMeaning.{read_of}
 use Rattle.world.proofs.draft.Draft.agrees.Given as goal
 
 abbrev pub invariant-loop-read : goal.invariant-loop-read

@@ -1,5 +1,5 @@
 use Rattle.std.proofs.Common.{◌↔◌, map, drop}
-use Rattle.view.specs.ReadMeaning.{read_of}
+use Rattle.world.specs.ReadMeaning.{read_of}
 use Rattle.world.specs.Besides.{AgreesBesides}
 use Rattle.world.proofs.draft.Draft.agrees_besides.Given as goal
 

@@ -1,10 +1,9 @@
-//! What was read and what is to change.
+//! What was read.
 ghost use Rattle.std.specs.Prelude.{◌≡◌, ◌++◌, ◌∷◌, [], map, IfOk, OnOk, OnErr};
 
-use crate::change::Change;
-use crate::question::{Answer, Question};
 use std::alloc::{AllocError, Global};
 use std::marker::Model;
+use view::question::{Answer, Question};
 
 /// A question with the answer that it had.
 #[derive(Drop)]
@@ -29,14 +28,14 @@ impl Model for Reads {
 
     ghost coded = { coded_list read_code };
 
-    ghost use Rattle.view.specs.ReadMeaning.{read_of};
+    ghost use Rattle.world.specs.ReadMeaning.{read_of};
 
     ghost view = { λ a. map read_of a.items.items };
 }
 
 impl Reads {
     ghost use Rattle.view.specs.Meanings.{question_of, answer_of};
-    ghost use Rattle.view.specs.ReadMeaning.{read_of};
+    ghost use Rattle.world.specs.ReadMeaning.{read_of};
 
     /// Nothing read.
     pub fn new(alloc: Global) -> Reads
@@ -70,55 +69,6 @@ impl Reads {
         ensures err { OnErr result (self.new ≡ self.old) }
     {
         self.items.push(Read { question, answer })?;
-        Ok(())
-    }
-}
-
-/// Changes, in the order in which they are made.
-#[derive(Drop)]
-pub struct Changes {
-    items: Vec<Change>,
-}
-
-impl Model for Changes {
-    ghost use Rattle.std.specs.Prelude.{List, map};
-    ghost use Rattle.std.specs.Coded.{coded_list};
-    ghost use Rattle.spec_world.specs.Questions.{Change as Meant};
-    ghost use Rattle.view.specs.QuestionCode.{change_code};
-    ghost use Rattle.view.specs.Meanings.{change_of};
-
-    ghost Value = { List Meant };
-
-    ghost coded = { coded_list change_code };
-
-    ghost view = { λ a. map change_of a.items.items };
-}
-
-impl Changes {
-    ghost use Rattle.view.specs.Meanings.{change_of};
-
-    /// Nothing changed.
-    pub fn new(alloc: Global) -> Changes
-        ensures { result ≡ [] }
-    {
-        Changes {
-            items: Vec::new(alloc),
-        }
-    }
-
-    /// The changes, in their order.
-    pub fn as_slice(&self) -> &[Change]
-        ensures { map change_of result.now ≡ self.now }
-    {
-        self.items.as_slice()
-    }
-
-    /// One more change.
-    pub fn push(&mut self, change: Change) -> Result<(), AllocError>
-        ensures ok { OnOk result (self.new ≡ self.old ++ change_of change ∷ []) }
-        ensures err { OnErr result (self.new ≡ self.old) }
-    {
-        self.items.push(change)?;
         Ok(())
     }
 }

@@ -41,6 +41,7 @@ def figures(_peers):
         yield Figure(f"the text of a world of {what}", "MB", size)
         read = play(world, [])
         yield Figure(f"{what}, read", "MB/s", size / read.processor)
+        yield Figure(f"{what}, read, by the clock", "MB/s", size / read.seconds)
         yield Figure(f"{what}, memory to read it, beside its text", "times", read.memory / size)
         written = play(world, [], "--out", folder.file("written"))
         yield Figure(f"{what}, written", "MB/s", size / max(written.processor - read.processor, 1e-9))

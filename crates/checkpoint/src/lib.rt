@@ -4,6 +4,7 @@
 //! and its own text is, byte by byte, the one that was read.
 #![tactic(auto)]
 
+mod ahead;
 pub mod decode;
 mod draft;
 pub mod laws;

@@ -1,3 +1,4 @@
 pub mod Gives
+pub mod Known
 pub mod Rows
 pub mod Told

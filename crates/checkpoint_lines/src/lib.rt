@@ -5,6 +5,7 @@
 #![tactic(auto)]
 
 pub mod fault;
+pub mod known;
 pub mod lines;
 mod program;
 pub mod row;

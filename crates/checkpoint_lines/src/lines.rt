@@ -20,11 +20,11 @@ ghost use Rattle.checkpoint_lines.specs.Rows.{row_fields, Left, Reads};
 ghost use Rattle.checkpoint_lines.specs.Told.{HasRoom, NextLine, NextRow, NextWith, NextLines, Tells, IsCount, Ends};
 
 use crate::fault::{DecodeError, FaultKind};
-use crate::program::tree_of;
+use crate::known::{Known, known_or_read};
 use crate::row::Row;
 use line_fields::cut::cut_at;
 use line_fields::fields::{split, split_first};
-use moo_tree::statement::Tree;
+use moo_compiler::program::Program as Compiled;
 use moo_value::text::Text;
 use std::alloc::Global;
 
@@ -33,11 +33,12 @@ use std::alloc::Global;
 pub struct Lines<'a> {
     left: &'a [u8],
     count: usize,
+    known: Vec<Known<'a>>,
 }
 
 impl<'a> Lines<'a> {
-    /// All of a text.
-    pub fn new(text: &'a [u8]) -> Lines<'a>
+    /// All of a text. Of its programs these are known, the next one last.
+    pub fn new(text: &'a [u8], known: Vec<Known<'a>>) -> Lines<'a>
         ensures left { result.left.now ≡ text.now }
         ensures none { result.count ≡ 0 }
         ensures room { HasRoom result }
@@ -45,6 +46,7 @@ impl<'a> Lines<'a> {
         Lines {
             left: text,
             count: 0,
+            known,
         }
     }
 
@@ -197,18 +199,18 @@ impl<'a> Lines<'a> {
         row.texts(alloc, 1)
     }
 
-    /// The program that so many next lines spell.
+    /// The program that so many next lines spell, with its code.
     ///
     /// Fault Code, of the first of them, where they are no program's spelling.
-    pub fn next_program(&mut self, alloc: Global, count: u64) -> Result<Tree, DecodeError>
-        ensures reads { (p : Program) (rest : List datum.Text) → IsTrue (is_tree p) → count ≡ length (canonical_lines p) → Left self.old (canonical_lines p ++ rest) → Reads result self.new rest (λ tree. tree ≡ p) }
+    pub fn next_program(&mut self, alloc: Global, count: u64) -> Result<Compiled, DecodeError>
+        ensures reads { (p : Program) (rest : List datum.Text) → IsTrue (is_tree p) → count ≡ length (canonical_lines p) → Left self.old (canonical_lines p ++ rest) → Reads result self.new rest (λ program. program ≡ p) }
         ensures tells { (whose : Whose) → Tells result self.old self.new (code count [] whose ∷ []) (behind_code whose) }
     {
         let line = self.count.saturating_add(1);
         let text = self.next_lines(count)?;
-        let found = tree_of(alloc, text)?;
+        let found = known_or_read(alloc, &mut self.known, text)?;
         match found {
-            Some(tree) => Ok(tree),
+            Some(program) => Ok(program),
             None => Err(DecodeError::Line {
                 line,
                 kind: FaultKind::Code,

@@ -108,7 +108,7 @@ fn say_where<E: Write>(errors: &mut E, listener: &TcpListener) -> io::Result<()>
 }
 
 // The fixture, or the world of a file.
-fn read_world<R: AllocGlobal + Files>(
+fn read_world<R: AllocGlobal + Files + Threads + Sync>(
     rt: &R,
     name: &str,
 ) -> Result<Result<World, String>, AllocError> {

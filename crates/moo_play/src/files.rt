@@ -12,7 +12,7 @@ use whole_files::writing::write_file;
 use world::worlds::World;
 
 /// The fixture, or the world of a file. A file that cannot be read, and one that is no world's text, give the line of that fault.
-pub fn read_world<R: AllocGlobal + Files>(
+pub fn read_world<R: AllocGlobal + Files + Threads + Sync>(
     rt: &R,
     name: &str,
 ) -> Result<Result<World, String>, AllocError> {

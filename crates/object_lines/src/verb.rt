@@ -70,8 +70,7 @@ fn next_verb(alloc: Global, lines: &mut Lines<'_>) -> Result<Verb, DecodeError>
     ensures tells { Tells result lines.old lines.new (awaited.verb ∷ []) (λ _. []) }
 {
     let head = next_head(alloc, lines)?;
-    let tree = lines.next_program(alloc, head.lines)?;
-    let program = Program::compile(alloc, tree)?;
+    let program = lines.next_program(alloc, head.lines)?;
     Ok(verb(head, program))
 }
 

@@ -18,7 +18,6 @@ use crate::start::next_start;
 use crate::variables::{Variables, next_variables};
 use checkpoint_lines::fault::DecodeError;
 use checkpoint_lines::lines::Lines;
-use moo_compiler::compile::compile;
 use moo_program::program::Program;
 use moo_task::frame::Frame;
 use moo_task::moo_machine::call::Call;
@@ -38,8 +37,8 @@ pub fn next_frame(
     ensures tells { Tells result lines.old lines.new (code head.lines [] (of_frame is_fork) ∷ []) (λ _. []) }
 {
     let Head { call, lines: count } = head;
-    let tree = lines.next_program(alloc, count)?;
-    let program = compile(alloc, tree)?;
+    let kept = lines.next_program(alloc, count)?;
+    let program = kept.whole().clone()?;
     next_under_way(alloc, lines, call, program, is_fork)
 }
 

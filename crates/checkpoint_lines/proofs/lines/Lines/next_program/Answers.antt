@@ -17,7 +17,7 @@ pub returns-in-Some-clause-reads : goal.returns-in-Some-clause-reads
 returns-in-Some-clause-reads c = λ p rest h l e.
     let text = c.in_ok-text.ensures.reads (canonical_lines p) rest (code_is_lines p h) l e in
     let is : c.in_ok-found.found ≡ Some p = c.in_ok-found.ensures.reads p h text.0 in
-    let same : c.in-Some.tree ≡ p = cc (is, c.in-Some.is) in
+    let same : c.in-Some.program ≡ p = cc (is, c.in-Some.is) in
     (same, text.1)
 
 pub returns-in-None-clause-reads : goal.returns-in-None-clause-reads
@@ -33,7 +33,8 @@ returns-in_err-text-clause-tells c = λ whose.
 
 pub returns-in-Some-clause-tells : goal.returns-in-Some-clause-tells
 returns-in-Some-clause-tells c = λ whose room.
-    program_goes c.args.self.now c.next_lines.new.self c.in_ok-text.text.now c.args.count whose c.in-Some.tree c.in_ok-found.found c.in_ok-text.ensures.tells c.in_ok-found.ensures.tells c.in-Some.is room
+    let goes = program_goes c.args.self.now c.next_lines.new.self c.in_ok-text.text.now c.args.count whose c.in-Some.program c.in_ok-found.found c.in_ok-text.ensures.tells c.in_ok-found.ensures.tells c.in-Some.is room in
+    record { fault = goes.fault; lines = goes.lines; room = goes.room }
 
 pub returns-in-None-clause-tells : goal.returns-in-None-clause-tells
 returns-in-None-clause-tells c = λ whose room more.

@@ -1,0 +1,96 @@
+//! Programs that are known, each with the lines that spell it.
+ghost use Rattle.std.specs.Prelude.{◌≡◌, List, Some, IsTrue, IfOk, IfSome};
+ghost use Rattle.spec_value.specs.Datum.{Text};
+ghost use Rattle.spec_program.specs.Tree.{Program as Source};
+ghost use Rattle.spec_program.specs.Trees.{is_tree};
+ghost use Rattle.spec_program.specs.Spelling.{canonical_lines};
+ghost use Rattle.spec_world.specs.Checkpoint.{with_line_ends};
+ghost use Rattle.spec_checkpoint.specs.Lines.{are_lines};
+ghost use Rattle.spec_faults.specs.Codes.{program_of};
+ghost use Rattle.checkpoint_lines.specs.Known.{Spells};
+
+use crate::program::tree_of;
+use moo_compiler::program::Program;
+use std::alloc::{AllocError, Global};
+use std::marker::Model;
+
+/// A program that was read before its turn, with its text: lines with their line feeds.
+#[derive(Drop)]
+pub struct Known<'a> {
+    text: &'a [u8],
+    program: Program,
+}
+
+impl<'a> Model for Known<'a> {
+    ghost use Rattle.checkpoint_lines.specs.Known.{KnownProgram, known_code, Spells};
+
+    ghost Value = { KnownProgram };
+
+    ghost coded = { known_code };
+
+    ghost view = { λ k. record { text = k.text.now; program = k.program } };
+
+    ghost invariant = { λ k. Spells k.text.now k.program };
+}
+
+impl<'a> Known<'a> {
+    /// The program of a text. None where it spells none.
+    pub fn read(alloc: Global, text: &'a [u8]) -> Result<Option<Known<'a>>, AllocError>
+        ensures { IfOk result (λ o. IfSome o (λ k. k.text ≡ text.now)) }
+    {
+        let found = read(alloc, text)?;
+        match found {
+            Some(program) => Ok(Some(Known { text, program })),
+            None => Ok(None),
+        }
+    }
+
+    // The program, if this is its text.
+    fn for_text(self, text: &[u8]) -> Option<Program>
+        ensures { IfSome result (λ p. Spells text.now p) }
+    {
+        let Known { text: own, program } = self;
+        if own == text { Some(program) } else { None }
+    }
+}
+
+// The program of a text, with its code.
+fn read(alloc: Global, text: &[u8]) -> Result<Option<Program>, AllocError>
+    ensures reads { (p : Source) → IsTrue (is_tree p) → text.now ≡ with_line_ends (canonical_lines p) → IfOk result (λ o. o ≡ Some p) }
+    ensures tells { (ts : List Text) → IsTrue (are_lines ts) → text.now ≡ with_line_ends ts → IfOk result (λ o. o ≡ program_of ts) }
+{
+    let found = tree_of(alloc, text)?;
+    match found {
+        Some(tree) => {
+            let program = Program::compile(alloc, tree)?;
+            Ok(Some(program))
+        }
+        None => Ok(None),
+    }
+}
+
+/// The program whose canonical lines these are, each with its line feed, with its code: the last of those that are known, if this is its text, or as it
+/// is read.
+pub(crate) fn known_or_read(
+    alloc: Global,
+    known: &mut Vec<Known<'_>>,
+    text: &[u8],
+) -> Result<Option<Program>, AllocError>
+    ensures reads { (p : Source) → IsTrue (is_tree p) → text.now ≡ with_line_ends (canonical_lines p) → IfOk result (λ o. o ≡ Some p) }
+    ensures tells { (ts : List Text) → IsTrue (are_lines ts) → text.now ≡ with_line_ends ts → IfOk result (λ o. o ≡ program_of ts) }
+{
+    match last_for(known, text) {
+        Some(program) => Ok(Some(program)),
+        None => read(alloc, text),
+    }
+}
+
+// The program of the last that is known, which is known no more, if this is its text.
+fn last_for(known: &mut Vec<Known<'_>>, text: &[u8]) -> Option<Program>
+    ensures { IfSome result (λ p. Spells text.now p) }
+{
+    match known.pop() {
+        Some(last) => last.for_text(text),
+        None => None,
+    }
+}

@@ -1,4 +1,7 @@
 pub mod Lists
+pub mod Marks
+pub mod Places
 pub mod Targets
 pub mod Texts
 pub mod Depth
+pub mod Boxes

@@ -4,7 +4,6 @@ use Rattle.std.specs.Global.{Global}
 use Rattle.spec_program.specs.Tree.{Statement, Otherwise, no_else, else_do}
 use Rattle.spec_program.specs.ReadPrograms as by
 use Rattle.moo_tree.specs.StatementView.{program_of, branches_of, arms_of}
-use Rattle.moo_reader.specs.Nodes.{nodes_of}
 use Rattle.moo_reader.specs.declared.block.Stray.{Stray}
 use Rattle.moo_reader.specs.declared.block.FoundStatement.{FoundStatement}
 use Rattle.moo_reader.specs.declared.block.Block.{Block}
@@ -19,10 +18,10 @@ abbrev pub strays_of : List Stray → List by.Stray
 strays_of ss = reverse (map stray_of ss)
 
 abbrev pub statement_found : FoundStatement → by.FoundStatement
-statement_found s = record { tree = s.tree; nodes = nodes_of s.nodes.items; strays = strays_of s.strays.items }
+statement_found s = record { tree = s.tree; nodes = s.nodes; strays = strays_of s.strays.items }
 
 abbrev pub block_found : Block → by.FoundBlock
-block_found p = record { tree = program_of (reverse p.reversed.items); nodes = nodes_of p.nodes.items; strays = strays_of p.strays.items }
+block_found p = record { tree = program_of (reverse p.reversed.items); nodes = p.nodes; strays = strays_of p.strays.items }
 
 abbrev pub otherwise_of : Option (Vec Statement Global) → Otherwise
 otherwise_of None = no_else
@@ -32,9 +31,9 @@ abbrev pub branches_found : Branches → by.FoundBranches
 branches_found b = record {
   branches = branches_of (reverse b.reversed.items);
   otherwise = otherwise_of b.otherwise;
-  nodes = nodes_of b.nodes.items;
+  nodes = b.nodes;
   strays = strays_of b.strays.items;
 }
 
 abbrev pub arms_found : Arms → by.FoundArms
-arms_found a = record { tree = arms_of (reverse a.reversed.items); nodes = nodes_of a.nodes.items; strays = strays_of a.strays.items }
+arms_found a = record { tree = arms_of (reverse a.reversed.items); nodes = a.nodes; strays = strays_of a.strays.items }

@@ -1,3 +1,4 @@
 pub mod Nodes
+pub mod Marks
 pub mod Views
 pub mod BlockViews

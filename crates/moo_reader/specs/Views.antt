@@ -1,13 +1,14 @@
 -- What was read, without where it lies in memory.
 use Rattle.std.specs.Prelude.{◌≡◌, Bool, true, false, List, reverse, Option, Some, None}
 use Rattle.spec_program.specs.Tree.{Expr, variable, property, index, range, Target, to_variable, to_property, to_index, to_range}
+use Rattle.spec_program.specs.Reading.{Node}
 use Rattle.spec_program.specs.ReadExpressions as by
 use Rattle.spec_program.specs.Frames as f
 use Rattle.moo_value.specs.Operators.{binary_of}
 use Rattle.moo_tree.specs.declared.expression.Argument.{Argument}
 use Rattle.moo_tree.specs.ExpressionView.{arguments_of, items_of, codes_of}
-use Rattle.moo_reader.specs.Nodes.{nodes_of}
 use Rattle.moo_reader.specs.declared.found.Found.{Found}
+use Rattle.moo_reader.specs.declared.found.Whole.{Whole}
 use Rattle.moo_reader.specs.declared.found.Arguments.{Arguments}
 use Rattle.moo_reader.specs.declared.found.Braces.{Braces}
 use Rattle.moo_reader.specs.declared.found.Braces.TheVariants.{NoScatter, PerhapsScatter, SurelyScatter}
@@ -19,16 +20,15 @@ use Rattle.moo_reader.specs.declared.found.BracedItem.TheVariants as item
 use Rattle.moo_reader.specs.declared.found.FoundCodes.{FoundCodes}
 use Rattle.moo_reader.specs.declared.found.Join.{Join}
 use Rattle.moo_reader.specs.declared.found.Join.TheVariants as join
-use Rattle.moo_reader.specs.declared.node.Node.{Node}
 
 abbrev pub found_of : Found → by.Found
-found_of e = record { tree = e.whole.value.tree; line = e.line; nodes = nodes_of e.whole.value.nodes.items }
+found_of e = record { tree = e.whole.value.tree; line = e.whole.value.line; nodes = e.whole.value.nodes }
 
 abbrev pub arguments_found : Arguments → by.FoundArguments
-arguments_found a = record { tree = arguments_of (reverse a.reversed.items); nodes = nodes_of a.nodes.items }
+arguments_found a = record { tree = arguments_of (reverse a.reversed.items); nodes = a.nodes }
 
 abbrev pub InOrder : List Argument → List Node → Arguments → Type 0
-InOrder es ns a = (arguments_of es ≡ (arguments_found a).tree) × (nodes_of ns ≡ (arguments_found a).nodes)
+InOrder es ns a = (arguments_of es ≡ (arguments_found a).tree) × (ns ≡ (arguments_found a).nodes)
 
 abbrev pub join_of : Join → f.Join
 join_of (join.Operator o) = f.by_operator (binary_of o)
@@ -37,8 +37,8 @@ join_of join.Either = f.by_either
 
 abbrev pub braces_of : Braces → by.Braces
 braces_of NoScatter = by.no_braces
-braces_of (PerhapsScatter s) = by.perhaps_scatter (items_of s.value.items.items) (nodes_of s.value.nodes.items)
-braces_of (SurelyScatter s) = by.surely_scatter (items_of s.value.items.items) (nodes_of s.value.nodes.items)
+braces_of (PerhapsScatter s) = by.perhaps_scatter (items_of s.value.items.items) s.value.nodes
+braces_of (SurelyScatter s) = by.surely_scatter (items_of s.value.items.items) s.value.nodes
 
 -- the target that a tree is, where it is one
 abbrev pub stepped : Option Target → (Target → Target) → Option Target
@@ -56,8 +56,16 @@ abbrev pub target_if : Bool → Expr → Option Target
 target_if true e = as_target e
 target_if false e = None
 
+abbrev pub whole_of : Whole → by.Operand
+whole_of w = record {
+  found = record { tree = w.tree; line = w.line; nodes = w.nodes };
+  target = target_if w.is_target w.tree;
+  ranged = w.ranged;
+  braces = braces_of w.braces;
+}
+
 abbrev pub operand_of : Operand → by.Operand
-operand_of o = record { found = found_of o.found; target = target_if o.is_target o.found.whole.value.tree; ranged = o.ranged; braces = braces_of o.braces }
+operand_of o = whole_of o.whole.value
 
 abbrev pub allowed_of : Allowed → by.Allowed
 allowed_of a = record { as_list = a.as_list; as_scatter = a.as_scatter; has_rest = a.has_rest }
@@ -68,11 +76,11 @@ items_found f = record {
   arguments = (arguments_found f.arguments).tree;
   argument_nodes = (arguments_found f.arguments).nodes;
   items = items_of (reverse f.reversed.items);
-  default_nodes = nodes_of f.default_nodes.items;
+  default_nodes = f.default_nodes;
 }
 
 abbrev pub codes_found : FoundCodes → by.FoundCodes
-codes_found c = record { tree = codes_of c.tree; nodes = nodes_of c.nodes.items }
+codes_found c = record { tree = codes_of c.tree; nodes = c.nodes }
 
 abbrev pub item_of : BracedItem → f.Item
 item_of (item.Bare x line) = f.bare x line

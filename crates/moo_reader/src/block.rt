@@ -1,6 +1,6 @@
 //! Statements that were read, and what they are made of.
 
-use crate::node::Node;
+use crate::node::Nodes;
 use moo_tree::statement::{Arm, Branch, Statement};
 use moo_value::text::Text;
 
@@ -16,7 +16,7 @@ pub struct Stray {
 #[derive(Drop)]
 pub struct FoundStatement {
     pub tree: Statement,
-    pub nodes: Vec<Node>,
+    pub nodes: Nodes,
     pub strays: Vec<Stray>,
 }
 
@@ -24,7 +24,7 @@ pub struct FoundStatement {
 #[derive(Drop)]
 pub struct Block {
     pub reversed: Vec<Statement>,
-    pub nodes: Vec<Node>,
+    pub nodes: Nodes,
     pub strays: Vec<Stray>,
 }
 
@@ -33,7 +33,7 @@ pub struct Block {
 pub struct Branches {
     pub reversed: Vec<Branch>,
     pub otherwise: Option<Vec<Statement>>,
-    pub nodes: Vec<Node>,
+    pub nodes: Nodes,
     pub strays: Vec<Stray>,
 }
 
@@ -41,6 +41,6 @@ pub struct Branches {
 #[derive(Drop)]
 pub struct Arms {
     pub reversed: Vec<Arm>,
-    pub nodes: Vec<Node>,
+    pub nodes: Nodes,
     pub strays: Vec<Stray>,
 }

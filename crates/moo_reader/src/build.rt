@@ -6,41 +6,36 @@ ghost use Rattle.spec_program.specs.ReadExpressions as by;
 ghost use Rattle.spec_program.specs.Frames.{joins};
 ghost use Rattle.moo_tree.specs.ExpressionView.{node_expr, items_of};
 ghost use Rattle.moo_value.specs.Operators.{unary_of};
-ghost use Rattle.moo_reader.specs.Nodes.{nodes_of};
 ghost use Rattle.moo_reader.specs.Views.{found_of, join_of, operand_of, arguments_found, codes_found, InOrder};
 
-use crate::found::{Arguments, Braces, Found, FoundCodes, Join, Operand, Whole};
-use crate::node::{Node, followed, under};
+use crate::found::{
+    Arguments, Braces, Found, FoundCodes, Join, Operand, Parts, as_operand, in_box, out_of_box,
+};
+use crate::node::{Nodes, followed, under};
 use moo_tree::expression::{Argument, Expression, ExpressionNode, Fallback, Item, Target};
 use moo_value::operator::UnaryOperator;
 use moo_value::text::Text;
 use std::alloc::{AllocError, Global};
 
 /// An expression of this line, with the nodes of its parts.
+#[inline(always)]
 pub fn found_at(
     alloc: Global,
     line: u64,
     node: ExpressionNode,
-    nodes: Vec<Node>,
+    nodes: Nodes,
 ) -> Result<Found, AllocError>
-    ensures { IfOk result (λ e. found_of e ≡ by.found_at line (node_expr node) (nodes_of nodes.items)) }
+    ensures { IfOk result (λ e. found_of e ≡ by.found_at line (node_expr node) nodes) }
 {
     let nodes = under(line, nodes)?;
-    let tree = Expression { node };
-    let whole = Box::new(alloc, Whole { tree, nodes })?;
-    Ok(Found { line, whole })
+    in_box(alloc, line, Expression { node }, nodes)
 }
 
 /// An operand that is not assigned to.
 pub fn whole(found: Found) -> Operand
     ensures { operand_of result ≡ by.whole (found_of found) }
 {
-    Operand {
-        found,
-        is_target: false,
-        ranged: false,
-        braces: Braces::NoScatter,
-    }
+    as_operand(found, false, false, Braces::NoScatter)
 }
 
 /// An operator before an operand.
@@ -52,7 +47,7 @@ pub fn unary(
 ) -> Result<Found, AllocError>
     ensures { IfOk result (λ e. found_of e ≡ by.found_at line (tree.unary (unary_of operator) (found_of operand).tree) ((found_of operand).nodes)) }
 {
-    let Whole { tree, nodes } = Box::into_inner(operand.whole);
+    let Parts { tree, nodes, .. } = out_of_box(operand);
     let tree = Box::new(alloc, tree)?;
     found_at(alloc, line, ExpressionNode::Unary(operator, tree), nodes)
 }
@@ -63,22 +58,23 @@ struct Two {
     first: Box<Expression>,
     second: Box<Expression>,
     line: u64,
-    nodes: Vec<Node>,
+    nodes: Nodes,
 }
 
+#[inline(always)]
 fn parts_of(alloc: Global, one: Found, other: Found) -> Result<Two, AllocError>
     ensures first { IfOk result (λ p. p.first.value ≡ (found_of one).tree) }
     ensures second { IfOk result (λ p. p.second.value ≡ (found_of other).tree) }
-    ensures line { IfOk result (λ p. p.line ≡ one.line) }
-    ensures nodes { IfOk result (λ p. nodes_of p.nodes.items ≡ (found_of one).nodes ++ (found_of other).nodes) }
+    ensures line { IfOk result (λ p. p.line ≡ (found_of one).line) }
+    ensures nodes { IfOk result (λ p. p.nodes ≡ (found_of one).nodes ++ (found_of other).nodes) }
 {
-    let Found { line, whole } = one;
-    let Whole { tree, nodes } = Box::into_inner(whole);
-    let Whole {
+    let Parts { line, tree, nodes } = out_of_box(one);
+    let Parts {
         tree: behind,
         nodes: others,
-    } = Box::into_inner(other.whole);
-    let nodes = followed(nodes, &others)?;
+        ..
+    } = out_of_box(other);
+    let nodes = followed(nodes, others)?;
     let first = Box::new(alloc, tree)?;
     let second = Box::new(alloc, behind)?;
     Ok(Two {
@@ -94,16 +90,15 @@ fn parts_of(alloc: Global, one: Found, other: Found) -> Result<Two, AllocError>
 struct Before {
     tree: Box<Expression>,
     line: u64,
-    nodes: Vec<Node>,
+    nodes: Nodes,
 }
 
-fn put_before(alloc: Global, found: Found, others: &[Node]) -> Result<Before, AllocError>
+fn put_before(alloc: Global, found: Found, others: Nodes) -> Result<Before, AllocError>
     ensures tree { IfOk result (λ p. p.tree.value ≡ (found_of found).tree) }
-    ensures line { IfOk result (λ p. p.line ≡ found.line) }
-    ensures nodes { IfOk result (λ p. nodes_of p.nodes.items ≡ (found_of found).nodes ++ nodes_of others.now) }
+    ensures line { IfOk result (λ p. p.line ≡ (found_of found).line) }
+    ensures nodes { IfOk result (λ p. p.nodes ≡ (found_of found).nodes ++ others) }
 {
-    let Found { line, whole } = found;
-    let Whole { tree, nodes } = Box::into_inner(whole);
+    let Parts { line, tree, nodes } = out_of_box(found);
     let nodes = followed(nodes, others)?;
     let tree = Box::new(alloc, tree)?;
     Ok(Before { tree, line, nodes })
@@ -121,7 +116,7 @@ fn join_node(join: Join, left: Box<Expression>, right: Box<Expression>) -> Expre
 
 /// Two expressions and what stands between them.
 pub fn joined(alloc: Global, join: Join, left: Found, right: Found) -> Result<Found, AllocError>
-    ensures { IfOk result (λ e. found_of e ≡ by.found_at left.line (joins (join_of join) (found_of left).tree (found_of right).tree)
+    ensures { IfOk result (λ e. found_of e ≡ by.found_at (found_of left).line (joins (join_of join) (found_of left).tree (found_of right).tree)
         ((found_of left).nodes ++ (found_of right).nodes)) }
 {
     let Two {
@@ -140,7 +135,7 @@ pub fn conditional(
     one: Found,
     other: Found,
 ) -> Result<Found, AllocError>
-    ensures { IfOk result (λ e. found_of e ≡ by.found_at condition.line (tree.conditional (found_of condition).tree (found_of one).tree (found_of other).tree)
+    ensures { IfOk result (λ e. found_of e ≡ by.found_at (found_of condition).line (tree.conditional (found_of condition).tree (found_of one).tree (found_of other).tree)
         ((found_of condition).nodes ++ ((found_of one).nodes ++ (found_of other).nodes))) }
 {
     let Two {
@@ -149,7 +144,7 @@ pub fn conditional(
         nodes: others,
         ..
     } = parts_of(alloc, one, other)?;
-    let Before { tree, line, nodes } = put_before(alloc, condition, &others)?;
+    let Before { tree, line, nodes } = put_before(alloc, condition, others)?;
     found_at(
         alloc,
         line,
@@ -175,16 +170,11 @@ pub fn property_of(alloc: Global, object: Found, name: Found) -> Result<Operand,
     ensures { IfOk result (λ o. operand_of o ≡ by.property_of (found_of object) (found_of name)) }
 {
     let found = property(alloc, object, name)?;
-    Ok(Operand {
-        found,
-        is_target: true,
-        ranged: false,
-        braces: Braces::NoScatter,
-    })
+    Ok(as_operand(found, true, false, Braces::NoScatter))
 }
 
 fn item(alloc: Global, list: Found, index: Found) -> Result<Found, AllocError>
-    ensures { IfOk result (λ e. found_of e ≡ by.found_at list.line (tree.index (found_of list).tree (found_of index).tree)
+    ensures { IfOk result (λ e. found_of e ≡ by.found_at (found_of list).line (tree.index (found_of list).tree (found_of index).tree)
         ((found_of list).nodes ++ (found_of index).nodes)) }
 {
     let Two {
@@ -207,24 +197,15 @@ fn still_target(is_target: bool, ranged: bool) -> bool
 pub fn index_of(alloc: Global, operand: Operand, index: Found) -> Result<Operand, AllocError>
     ensures { IfOk result (λ o. operand_of o ≡ by.index_of (operand_of operand) (found_of index)) }
 {
-    let Operand {
-        found,
-        is_target,
-        ranged,
-        ..
-    } = operand;
+    let Operand { whole } = operand;
+    let is_target = still_target(whole.is_target, whole.ranged);
+    let found = Found { whole };
     let found = item(alloc, found, index)?;
-    let is_target = still_target(is_target, ranged);
-    Ok(Operand {
-        found,
-        is_target,
-        ranged: false,
-        braces: Braces::NoScatter,
-    })
+    Ok(as_operand(found, is_target, false, Braces::NoScatter))
 }
 
 fn range(alloc: Global, list: Found, first: Found, last: Found) -> Result<Found, AllocError>
-    ensures { IfOk result (λ e. found_of e ≡ by.found_at list.line (tree.range (found_of list).tree (found_of first).tree (found_of last).tree)
+    ensures { IfOk result (λ e. found_of e ≡ by.found_at (found_of list).line (tree.range (found_of list).tree (found_of first).tree (found_of last).tree)
         ((found_of list).nodes ++ ((found_of first).nodes ++ (found_of last).nodes))) }
 {
     let Two {
@@ -233,7 +214,7 @@ fn range(alloc: Global, list: Found, first: Found, last: Found) -> Result<Found,
         nodes: others,
         ..
     } = parts_of(alloc, first, last)?;
-    let Before { tree, line, nodes } = put_before(alloc, list, &others)?;
+    let Before { tree, line, nodes } = put_before(alloc, list, others)?;
     found_at(
         alloc,
         line,
@@ -251,20 +232,11 @@ pub fn range_of(
 ) -> Result<Operand, AllocError>
     ensures { IfOk result (λ o. operand_of o ≡ by.range_of (operand_of operand) (found_of first) (found_of last)) }
 {
-    let Operand {
-        found,
-        is_target,
-        ranged,
-        ..
-    } = operand;
+    let Operand { whole } = operand;
+    let is_target = still_target(whole.is_target, whole.ranged);
+    let found = Found { whole };
     let found = range(alloc, found, first, last)?;
-    let is_target = still_target(is_target, ranged);
-    Ok(Operand {
-        found,
-        is_target,
-        ranged: true,
-        braces: Braces::NoScatter,
-    })
+    Ok(as_operand(found, is_target, true, Braces::NoScatter))
 }
 
 /// No arguments.
@@ -273,7 +245,7 @@ pub fn no_arguments(alloc: Global) -> Arguments
 {
     Arguments {
         reversed: Vec::new(alloc),
-        nodes: Vec::new(alloc),
+        nodes: Nodes::none(alloc),
     }
 }
 
@@ -286,12 +258,12 @@ pub fn with_argument(
 ) -> Result<Arguments, AllocError>
     ensures { IfOk result (λ es. arguments_found es ≡ by.with_argument spliced (found_of found) (arguments_found arguments)) }
 {
-    let Whole { tree, nodes } = Box::into_inner(found.whole);
+    let Parts { tree, nodes, .. } = out_of_box(found);
     let Arguments {
         mut reversed,
         nodes: others,
     } = arguments;
-    let nodes = followed(nodes, &others)?;
+    let nodes = followed(nodes, others)?;
     if spliced {
         reversed.push(Argument::Splice(tree))?;
     } else {
@@ -301,8 +273,8 @@ pub fn with_argument(
 }
 
 /// Arguments in their order.
-pub fn in_order(arguments: Arguments) -> (Vec<Argument>, Vec<Node>)
-    ensures { InOrder result.0.items result.1.items arguments }
+pub fn in_order(arguments: Arguments) -> (Vec<Argument>, Nodes)
+    ensures { InOrder result.0.items result.1 arguments }
 {
     let Arguments {
         mut reversed,
@@ -335,7 +307,7 @@ pub fn verb_call(
     name: Found,
     arguments: Arguments,
 ) -> Result<Found, AllocError>
-    ensures { IfOk result (λ e. found_of e ≡ by.found_at object.line (tree.verb_call (found_of object).tree (found_of name).tree (arguments_found arguments).tree)
+    ensures { IfOk result (λ e. found_of e ≡ by.found_at (found_of object).line (tree.verb_call (found_of object).tree (found_of name).tree (arguments_found arguments).tree)
         ((found_of object).nodes ++ ((found_of name).nodes ++ (arguments_found arguments).nodes))) }
 {
     let (arguments, of_arguments) = in_order(arguments);
@@ -343,12 +315,12 @@ pub fn verb_call(
         tree: second,
         nodes: others,
         ..
-    } = put_before(alloc, name, &of_arguments)?;
+    } = put_before(alloc, name, of_arguments)?;
     let Before {
         tree: first,
         line,
         nodes,
-    } = put_before(alloc, object, &others)?;
+    } = put_before(alloc, object, others)?;
     found_at(
         alloc,
         line,
@@ -362,17 +334,18 @@ pub fn assignment(
     alloc: Global,
     target: Target,
     line: u64,
-    nodes: Vec<Node>,
+    nodes: Nodes,
     value: Found,
 ) -> Result<Found, AllocError>
     ensures { IfOk result (λ e. found_of e ≡ by.found_at line (tree.assignment target (found_of value).tree)
-        (nodes_of nodes.items ++ (found_of value).nodes)) }
+        (nodes ++ (found_of value).nodes)) }
 {
-    let Whole {
+    let Parts {
         tree,
         nodes: others,
-    } = Box::into_inner(value.whole);
-    let nodes = followed(nodes, &others)?;
+        ..
+    } = out_of_box(value);
+    let nodes = followed(nodes, others)?;
     let tree = Box::new(alloc, tree)?;
     found_at(alloc, line, ExpressionNode::Assignment(target, tree), nodes)
 }
@@ -382,17 +355,18 @@ pub fn scatter(
     alloc: Global,
     items: Vec<Item>,
     line: u64,
-    nodes: Vec<Node>,
+    nodes: Nodes,
     value: Found,
 ) -> Result<Found, AllocError>
     ensures { IfOk result (λ e. found_of e ≡ by.found_at line (tree.scatter (items_of items.items) (found_of value).tree)
-        (nodes_of nodes.items ++ (found_of value).nodes)) }
+        (nodes ++ (found_of value).nodes)) }
 {
-    let Whole {
+    let Parts {
         tree,
         nodes: others,
-    } = Box::into_inner(value.whole);
-    let nodes = followed(nodes, &others)?;
+        ..
+    } = out_of_box(value);
+    let nodes = followed(nodes, others)?;
     let tree = Box::new(alloc, tree)?;
     found_at(alloc, line, ExpressionNode::Scatter(items, tree), nodes)
 }
@@ -404,7 +378,7 @@ fn catch(alloc: Global, line: u64, found: Found, codes: FoundCodes) -> Result<Fo
         tree: codes,
         nodes: of_codes,
     } = codes;
-    let Before { tree, nodes, .. } = put_before(alloc, found, &of_codes)?;
+    let Before { tree, nodes, .. } = put_before(alloc, found, of_codes)?;
     found_at(
         alloc,
         line,
@@ -440,13 +414,14 @@ fn catch_instead(
         tree: codes,
         nodes: of_codes,
     } = codes;
-    let Whole {
+    let Parts {
         tree: other,
         nodes: of_value,
-    } = Box::into_inner(value.whole);
-    let others = followed(of_codes, &of_value)?;
+        ..
+    } = out_of_box(value);
+    let others = followed(of_codes, of_value)?;
     let other = Box::new(alloc, other)?;
-    let Before { tree, nodes, .. } = put_before(alloc, found, &others)?;
+    let Before { tree, nodes, .. } = put_before(alloc, found, others)?;
     found_at(
         alloc,
         line,

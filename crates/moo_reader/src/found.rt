@@ -1,21 +1,29 @@
 //! What was read.
 
-use crate::node::Node;
+ghost use Rattle.std.specs.Prelude.{◌≡◌, IfOk};
+ghost use Rattle.moo_reader.specs.Views.{found_of, operand_of, target_if, braces_of};
+
+use crate::node::Nodes;
 use moo_tree::expression::{Argument, Codes, Expression, Item};
 use moo_value::operator::BinaryOperator;
 use moo_value::text::Text;
+use std::alloc::{AllocError, Global};
 
-/// A tree, and the nodes in it.
+/// A tree, the line of its first token, its parentheses included, and the nodes in it.
+/// Of an operand it tells besides whether it may be assigned to, whether its last step is a range, and what its braces may be.
 #[derive(Drop)]
 pub struct Whole {
+    pub line: u64,
     pub tree: Expression,
-    pub nodes: Vec<Node>,
+    pub nodes: Nodes,
+    pub is_target: bool,
+    pub ranged: bool,
+    pub braces: Braces,
 }
 
-/// An expression with the line of its first token, its parentheses included.
+/// An expression.
 #[derive(Drop)]
 pub struct Found {
-    pub line: u64,
     pub whole: Box<Whole>,
 }
 
@@ -23,14 +31,14 @@ pub struct Found {
 #[derive(Drop)]
 pub struct Arguments {
     pub reversed: Vec<Argument>,
-    pub nodes: Vec<Node>,
+    pub nodes: Nodes,
 }
 
 /// Items of a scatter, and the nodes of their defaults.
 #[derive(Drop)]
 pub struct Scattering {
     pub items: Vec<Item>,
-    pub nodes: Vec<Node>,
+    pub nodes: Nodes,
 }
 
 /// What braces may be beside a list.
@@ -41,13 +49,10 @@ pub enum Braces {
     SurelyScatter(Box<Scattering>),
 }
 
-/// What stands before operators: whether it may be assigned to, and whether its last step is a range.
+/// What stands before operators.
 #[derive(Drop)]
 pub struct Operand {
-    pub found: Found,
-    pub is_target: bool,
-    pub ranged: bool,
-    pub braces: Braces,
+    pub whole: Box<Whole>,
 }
 
 /// What the items so far allow: a list, a scatter; and whether one of them takes the rest.
@@ -64,7 +69,7 @@ pub struct Items {
     pub allowed: Allowed,
     pub arguments: Arguments,
     pub reversed: Vec<Item>,
-    pub default_nodes: Vec<Node>,
+    pub default_nodes: Nodes,
 }
 
 /// An item of braces that was read, before those behind it. Names are as they are written.
@@ -84,7 +89,7 @@ pub enum BracedItem {
 #[derive(Drop)]
 pub struct FoundCodes {
     pub tree: Codes,
-    pub nodes: Vec<Node>,
+    pub nodes: Nodes,
 }
 
 /// What stands between two expressions.
@@ -93,4 +98,64 @@ pub enum Join {
     Operator(BinaryOperator),
     Both,
     Either,
+}
+
+/// An expression out of its box.
+#[derive(Drop)]
+pub struct Parts {
+    pub line: u64,
+    pub tree: Expression,
+    pub nodes: Nodes,
+}
+
+/// Takes an expression out of its box.
+#[inline(always)]
+pub fn out_of_box(found: Found) -> Parts
+    ensures line { result.line ≡ (found_of found).line }
+    ensures tree { result.tree ≡ (found_of found).tree }
+    ensures nodes { result.nodes ≡ (found_of found).nodes }
+{
+    let Whole {
+        line,
+        tree,
+        nodes,
+        ..
+    } = Box::into_inner(found.whole);
+    Parts { line, tree, nodes }
+}
+
+/// An expression in its box.
+#[inline(always)]
+pub fn in_box(alloc: Global, line: u64, tree: Expression, nodes: Nodes) -> Result<Found, AllocError>
+    ensures { IfOk result (λ e. found_of e ≡ record { tree = tree; line = line; nodes = nodes }) }
+{
+    let whole = Box::new(
+        alloc,
+        Whole {
+            line,
+            tree,
+            nodes,
+            is_target: false,
+            ranged: false,
+            braces: Braces::NoScatter,
+        },
+    )?;
+    Ok(Found { whole })
+}
+
+/// An expression as an operand: whether it may be assigned to, whether its last step is a range, and what its braces may be.
+#[inline(always)]
+pub fn as_operand(found: Found, is_target: bool, ranged: bool, braces: Braces) -> Operand
+    ensures { operand_of result ≡ record {
+      found = found_of found;
+      target = target_if is_target (found_of found).tree;
+      ranged = ranged;
+      braces = braces_of braces;
+    } }
+{
+    let Found { mut whole } = found;
+    whole.is_target = is_target;
+    whole.ranged = ranged;
+    whole.braces = braces;
+    Operand { whole }
 }

@@ -6,14 +6,14 @@ ghost use Rattle.spec_program.specs.Tree as tree;
 ghost use Rattle.spec_program.specs.ReadExpressions as by;
 ghost use Rattle.spec_program.specs.Frames.{with_item};
 ghost use Rattle.moo_tree.specs.ExpressionView.{items_of};
-ghost use Rattle.moo_reader.specs.Nodes.{nodes_of};
 ghost use Rattle.moo_reader.specs.Views.{found_of, operand_of, arguments_found, allowed_of, items_found, braces_of, item_of};
 
 use crate::build::{listing, no_arguments, with_argument};
 use crate::found::{
-    Allowed, Arguments, BracedItem, Braces, Found, Items, Operand, Scattering, Whole,
+    Allowed, Arguments, BracedItem, Braces, Found, Items, Operand, Parts, Scattering, as_operand,
+    out_of_box,
 };
-use crate::node::{Node, followed};
+use crate::node::{Nodes, followed};
 use crate::start::variable_found;
 use crate::text::lower_case;
 use moo_tree::expression::Item;
@@ -28,7 +28,7 @@ pub fn no_more(alloc: Global, allowed: Allowed) -> Items
         allowed,
         arguments: no_arguments(alloc),
         reversed: Vec::new(alloc),
-        default_nodes: Vec::new(alloc),
+        default_nodes: Nodes::none(alloc),
     }
 }
 
@@ -119,8 +119,8 @@ fn with_default(alloc: Global, word: Text, found: Found, items: Items) -> Result
         mut reversed,
         default_nodes,
     } = items;
-    let Whole { tree, nodes } = Box::into_inner(found.whole);
-    let default_nodes = followed(nodes, &default_nodes)?;
+    let Parts { tree, nodes, .. } = out_of_box(found);
+    let default_nodes = followed(nodes, default_nodes)?;
     let name = lower_case(alloc, &word)?;
     reversed.push(Item::Default(name, tree))?;
     Ok(Items {
@@ -167,10 +167,10 @@ fn braces_by(
     alloc: Global,
     allowed: Allowed,
     items: Vec<Item>,
-    nodes: Vec<Node>,
+    nodes: Nodes,
 ) -> Result<Braces, AllocError>
     ensures { IfOk result (λ b. braces_of b ≡ (if allowed.as_scatter then (if allowed.as_list then by.perhaps_scatter (items_of items.items)
-        (nodes_of nodes.items) else by.surely_scatter (items_of items.items) (nodes_of nodes.items)) else by.no_braces)) }
+        nodes else by.surely_scatter (items_of items.items) nodes) else by.no_braces)) }
 {
     if !allowed.as_scatter {
         return Ok(Braces::NoScatter);
@@ -196,10 +196,5 @@ pub fn braces_found(alloc: Global, line: u64, items: Items) -> Result<Operand, A
     let found = listing(alloc, line, arguments)?;
     reversed.reverse();
     let braces = braces_by(alloc, allowed, reversed, default_nodes)?;
-    Ok(Operand {
-        found,
-        is_target: false,
-        ranged: false,
-        braces,
-    })
+    Ok(as_operand(found, false, false, braces))
 }

@@ -1,11 +1,13 @@
 //! How deep the parts of a tree lie.
 
-ghost use Rattle.std.specs.Prelude.{◌≡◌, ◌++◌, IfOk};
-ghost use Rattle.spec_program.specs.Reading.{under, deeper};
+ghost use Rattle.std.specs.Prelude.{◌≡◌, ◌<◌, ◌∷◌, ◌++◌, [], length, get_or, IfOk};
+ghost use Rattle.spec_program.specs.Reading.{under};
 ghost use Rattle.spec_program.specs.KeptNodes as spec;
-ghost use Rattle.moo_reader.specs.Nodes.{node_of, nodes_of};
+ghost use Rattle.moo_reader.specs.Nodes.{node_of};
 
 use std::alloc::{AllocError, Global};
+use std::collections::VecDeque;
+use std::marker::Model;
 
 /// A statement or an expression: how many of them are on the path to it, itself included, and the line where it begins.
 #[derive(Clone, Copy, Debug, PartialEq, Eq)]
@@ -14,43 +16,168 @@ pub struct Node {
     pub line: u64,
 }
 
-impl Node {
-    // The node in one that is around it. A depth beyond all memory is a lack of memory.
-    fn deeper(self) -> Result<Node, AllocError>
-        ensures { IfOk result (λ n. node_of n ≡ deeper (node_of self)) }
+// A node whose depth is the base, less this start.
+#[derive(Clone, Copy)]
+struct Mark {
+    start: u64,
+    line: u64,
+}
+
+/// Nodes in the order in which they begin. Their depths are told from one base, so that a node more around them all changes nothing but that.
+#[derive(Drop)]
+pub struct Nodes {
+    base: u64,
+    marks: VecDeque<Mark>,
+}
+
+impl Model for Nodes {
+    ghost use Rattle.std.specs.Prelude.{List};
+    ghost use Rattle.spec_program.specs.Reading.{Node};
+    ghost use Rattle.moo_reader.specs.Marks.{nodes_at, StartWithin};
+
+    ghost Value = { List Node };
+
+    ghost view = { λ a. nodes_at a.base a.marks.items };
+
+    ghost invariant = { λ a. StartWithin a.base a.marks.items };
+}
+
+// Half of the numbers are left for depths, and as many for nodes around.
+const FIRST_BASE: u64 = 9223372036854775808;
+
+impl Nodes {
+    /// No nodes.
+    pub fn none(alloc: Global) -> Nodes
+        ensures { result ≡ [] }
     {
-        if self.depth == u64::MAX {
-            return Err(AllocError);
+        Nodes {
+            base: FIRST_BASE,
+            marks: VecDeque::new(alloc),
         }
-        Ok(Node {
-            depth: self.depth + 1,
-            line: self.line,
+    }
+
+    // No nodes, with room for so many.
+    fn with_capacity(alloc: Global, count: usize) -> Result<Nodes, AllocError>
+        ensures { IfOk result (λ v. v ≡ []) }
+    {
+        let marks = VecDeque::with_capacity(alloc, count)?;
+        Ok(Nodes {
+            base: FIRST_BASE,
+            marks,
         })
+    }
+
+    /// How many they are.
+    #[inline(always)]
+    pub fn len(&self) -> usize
+        ensures { result ≡ length self.now }
+    {
+        self.marks.len()
+    }
+
+    /// The node at a place.
+    #[tactic(auto, using(crate::proofs::Marks::node_at_place))]
+    #[inline(always)]
+    pub fn at(&self, place: usize) -> Node
+        requires { place < length self.now }
+        ensures { node_of result ≡ get_or self.now place (node_of result) }
+    {
+        let mark = self.marks[place];
+        Node {
+            depth: self.base - mark.start,
+            line: mark.line,
+        }
     }
 }
 
 /// A node of this line around others.
-#[tactic(auto, using(crate::proofs::Lists::shifted, crate::proofs::Lists::all_shifted))]
-pub fn under(line: u64, mut nodes: Vec<Node>) -> Result<Vec<Node>, AllocError>
-    ensures { IfOk result (λ v. nodes_of v.items ≡ under line (nodes_of nodes.items)) }
+#[tactic(auto, using(crate::proofs::Marks::one_around, crate::proofs::Marks::around_within))]
+#[inline(always)]
+pub fn under(line: u64, nodes: Nodes) -> Result<Nodes, AllocError>
+    ensures { IfOk result (λ v. v ≡ under line nodes) }
 {
-    let mut before = Node { depth: 1, line };
-    for place in 0..nodes.len() {
-        let next = nodes[place].deeper()?;
-        nodes[place] = before;
-        before = next;
-    }
-    nodes.push(before)?;
-    Ok(nodes)
+    let Nodes { base, mut marks } = nodes;
+    let Some(around) = base.checked_add(1) else {
+        return Err(AllocError);
+    };
+    marks.push_front(Mark { start: base, line })?;
+    Ok(Nodes {
+        base: around,
+        marks,
+    })
 }
 
-/// Nodes, and others behind them.
-#[tactic(auto, using(crate::proofs::Lists::nodes_append))]
-pub fn followed(mut nodes: Vec<Node>, others: &[Node]) -> Result<Vec<Node>, AllocError>
-    ensures { IfOk result (λ v. nodes_of v.items ≡ nodes_of nodes.items ++ nodes_of others.now) }
+// Nodes with one behind them. A depth beyond the base is a lack of memory.
+#[tactic(auto, using(crate::proofs::Marks::one_last, crate::proofs::Marks::last_within))]
+#[inline(always)]
+fn with_last(nodes: Nodes, node: Node) -> Result<Nodes, AllocError>
+    ensures { IfOk result (λ v. v ≡ nodes ++ node_of node ∷ []) }
 {
-    nodes.extend_from_slice(others)?;
-    Ok(nodes)
+    let Nodes { base, mut marks } = nodes;
+    if base < node.depth {
+        return Err(AllocError);
+    }
+    let mark = Mark {
+        start: base - node.depth,
+        line: node.line,
+    };
+    marks.push_back(mark)?;
+    Ok(Nodes { base, marks })
+}
+
+// Nodes with one before them.
+#[tactic(auto, using(crate::proofs::Marks::one_first))]
+#[inline(always)]
+fn with_first(node: Node, nodes: Nodes) -> Result<Nodes, AllocError>
+    ensures { IfOk result (λ v. v ≡ node_of node ∷ nodes) }
+{
+    let Nodes { base, mut marks } = nodes;
+    if base < node.depth {
+        return Err(AllocError);
+    }
+    let mark = Mark {
+        start: base - node.depth,
+        line: node.line,
+    };
+    marks.push_front(mark)?;
+    Ok(Nodes { base, marks })
+}
+
+// Copies of others are put behind these nodes.
+#[tactic(auto, using(crate::proofs::Places::one_behind, crate::proofs::Places::all_behind))]
+fn with_behind(nodes: Nodes, others: &Nodes) -> Result<Nodes, AllocError>
+    ensures { IfOk result (λ v. v ≡ nodes ++ others.now) }
+{
+    let mut all = nodes;
+    for place in 0..others.len() {
+        all = with_last(all, others.at(place))?;
+    }
+    Ok(all)
+}
+
+// Copies of these nodes are put before others.
+#[tactic(auto, using(crate::proofs::Places::one_before, crate::proofs::Places::all_before, crate::proofs::Places::none_before))]
+fn with_before(nodes: &Nodes, others: Nodes) -> Result<Nodes, AllocError>
+    ensures { IfOk result (λ v. v ≡ nodes.now ++ others) }
+{
+    let mut all = others;
+    let mut rest = nodes.len();
+    while 0 < rest {
+        rest -= 1;
+        all = with_first(nodes.at(rest), all)?;
+    }
+    Ok(all)
+}
+
+/// Nodes, and others behind them. It takes the time of the shorter list.
+pub fn followed(nodes: Nodes, others: Nodes) -> Result<Nodes, AllocError>
+    ensures { IfOk result (λ v. v ≡ nodes ++ others) }
+{
+    if nodes.len() < others.len() {
+        with_before(&nodes, others)
+    } else {
+        with_behind(nodes, &others)
+    }
 }
 
 // Whether a node matters behind others, of which the deepest is at this depth.
@@ -64,15 +191,16 @@ fn matters(deepest: u64, node: Node) -> bool
 const MOST_KEPT: usize = 101;
 
 /// The nodes that tell where a tree is too deep, whatever is around it.
-#[tactic(auto, using(crate::proofs::Lists::one_kept, crate::proofs::Lists::one_left_out, crate::proofs::Lists::none_kept))]
-pub fn kept(alloc: Global, nodes: &[Node]) -> Result<Vec<Node>, AllocError>
-    ensures { IfOk result (λ v. nodes_of v.items ≡ spec.kept (nodes_of nodes.now)) }
+#[tactic(auto, using(crate::proofs::Places::one_kept, crate::proofs::Places::one_left_out, crate::proofs::Places::none_kept))]
+pub fn kept(alloc: Global, nodes: &Nodes) -> Result<Nodes, AllocError>
+    ensures { IfOk result (λ v. v ≡ spec.kept nodes.now) }
 {
-    let mut few = Vec::with_capacity(alloc, nodes.len().min(MOST_KEPT))?;
+    let mut few = Nodes::with_capacity(alloc, nodes.len().min(MOST_KEPT))?;
     let mut deepest = 0;
-    for node in nodes {
-        if matters(deepest, *node) {
-            few.push(*node)?;
+    for place in 0..nodes.len() {
+        let node = nodes.at(place);
+        if matters(deepest, node) {
+            few = with_last(few, node)?;
             deepest = node.depth;
         }
     }

@@ -9,7 +9,8 @@ ghost use Rattle.moo_tree.specs.ExpressionView.{node_expr};
 ghost use Rattle.moo_reader.specs.Views.{found_of, operand_of, arguments_found};
 
 use crate::build::{call, found_at, whole};
-use crate::found::{Arguments, Braces, Found, Operand};
+use crate::found::{Arguments, Braces, Found, Operand, as_operand};
+use crate::node::Nodes;
 use crate::text::lower_case;
 use moo_tree::expression::ExpressionNode;
 use moo_value::text::Text;
@@ -20,7 +21,7 @@ use std::alloc::{AllocError, Global};
 fn leaf(alloc: Global, line: u64, node: ExpressionNode) -> Result<Found, AllocError>
     ensures { IfOk result (λ e. found_of e ≡ by.found_at line (node_expr node) []) }
 {
-    found_at(alloc, line, node, Vec::new(alloc))
+    found_at(alloc, line, node, Nodes::none(alloc))
 }
 
 /// A literal.
@@ -75,12 +76,7 @@ pub fn variable(alloc: Global, line: u64, word: &Text) -> Result<Operand, AllocE
         (tree.to_variable (fold_case word.now))) }
 {
     let found = variable_found(alloc, line, word)?;
-    Ok(Operand {
-        found,
-        is_target: true,
-        ranged: false,
-        braces: Braces::NoScatter,
-    })
+    Ok(as_operand(found, true, false, Braces::NoScatter))
 }
 
 /// A call of a function, whatever the case of its name.

@@ -4,13 +4,12 @@ ghost use Rattle.std.specs.Prelude.{◌≡◌, ◌++◌, [], IfOk};
 ghost use Rattle.spec_program.specs.Tree as tree;
 ghost use Rattle.spec_program.specs.ReadPrograms as by;
 ghost use Rattle.moo_tree.specs.StatementView.{node_statement, branches_of};
-ghost use Rattle.moo_reader.specs.Nodes.{nodes_of};
 ghost use Rattle.moo_reader.specs.Views.{found_of, codes_found};
 ghost use Rattle.moo_reader.specs.BlockViews.{statement_found, block_found, branches_found, arms_found, otherwise_of, strays_of};
 
 use crate::block::{Arms, Block, Branches, FoundStatement, Stray};
-use crate::found::{Found, FoundCodes, Whole};
-use crate::node::{Node, followed, under};
+use crate::found::{Found, FoundCodes, Parts, out_of_box};
+use crate::node::{Nodes, followed, under};
 use moo_tree::statement::{Arm, Branch, Statement, StatementNode};
 use moo_value::text::Text;
 use std::alloc::{AllocError, Global};
@@ -20,9 +19,9 @@ fn simple(
     alloc: Global,
     line: u64,
     node: StatementNode,
-    nodes: Vec<Node>,
+    nodes: Nodes,
 ) -> Result<FoundStatement, AllocError>
-    ensures { IfOk result (λ s. statement_found s ≡ by.simple line (node_statement node) (nodes_of nodes.items)) }
+    ensures { IfOk result (λ s. statement_found s ≡ by.simple line (node_statement node) nodes) }
 {
     let nodes = under(line, nodes)?;
     Ok(FoundStatement {
@@ -36,7 +35,7 @@ fn simple(
 pub fn evaluated(alloc: Global, line: u64, found: Found) -> Result<FoundStatement, AllocError>
     ensures { IfOk result (λ s. statement_found s ≡ by.simple line (tree.evaluate (found_of found).tree) (found_of found).nodes) }
 {
-    let Whole { tree, nodes } = Box::into_inner(found.whole);
+    let Parts { tree, nodes, .. } = out_of_box(found);
     simple(alloc, line, StatementNode::Evaluate(tree), nodes)
 }
 
@@ -44,7 +43,7 @@ pub fn evaluated(alloc: Global, line: u64, found: Found) -> Result<FoundStatemen
 pub fn returned(alloc: Global, line: u64, found: Found) -> Result<FoundStatement, AllocError>
     ensures { IfOk result (λ s. statement_found s ≡ by.simple line (tree.give (found_of found).tree) (found_of found).nodes) }
 {
-    let Whole { tree, nodes } = Box::into_inner(found.whole);
+    let Parts { tree, nodes, .. } = out_of_box(found);
     simple(alloc, line, StatementNode::Return(Some(tree)), nodes)
 }
 
@@ -52,7 +51,7 @@ pub fn returned(alloc: Global, line: u64, found: Found) -> Result<FoundStatement
 pub fn returned_zero(alloc: Global, line: u64) -> Result<FoundStatement, AllocError>
     ensures { IfOk result (λ s. statement_found s ≡ by.simple line tree.give_zero []) }
 {
-    simple(alloc, line, StatementNode::Return(None), Vec::new(alloc))
+    simple(alloc, line, StatementNode::Return(None), Nodes::none(alloc))
 }
 
 // Strays before others.
@@ -71,7 +70,7 @@ pub fn no_statements(alloc: Global) -> Block
 {
     Block {
         reversed: Vec::new(alloc),
-        nodes: Vec::new(alloc),
+        nodes: Nodes::none(alloc),
         strays: Vec::new(alloc),
     }
 }
@@ -91,7 +90,7 @@ pub fn and_block(statement: FoundStatement, block: Block) -> Result<Block, Alloc
         nodes: other_nodes,
         strays: other_strays,
     } = block;
-    let nodes = followed(nodes, &other_nodes)?;
+    let nodes = followed(nodes, other_nodes)?;
     let strays = strays_before(strays, other_strays)?;
     reversed.push(tree)?;
     Ok(Block {
@@ -108,7 +107,7 @@ pub fn no_more_branches(alloc: Global) -> Branches
     Branches {
         reversed: Vec::new(alloc),
         otherwise: None,
-        nodes: Vec::new(alloc),
+        nodes: Nodes::none(alloc),
         strays: Vec::new(alloc),
     }
 }
@@ -140,7 +139,7 @@ pub fn with_branch(
 ) -> Result<Branches, AllocError>
     ensures { IfOk result (λ b. branches_found b ≡ by.with_branch (found_of condition) (block_found block) (branches_found branches)) }
 {
-    let Whole { tree, nodes } = Box::into_inner(condition.whole);
+    let Parts { tree, nodes, .. } = out_of_box(condition);
     let Block {
         reversed: mut body,
         nodes: of_body,
@@ -152,8 +151,8 @@ pub fn with_branch(
         nodes: of_others,
         strays: other_strays,
     } = branches;
-    let others = followed(of_body, &of_others)?;
-    let nodes = followed(nodes, &others)?;
+    let others = followed(of_body, of_others)?;
+    let nodes = followed(nodes, others)?;
     let strays = strays_before(strays, other_strays)?;
     body.reverse();
     reversed.push(Branch {
@@ -210,7 +209,7 @@ pub fn no_more_arms(alloc: Global) -> Arms
 {
     Arms {
         reversed: Vec::new(alloc),
-        nodes: Vec::new(alloc),
+        nodes: Nodes::none(alloc),
         strays: Vec::new(alloc),
     }
 }
@@ -236,8 +235,8 @@ pub fn with_arm(
         nodes: of_others,
         strays: other_strays,
     } = arms;
-    let others = followed(of_body, &of_others)?;
-    let nodes = followed(nodes, &others)?;
+    let others = followed(of_body, of_others)?;
+    let nodes = followed(nodes, others)?;
     let strays = strays_before(strays, other_strays)?;
     body.reverse();
     reversed.push(Arm {
@@ -266,7 +265,7 @@ pub fn guarded_of(line: u64, block: Block, arms: Arms) -> Result<FoundStatement,
         nodes: of_handlers,
         strays: other_strays,
     } = arms;
-    let nodes = followed(nodes, &of_handlers)?;
+    let nodes = followed(nodes, of_handlers)?;
     let strays = strays_before(strays, other_strays)?;
     let nodes = under(line, nodes)?;
     body.reverse();
@@ -297,7 +296,7 @@ pub fn finished_of(line: u64, block: Block, cleanup: Block) -> Result<FoundState
         nodes: of_cleanup,
         strays: other_strays,
     } = cleanup;
-    let nodes = followed(nodes, &of_cleanup)?;
+    let nodes = followed(nodes, of_cleanup)?;
     let strays = strays_before(strays, other_strays)?;
     let nodes = under(line, nodes)?;
     body.reverse();

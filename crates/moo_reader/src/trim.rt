@@ -3,11 +3,10 @@
 ghost use Rattle.std.specs.Prelude.{◌≡◌, IfOk, None, nat_lt};
 ghost use Rattle.spec_program.specs.ReadPrograms as by;
 ghost use Rattle.spec_program.specs.Similar.{SimilarFound};
-ghost use Rattle.moo_reader.specs.Nodes.{nodes_of};
 ghost use Rattle.moo_reader.specs.Views.{found_of};
 
-use crate::found::{Found, Whole};
-use crate::node::{Node, kept};
+use crate::found::{Found, Parts, in_box, out_of_box};
+use crate::node::{Node, Nodes, kept};
 use moo_tree::expression::{Expression, ExpressionNode};
 use std::alloc::{AllocError, Global};
 
@@ -20,11 +19,12 @@ fn is_deep(node: Node) -> bool
 
 /// The line of the first node that is too deep.
 #[tactic(auto, using(crate::proofs::Depth::this_is_deep, crate::proofs::Depth::this_is_not, crate::proofs::Depth::none_is_deep))]
-pub fn too_deep(nodes: &[Node]) -> Option<u64>
-    ensures { result ≡ by.too_deep (nodes_of nodes.now) }
+pub fn too_deep(nodes: &Nodes) -> Option<u64>
+    ensures { result ≡ by.too_deep nodes.now }
 {
-    for node in nodes {
-        if is_deep(*node) {
+    for place in 0..nodes.len() {
+        let node = nodes.at(place);
+        if is_deep(node) {
             return Some(node.line);
         }
     }
@@ -32,8 +32,8 @@ pub fn too_deep(nodes: &[Node]) -> Option<u64>
 }
 
 // The tree, unless it is too deep.
-fn shallow(tree: Expression, nodes: &[Node]) -> Expression
-    ensures { by.too_deep (nodes_of nodes.now) ≡ None → tree ≡ result }
+fn shallow(tree: Expression, nodes: &Nodes) -> Expression
+    ensures { by.too_deep nodes.now ≡ None → tree ≡ result }
 {
     match too_deep(nodes) {
         None => tree,
@@ -44,24 +44,19 @@ fn shallow(tree: Expression, nodes: &[Node]) -> Expression
 }
 
 // What is kept of a tree and its nodes.
-fn few_of(alloc: Global, line: u64, tree: Expression, nodes: &[Node]) -> Result<Found, AllocError>
-    ensures { IfOk result (λ e. SimilarFound (record { tree = tree; line = line; nodes = nodes_of nodes.now }) (found_of e)) }
+fn few_of(alloc: Global, line: u64, tree: Expression, nodes: &Nodes) -> Result<Found, AllocError>
+    ensures { IfOk result (λ e. SimilarFound (record { tree = tree; line = line; nodes = nodes.now }) (found_of e)) }
 {
-    let nodes_kept = kept(alloc, nodes)?;
+    let few = kept(alloc, nodes)?;
     let tree = shallow(tree, nodes);
-    let whole = Whole {
-        tree,
-        nodes: nodes_kept,
-    };
-    let whole = Box::new(alloc, whole)?;
-    Ok(Found { line, whole })
+    let found = in_box(alloc, line, tree, few)?;
+    Ok(found)
 }
 
 /// An expression with the nodes that tell where it is too deep, and its tree where it is not: it may stand in the place of the whole one.
 pub fn trimmed(alloc: Global, found: Found) -> Result<Found, AllocError>
     ensures { IfOk result (λ e. SimilarFound (found_of found) (found_of e)) }
 {
-    let Found { line, whole } = found;
-    let Whole { tree, nodes } = Box::into_inner(whole);
+    let Parts { line, tree, nodes } = out_of_box(found);
     few_of(alloc, line, tree, &nodes)
 }

@@ -83,8 +83,8 @@ pub text_whole : (n : Next) (gs : List Frame) (ts : List Placed) → is_whole (a
     → come_out (next_of n gs) ts ≡ got_or_stuck (block_in n) ts
 text_whole (next.Found p) gs ts h = part_whole p gs ts h
 text_whole (next.Expression b k) gs ts h = refl
-text_whole (next.Steps b o) gs ts h = refl
-text_whole (next.Operators b k e) gs ts h = refl
+text_whole (next.Steps o) gs ts h = refl
+text_whole (next.Operators e) gs ts h = refl
 text_whole (next.Arguments b) gs ts h = refl
 text_whole (next.Items b a) gs ts h = refl
 text_whole next.Block gs ts h = refl
@@ -108,8 +108,8 @@ part_not_whole (part.Arms a) gs ts h = other_found (all_begun gs some_arms_read)
 pub text_not_whole : (n : Next) (gs : List Frame) (ts : List Placed) → is_whole (all_begun gs a_block) ≡ false → come_out (next_of n gs) ts ≡ stuck ts
 text_not_whole (next.Found p) gs ts h = part_not_whole p gs ts h
 text_not_whole (next.Expression b k) gs ts h = refl
-text_not_whole (next.Steps b o) gs ts h = refl
-text_not_whole (next.Operators b k e) gs ts h = refl
+text_not_whole (next.Steps o) gs ts h = refl
+text_not_whole (next.Operators e) gs ts h = refl
 text_not_whole (next.Arguments b) gs ts h = refl
 text_not_whole (next.Items b a) gs ts h = refl
 text_not_whole next.Block gs ts h = refl
@@ -134,8 +134,8 @@ part_over (part.Arms a) gs = let h = other_kind (all_begun gs some_arms_read) re
 pub over_is : (n : Next) (gs : List Frame) → over_by n (is_whole (all_begun gs a_block)) ≡ is_over (next_of n gs)
 over_is (next.Found p) gs = part_over p gs
 over_is (next.Expression b k) gs = refl
-over_is (next.Steps b o) gs = refl
-over_is (next.Operators b k e) gs = refl
+over_is (next.Steps o) gs = refl
+over_is (next.Operators e) gs = refl
 over_is (next.Arguments b) gs = refl
 over_is (next.Items b a) gs = refl
 over_is next.Block gs = refl

@@ -20,24 +20,24 @@ pub going_first : (all : List Placed) (s : State) → s ≡ start all → Going 
 going_first all s h =
     subst (Going all) (sym h) (record { left = omega arith; means = start_means (2 + length all) all (omega arith) })
 
-going_on : (all : List Placed) (s r : State) → Going all s → r ≡ step s → Going all r
-going_on all s r g h =
+-- a step, with the same state or another in its place
+pub step_stands : (s r : State) → r ≡ step s → StandsFor (step s) r
+step_stands s r h = record { left = ap (λ x. x.left) h; work = ap work h; means = λ all n. ap (λ x. parsed_by all (state_means n x)) h }
+
+pub another_stands : (s r q : State) → r ≡ step s → StandsFor r q → StandsFor (step s) q
+another_stands s r q h i = subst (λ x. StandsFor x q) h i
+
+pub going_instead : (all : List Placed) (s q : State) → Going all s → StandsFor (step s) q → Going all q
+going_instead all s q g i =
     let l = g.left in
     let k = step_keeps (2 + length all) s (omega (arith, l)) in
     let m = k.left in
-    subst (Going all) (sym h) (record { left = omega (arith, l, m); means = ap (λ x. parsed_by all x) k.means ∙ g.means })
+    let n = ap (λ x. length x) i.left in
+    record { left = omega (arith, l, m, n); means = i.means all (2 + length all) ∙ ap (λ x. parsed_by all x) k.means ∙ g.means }
 
--- with another state in its place
-pub going_instead : (all : List Placed) (s r q : State) → Going all s → r ≡ step s → StandsFor r q → Going all q
-going_instead all s r q g h i =
-    let k = going_on all s r g h in
-    let l = k.left in
-    let m = ap (λ x. length x) i.left in
-    record { left = omega (arith, l, m); means = i.means all (2 + length all) ∙ k.means }
-
-pub going_less : (s r q : State) → is_over s.next ≡ false → r ≡ step s → StandsFor r q → work q < work s
-going_less s r q e h i =
-    let w = subst (λ x. work x < work s) (sym h) (step_works s e) in
+pub going_less : (s q : State) → is_over s.next ≡ false → StandsFor (step s) q → work q < work s
+going_less s q e i =
+    let w = step_works s e in
     let m = i.work in
     omega (arith, w, m)
 

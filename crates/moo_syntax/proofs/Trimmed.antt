@@ -9,7 +9,7 @@ use Rattle.spec_program.specs.Frames.{Kind, an_expression, an_operand, some_argu
 use Rattle.spec_program.specs.Similar.{SimilarFound, SimilarOperand, SimilarArguments, SimilarItems, SimilarCodes, SimilarStatement, SimilarBlock, SimilarBranches, SimilarArms, no_target, none, SimilarOf}
 use Rattle.spec_program.proofs.Interchanged.{interchange}
 use Rattle.spec_reader.specs.Next as meant
-use Rattle.spec_reader.specs.Next.{State, found, reads_steps, reads_operators, goes}
+use Rattle.spec_reader.specs.Next.{found, reads_steps, reads_operators, goes}
 use Rattle.moo_reader.specs.declared.found.Found.{Found as CodeFound}
 use Rattle.moo_reader.specs.declared.found.Operand.{Operand as CodeOperand}
 use Rattle.moo_reader.specs.declared.found.Arguments.{Arguments as CodeArguments}
@@ -23,6 +23,8 @@ use Rattle.moo_reader.specs.Views.{found_of, operand_of, arguments_found, items_
 use Rattle.moo_reader.specs.BlockViews.{statement_found, block_found, branches_found, arms_found}
 use Rattle.reader_frames.specs.declared.state.Part.{Part}
 use Rattle.reader_frames.specs.declared.state.Part.TheVariants as part
+use Rattle.reader_frames.specs.declared.state.BeforeSteps.{BeforeSteps}
+use Rattle.reader_frames.specs.declared.state.BeforeOperators.{BeforeOperators}
 use Rattle.reader_frames.specs.declared.state.Next.{Next}
 use Rattle.reader_frames.specs.declared.state.Next.TheVariants as next
 use Rattle.reader_frames.specs.FrameViews.{all_begun}
@@ -31,9 +33,6 @@ use Rattle.moo_syntax.specs.StandsFor.{StandsFor, PartStandsFor, NextStandsFor}
 
 pub itself : (x : meant.Next) (ts : List Placed) → StandsFor (goes x ts) (goes x ts)
 itself x ts = record { left = refl; work = refl; means = λ all n. refl }
-
-pub same_state : (s : State) → StandsFor s s
-same_state s = record { left = refl; work = refl; means = λ all n. refl }
 
 pub found_stands : (a : Kind) (fs : Frames a) (v w : Of a) (ts : List Placed) → SimilarOf a v w → StandsFor (goes (found fs v) ts) (goes (found fs w) ts)
 found_stands a fs v w ts s = record { left = refl; work = refl; means = λ all n. sym (interchange all a n fs v w ts s) }
@@ -65,68 +64,55 @@ pub operand_part : (p : Part) (x y : CodeOperand) → p ≡ part.Operand x → S
 operand_part p x y e s =
     subst (λ q. PartStandsFor q (part.Operand y)) (sym e) (λ gs ts. found_stands an_operand (all_begun gs an_operand) (operand_of x) (operand_of y) ts s)
 
-pub arguments_part : (p : Part) (x y : Box CodeArguments Global) (u v : CodeArguments) → p ≡ part.Arguments x → u ≡ x.value → y.value ≡ v → SimilarArguments (arguments_found u) (arguments_found v)
-    → PartStandsFor p (part.Arguments y)
-arguments_part p x y u v e j k s =
-    let similar : SimilarArguments (arguments_found x.value) (arguments_found y.value) = subst (λ z. SimilarArguments (arguments_found x.value) (arguments_found z)) (sym k) (subst (λ z. SimilarArguments (arguments_found z) (arguments_found v)) j s) in
+pub arguments_part : (p : Part) (x y : Box CodeArguments Global) → p ≡ part.Arguments x → SimilarArguments (arguments_found x.value) (arguments_found y.value) → PartStandsFor p (part.Arguments y)
+arguments_part p x y e s =
     subst (λ q. PartStandsFor q (part.Arguments y)) (sym e)
-    (λ gs ts. found_stands some_arguments_read (all_begun gs some_arguments_read) (arguments_found x.value) (arguments_found y.value) ts similar)
+    (λ gs ts. found_stands some_arguments_read (all_begun gs some_arguments_read) (arguments_found x.value) (arguments_found y.value) ts s)
 
-pub items_part : (p : Part) (x y : Box CodeItems Global) (u v : CodeItems) → p ≡ part.Items x → u ≡ x.value → y.value ≡ v → SimilarItems (items_found u) (items_found v)
-    → PartStandsFor p (part.Items y)
-items_part p x y u v e j k s =
-    let similar : SimilarItems (items_found x.value) (items_found y.value) = subst (λ z. SimilarItems (items_found x.value) (items_found z)) (sym k) (subst (λ z. SimilarItems (items_found z) (items_found v)) j s) in
+pub items_part : (p : Part) (x y : Box CodeItems Global) → p ≡ part.Items x → SimilarItems (items_found x.value) (items_found y.value) → PartStandsFor p (part.Items y)
+items_part p x y e s =
     subst (λ q. PartStandsFor q (part.Items y)) (sym e)
-    (λ gs ts. found_stands some_items_read (all_begun gs some_items_read) (items_found x.value) (items_found y.value) ts similar)
+    (λ gs ts. found_stands some_items_read (all_begun gs some_items_read) (items_found x.value) (items_found y.value) ts s)
 
-pub codes_part : (p : Part) (x y : Box CodeFoundCodes Global) (u v : CodeFoundCodes) → p ≡ part.Codes x → u ≡ x.value → y.value ≡ v → SimilarCodes (codes_found u) (codes_found v)
-    → PartStandsFor p (part.Codes y)
-codes_part p x y u v e j k s =
-    let similar : SimilarCodes (codes_found x.value) (codes_found y.value) = subst (λ z. SimilarCodes (codes_found x.value) (codes_found z)) (sym k) (subst (λ z. SimilarCodes (codes_found z) (codes_found v)) j s) in
+pub codes_part : (p : Part) (x y : Box CodeFoundCodes Global) → p ≡ part.Codes x → SimilarCodes (codes_found x.value) (codes_found y.value) → PartStandsFor p (part.Codes y)
+codes_part p x y e s =
     subst (λ q. PartStandsFor q (part.Codes y)) (sym e)
-    (λ gs ts. found_stands some_codes_read (all_begun gs some_codes_read) (codes_found x.value) (codes_found y.value) ts similar)
+    (λ gs ts. found_stands some_codes_read (all_begun gs some_codes_read) (codes_found x.value) (codes_found y.value) ts s)
 
-pub statement_part : (p : Part) (x y : Box CodeFoundStatement Global) (u v : CodeFoundStatement) → p ≡ part.Statement x → u ≡ x.value → y.value ≡ v → SimilarStatement (statement_found u) (statement_found v)
-    → PartStandsFor p (part.Statement y)
-statement_part p x y u v e j k s =
-    let similar : SimilarStatement (statement_found x.value) (statement_found y.value) = subst (λ z. SimilarStatement (statement_found x.value) (statement_found z)) (sym k) (subst (λ z. SimilarStatement (statement_found z) (statement_found v)) j s) in
+pub statement_part : (p : Part) (x y : Box CodeFoundStatement Global) → p ≡ part.Statement x → SimilarStatement (statement_found x.value) (statement_found y.value) → PartStandsFor p (part.Statement y)
+statement_part p x y e s =
     subst (λ q. PartStandsFor q (part.Statement y)) (sym e)
-    (λ gs ts. found_stands a_statement (all_begun gs a_statement) (statement_found x.value) (statement_found y.value) ts similar)
+    (λ gs ts. found_stands a_statement (all_begun gs a_statement) (statement_found x.value) (statement_found y.value) ts s)
 
-pub block_part : (p : Part) (x y : Box CodeBlock Global) (u v : CodeBlock) → p ≡ part.Block x → u ≡ x.value → y.value ≡ v → SimilarBlock (block_found u) (block_found v)
-    → PartStandsFor p (part.Block y)
-block_part p x y u v e j k s =
-    let similar : SimilarBlock (block_found x.value) (block_found y.value) = subst (λ z. SimilarBlock (block_found x.value) (block_found z)) (sym k) (subst (λ z. SimilarBlock (block_found z) (block_found v)) j s) in
+pub block_part : (p : Part) (x y : Box CodeBlock Global) → p ≡ part.Block x → SimilarBlock (block_found x.value) (block_found y.value) → PartStandsFor p (part.Block y)
+block_part p x y e s =
     subst (λ q. PartStandsFor q (part.Block y)) (sym e)
-    (λ gs ts. found_stands a_block (all_begun gs a_block) (block_found x.value) (block_found y.value) ts similar)
+    (λ gs ts. found_stands a_block (all_begun gs a_block) (block_found x.value) (block_found y.value) ts s)
 
-pub branches_part : (p : Part) (x y : Box CodeBranches Global) (u v : CodeBranches) → p ≡ part.Branches x → u ≡ x.value → y.value ≡ v → SimilarBranches (branches_found u) (branches_found v)
-    → PartStandsFor p (part.Branches y)
-branches_part p x y u v e j k s =
-    let similar : SimilarBranches (branches_found x.value) (branches_found y.value) = subst (λ z. SimilarBranches (branches_found x.value) (branches_found z)) (sym k) (subst (λ z. SimilarBranches (branches_found z) (branches_found v)) j s) in
+pub branches_part : (p : Part) (x y : Box CodeBranches Global) → p ≡ part.Branches x → SimilarBranches (branches_found x.value) (branches_found y.value) → PartStandsFor p (part.Branches y)
+branches_part p x y e s =
     subst (λ q. PartStandsFor q (part.Branches y)) (sym e)
-    (λ gs ts. found_stands some_branches_read (all_begun gs some_branches_read) (branches_found x.value) (branches_found y.value) ts similar)
+    (λ gs ts. found_stands some_branches_read (all_begun gs some_branches_read) (branches_found x.value) (branches_found y.value) ts s)
 
-pub arms_part : (p : Part) (x y : Box CodeArms Global) (u v : CodeArms) → p ≡ part.Arms x → u ≡ x.value → y.value ≡ v → SimilarArms (arms_found u) (arms_found v)
-    → PartStandsFor p (part.Arms y)
-arms_part p x y u v e j k s =
-    let similar : SimilarArms (arms_found x.value) (arms_found y.value) = subst (λ z. SimilarArms (arms_found x.value) (arms_found z)) (sym k) (subst (λ z. SimilarArms (arms_found z) (arms_found v)) j s) in
+pub arms_part : (p : Part) (x y : Box CodeArms Global) → p ≡ part.Arms x → SimilarArms (arms_found x.value) (arms_found y.value) → PartStandsFor p (part.Arms y)
+arms_part p x y e s =
     subst (λ q. PartStandsFor q (part.Arms y)) (sym e)
-    (λ gs ts. found_stands some_arms_read (all_begun gs some_arms_read) (arms_found x.value) (arms_found y.value) ts similar)
+    (λ gs ts. found_stands some_arms_read (all_begun gs some_arms_read) (arms_found x.value) (arms_found y.value) ts s)
 
 pub part_next : (x : Next) (p q : Part) → x ≡ next.Found p → PartStandsFor p q → NextStandsFor x (next.Found q)
 part_next x p q e s = subst (λ y. NextStandsFor y (next.Found q)) (sym e) s
 
-pub steps_next : (x : Next) (b : Bool) (o q : CodeOperand) → x ≡ next.Steps b o → SimilarOperand (operand_of o) (operand_of q)
-    → NextStandsFor x (next.Steps b q)
-steps_next x b o q e s =
-    subst (λ y. NextStandsFor y (next.Steps b q)) (sym e) (λ gs ts. steps_stand b (all_begun gs an_operand) (operand_of o) (operand_of q) ts s)
+pub steps_next : (x : Next) (p : BeforeSteps) (q : CodeOperand) → x ≡ next.Steps p → SimilarOperand (operand_of p.operand) (operand_of q)
+    → NextStandsFor x (next.Steps (record { brackets = p.brackets; operand = q }))
+steps_next x p q e s =
+    subst (λ y. NextStandsFor y (next.Steps (record { brackets = p.brackets; operand = q }))) (sym e)
+    (λ gs ts. steps_stand p.brackets (all_begun gs an_operand) (operand_of p.operand) (operand_of q) ts s)
 
-pub operators_next : (x : Next) (b : Bool) (k : ℕ) (e d : CodeFound) → x ≡ next.Operators b k e → SimilarFound (found_of e) (found_of d)
-    → NextStandsFor x (next.Operators b k d)
-operators_next x b k e d h s =
-    subst (λ y. NextStandsFor y (next.Operators b k d)) (sym h)
-    (λ gs ts. operators_stand b k (all_begun gs an_expression) (found_of e) (found_of d) ts s)
+pub operators_next : (x : Next) (p : BeforeOperators) (d : CodeFound) → x ≡ next.Operators p → SimilarFound (found_of p.left) (found_of d)
+    → NextStandsFor x (next.Operators (record { brackets = p.brackets; level = p.level; left = d }))
+operators_next x p d e s =
+    subst (λ y. NextStandsFor y (next.Operators (record { brackets = p.brackets; level = p.level; left = d }))) (sym e)
+    (λ gs ts. operators_stand p.brackets p.level (all_begun gs an_expression) (found_of p.left) (found_of d) ts s)
 
 pub same_next : (x : Next) → NextStandsFor x x
 same_next x gs ts = itself (next_of x gs) ts

@@ -3,11 +3,13 @@
 ghost use Rattle.std.specs.Prelude.{◌≡◌, IfOk};
 ghost use Rattle.spec_program.specs.ReadPrograms.{parsed_tokens};
 ghost use Rattle.spec_reader.specs.Whole.{start, outcome};
+ghost use Rattle.spec_reader.specs.Step as meant;
 ghost use Rattle.reader_frames.specs.StateView.{state_of};
 ghost use Rattle.moo_syntax.specs.Given.{given};
+ghost use Rattle.moo_syntax.specs.StandsFor.{StandsFor};
 
 use crate::ending::is_over;
-use crate::trim::trimmed;
+use crate::trim::{is_long, trimmed};
 use moo_token::tokens::Tokens;
 use reader_frames::left::{Left, Rest};
 use reader_frames::state::{Next, State};
@@ -33,6 +35,20 @@ fn start(alloc: Global, tokens: Tokens) -> Result<State, AllocError>
     })
 }
 
+// One step on, with another state in the place of one that has many nodes.
+#[tactic(auto, using(crate::proofs::Going::step_stands, crate::proofs::Going::another_stands))]
+#[inline(always)]
+fn stepped(alloc: Global, state: State) -> Result<State, AllocError>
+    ensures { IfOk result (λ s. StandsFor (meant.step (state_of state)) (state_of s)) }
+{
+    let next = step(alloc, state)?;
+    if !is_long(&next.next) {
+        return Ok(next);
+    }
+    let few = trimmed(alloc, next)?;
+    Ok(few)
+}
+
 /// Where the reader of these tokens comes to its end.
 #[tactic(auto, using(crate::proofs::Going::going_first, crate::proofs::Going::going_instead, crate::proofs::Going::going_less, crate::proofs::Going::going_over))]
 pub fn read(alloc: Global, tokens: Tokens) -> Result<State, AllocError>
@@ -41,8 +57,7 @@ pub fn read(alloc: Global, tokens: Tokens) -> Result<State, AllocError>
     let first = start(alloc, tokens)?;
     let mut state = first;
     'steps: while !is_over(&state) {
-        let next = step(alloc, state)?;
-        state = trimmed(alloc, next)?;
+        state = stepped(alloc, state)?;
     }
     Ok(state)
 }

@@ -6,7 +6,7 @@ ghost use Rattle.moo_syntax.specs.StandsFor.{StandsFor, PartStandsFor, NextStand
 
 use moo_reader::found::{Braces, Items, Operand};
 use moo_reader::trim::trimmed as trimmed_expression;
-use reader_frames::state::{Next, Part, State};
+use reader_frames::state::{BeforeOperators, BeforeSteps, Next, Part, State};
 use reader_trim::block::{trimmed_arms, trimmed_block, trimmed_branches, trimmed_statement};
 use reader_trim::expression::{trimmed_arguments, trimmed_codes, trimmed_items};
 use reader_trim::operand::trimmed_operand;
@@ -71,35 +71,37 @@ fn trimmed_next(alloc: Global, next: Next) -> Result<Next, AllocError>
             let part = trimmed_part(alloc, part)?;
             Ok(Next::Found(part))
         }
-        Next::Steps { brackets, operand } => {
+        Next::Steps(before) => {
+            let BeforeSteps { brackets, operand } = before;
             let operand = trimmed_operand(alloc, operand)?;
-            Ok(Next::Steps { brackets, operand })
+            Ok(Next::Steps(BeforeSteps { brackets, operand }))
         }
-        Next::Operators {
-            brackets,
-            level,
-            left,
-        } => {
-            let left = trimmed_expression(alloc, left)?;
-            Ok(Next::Operators {
+        Next::Operators(before) => {
+            let BeforeOperators {
                 brackets,
                 level,
                 left,
-            })
+            } = before;
+            let left = trimmed_expression(alloc, left)?;
+            Ok(Next::Operators(BeforeOperators {
+                brackets,
+                level,
+                left,
+            }))
         }
         other => Ok(other),
     }
 }
 
 // So many nodes are left as they are: a tree is no deeper than it has nodes, and what is trimmed has 101 at most.
-const ENOUGH: usize = 128;
+const ENOUGH: usize = 512;
 
-// Whether what was read has more nodes than that.
-fn is_long(next: &Next) -> bool {
+/// Whether what was read has more nodes than are left as they are.
+pub fn is_long(next: &Next) -> bool {
     match next {
         Next::Found(part) => is_long_part(part),
-        Next::Steps { operand, .. } => ENOUGH < operand_nodes(operand),
-        Next::Operators { left, .. } => ENOUGH < left.whole.nodes.len(),
+        Next::Steps(before) => ENOUGH < operand_nodes(&before.operand),
+        Next::Operators(before) => ENOUGH < before.left.whole.nodes.len(),
         _ => false,
     }
 }
@@ -120,26 +122,22 @@ fn is_long_part(part: &Part) -> bool {
 }
 
 fn operand_nodes(operand: &Operand) -> usize {
-    let braces = match &operand.braces {
+    let braces = match &operand.whole.braces {
         Braces::NoScatter => 0,
         Braces::PerhapsScatter(scattering) => scattering.nodes.len(),
         Braces::SurelyScatter(scattering) => scattering.nodes.len(),
     };
-    operand.found.whole.nodes.len().max(braces)
+    operand.whole.nodes.len().max(braces)
 }
 
 fn item_nodes(items: &Items) -> usize {
     items.arguments.nodes.len().max(items.default_nodes.len())
 }
 
-/// The same state, with few nodes of what was read where these are many, and then without trees that are too deep.
-#[tactic(auto, using(crate::proofs::Trimmed::same_state))]
+/// The same state, with few nodes of what was read, and without trees that are too deep.
 pub fn trimmed(alloc: Global, state: State) -> Result<State, AllocError>
     ensures { IfOk result (λ s. StandsFor (state_of state) (state_of s)) }
 {
-    if !is_long(&state.next) {
-        return Ok(state);
-    }
     let State { next, begun, left } = state;
     let next = trimmed_next(alloc, next)?;
     Ok(State { next, begun, left })

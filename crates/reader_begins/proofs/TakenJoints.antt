@@ -1,13 +1,12 @@
 -- What stands between two expressions is taken if it binds as tightly as is wanted.
-use Rattle.std.proofs.Common.{◌≡◌, ℕ, Bool, true, false, List, [], ◌∷◌, if◌then◌else◌, Option, refl}
+use Rattle.std.proofs.Common.{◌≡◌, ℕ, Bool, true, false, List, [], ◌∷◌, if◌then◌else◌, Option, refl, sym, ap, ◌∙◌}
 use Rattle.std.specs.Prelude.{nat_le}
 use Rattle.spec_program.specs.Tokens.{Placed}
-use Rattle.spec_program.specs.Spelling.{operator_level, right_level}
+use Rattle.spec_program.specs.Spelling.{operator_level}
 use Rattle.spec_program.specs.ReadExpressions as by
 use Rattle.spec_program.specs.ReadExpressions.{Found}
-use Rattle.spec_program.specs.Frames as f
-use Rattle.spec_program.specs.Frames.{an_expression, Frames, push}
-use Rattle.spec_reader.specs.Next.{Next, found, goes}
+use Rattle.spec_program.specs.Frames.{an_expression, Frames}
+use Rattle.spec_reader.specs.Next.{found, goes}
 use Rattle.spec_reader.specs.Begins.{operators_begin, joint_by, if_tight}
 use Rattle.moo_token.specs.declared.fault.TokenFault.{TokenFault}
 use Rattle.moo_token.specs.Tokens.{Ending, whole, faulty}
@@ -35,16 +34,27 @@ pub operators_taken : (b : Bool) (k : ℕ) (a : Found) (fs : Frames an_expressio
 operators_taken b k a fs [] = refl
 operators_taken b k a fs (p ∷ ts) = by_joint b k a fs (by.joint p.token) p ts
 
-joint_at_end : (k : ℕ) (e : Ending) → by.no_joint ≡ tight_joint k (joint_at (ending_meant e))
-joint_at_end k whole = refl
-joint_at_end k (faulty c line) = refl
-
 left_at_end : (k : ℕ) (e : Ending) → ending_meant e ≡ left_behind k (ending_meant e)
 left_at_end k whole = refl
 left_at_end k (faulty c line) = refl
 
-pub no_joint_left : (k : ℕ) (o : Option TokenFault) (ts : List Placed) → ts ≡ ending_meant (ending_of o) → by.no_joint ≡ tight_joint k (joint_at ts)
-no_joint_left k o ts h = rw h (joint_at_end k (ending_of o))
-
 pub nothing_taken : (k : ℕ) (o : Option TokenFault) (ts : List Placed) → ts ≡ ending_meant (ending_of o) → ts ≡ left_behind k ts
 nothing_taken k o ts h = rw h (left_at_end k (ending_of o))
+
+-- what binds as tightly is taken, and anything else stays where it lies
+
+pub tight_taken : (k : ℕ) (ts : List Placed) (j : by.Joint) → j ≡ joint_at ts → is_tight k j ≡ true → j ≡ tight_joint k (joint_at ts)
+tight_taken k ts j e t = sym (ap (tight_joint k) (sym e) ∙ ap (λ c. if c then j else by.no_joint) t)
+
+pub joint_taken : (k : ℕ) (old new : List Placed) (p : Placed) (j : by.Joint) → old ≡ p ∷ new → j ≡ joint_at old → is_tight k j ≡ true
+    → new ≡ left_behind k old
+joint_taken k old new p j h e t =
+    let tight : is_tight k (by.joint p.token) ≡ true = ap (is_tight k) (sym (e ∙ ap joint_at h)) ∙ t in
+    sym (ap (left_behind k) h ∙ ap (λ c. if c then new else p ∷ new) tight)
+
+pub loose_stays : (k : ℕ) (ts : List Placed) (j : by.Joint) → j ≡ joint_at ts → is_tight k j ≡ false → by.no_joint ≡ tight_joint k (joint_at ts)
+loose_stays k ts j e t = sym (ap (tight_joint k) (sym e) ∙ ap (λ c. if c then j else by.no_joint) t)
+
+pub joint_stays : (k : ℕ) (ts : List Placed) (j : by.Joint) → j ≡ joint_at ts → is_tight k j ≡ false → ts ≡ left_behind k ts
+joint_stays k [] j e t = refl
+joint_stays k (p ∷ ts) j e t = sym (ap (λ c. if c then ts else p ∷ ts) (ap (is_tight k) (sym e) ∙ t))

@@ -28,7 +28,7 @@ use reader_frames::frame::{
     WithinOperand,
 };
 use reader_frames::left::{Left, Word};
-use reader_frames::state::{Next, State, begin, stuck};
+use reader_frames::state::{BeforeSteps, Next, State, begin, stuck};
 use reader_frames::words::allowed_text;
 use std::alloc::{AllocError, Global};
 use std::collections::VecDeque;
@@ -37,7 +37,7 @@ use std::collections::VecDeque;
 fn steps(brackets: bool, operand: Operand, begun: Box<VecDeque<Frame>>, left: Left) -> State
     ensures { state_of result ≡ goes (reads_steps brackets (operand_of operand) (all_begun begun.value.items an_operand)) (left_of left) }
 {
-    let next = Next::Steps { brackets, operand };
+    let next = Next::Steps(BeforeSteps { brackets, operand });
     State { next, begun, left }
 }
 

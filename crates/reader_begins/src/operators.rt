@@ -1,6 +1,6 @@
 //! What an operator between two expressions begins.
 
-ghost use Rattle.std.specs.Prelude.{◌≡◌, IfOk, OnOk};
+ghost use Rattle.std.specs.Prelude.{◌≡◌, IfOk};
 ghost use Rattle.spec_program.specs.Tokens as meant;
 ghost use Rattle.spec_program.specs.ReadExpressions as by;
 ghost use Rattle.spec_program.specs.Frames as f;
@@ -94,21 +94,28 @@ fn is_tight(level: u8, joint: Joint) -> bool
     }
 }
 
-// Takes what stands between two expressions, if it binds as tightly as is wanted.
-#[tactic(auto, using(crate::proofs::TakenJoints::no_joint_left, crate::proofs::TakenJoints::nothing_taken))]
-fn take_joint(level: u8, left: &mut Left) -> Result<Joint, AllocError>
-    ensures joint { IfOk result (λ j. joint_of j ≡ tight_joint level (joint_at (left_of left.old))) }
-    ensures left { OnOk result (left_of left.new ≡ left_behind level (left_of left.old)) }
+// What stands next between two expressions.
+fn next_joint(left: &Left) -> Joint
+    ensures { joint_of result ≡ joint_at (left_of left.now) }
 {
-    let Some(placed) = left.take() else {
-        return Ok(Joint::Nothing);
-    };
-    let joint = token_joint(&placed.token);
-    if is_tight(level, joint) {
-        return Ok(joint);
+    match left.rest.tokens.front() {
+        Some(placed) => token_joint(&placed.token),
+        None => Joint::Nothing,
     }
-    left.put_back(placed)?;
-    Ok(Joint::Nothing)
+}
+
+// Takes what stands between two expressions, if it binds as tightly as is wanted.
+#[tactic(auto, using(crate::proofs::TakenJoints::tight_taken, crate::proofs::TakenJoints::joint_taken, crate::proofs::TakenJoints::nothing_taken, crate::proofs::TakenJoints::loose_stays, crate::proofs::TakenJoints::joint_stays))]
+fn take_joint(level: u8, left: &mut Left) -> Joint
+    ensures joint { joint_of result ≡ tight_joint level (joint_at (left_of left.old)) }
+    ensures left { left_of left.new ≡ left_behind level (left_of left.old) }
+{
+    let joint = next_joint(left);
+    if is_tight(level, joint) {
+        let _taken = left.take();
+        return joint;
+    }
+    Joint::Nothing
 }
 
 // The right operand.
@@ -198,6 +205,6 @@ pub fn operators_begin(
 ) -> Result<State, AllocError>
     ensures { IfOk result (λ s. state_of s ≡ operators_begin brackets level (found_of found) (all_begun begun.value.items an_expression) (left_of left)) }
 {
-    let joint = take_joint(level, &mut left)?;
+    let joint = take_joint(level, &mut left);
     behind_joint(brackets, level, found, joint, begun, left)
 }

@@ -16,6 +16,7 @@ use std::alloc::AllocError;
 use std::collections::VecDeque;
 
 /// An expression that is a part of something, and binds at least as tightly as this level.
+#[inline(always)]
 pub fn part_begins(
     frame: ExpressionFrame,
     brackets: bool,

@@ -13,6 +13,7 @@ ghost use Rattle.moo_reader.specs.Views.{braces_of, operand_of};
 ghost use Rattle.reader_frames.specs.LeftView.{left_of};
 ghost use Rattle.reader_frames.specs.FrameViews.{all_begun, within_operand};
 ghost use Rattle.reader_frames.specs.StateView.{state_of};
+ghost use Rattle.reader_begins.specs.Steps.{is_step, begins_step};
 
 use crate::parts::{part_begins, stuck_before};
 use moo_reader::found::{Braces, Operand};
@@ -140,20 +141,7 @@ fn no_step(operand: Operand, begun: Box<VecDeque<Frame>>, left: Left) -> State
     State { next, begun, left }
 }
 
-// The operand, with the next token put back.
-fn no_step_before(
-    operand: Operand,
-    placed: Placed,
-    begun: Box<VecDeque<Frame>>,
-    mut left: Left,
-) -> Result<State, AllocError>
-    ensures { IfOk result (λ s. state_of s ≡ goes (found (all_begun begun.value.items an_operand) (operand_of operand)) (place_meant (place_of placed) ∷ left_of left)) }
-{
-    left.put_back(placed)?;
-    Ok(no_step(operand, begun, left))
-}
-
-// A step that begins with this sign, or none.
+// A step that begins with this sign. One that begins no step is answered as a lack of memory.
 fn step_by_sign(
     alloc: Global,
     brackets: bool,
@@ -178,14 +166,11 @@ fn step_by_sign(
             part_named(alloc, brackets, within, begun, left)
         }
         Sign::OpenBracket => index_begins(brackets, operand, begun, left),
-        _ => {
-            let token = Token::Sign(sign);
-            no_step_before(operand, Placed { token, line }, begun, left)
-        }
+        _ => Err(AllocError),
     }
 }
 
-// A step that begins with this token, or none.
+// A step that begins with this token. One that begins no step is answered as a lack of memory.
 fn step_by(
     alloc: Global,
     brackets: bool,
@@ -200,7 +185,27 @@ fn step_by(
     let Placed { token, line } = placed;
     match token {
         Token::Sign(sign) => step_by_sign(alloc, brackets, operand, sign, line, begun, left),
-        token => no_step_before(operand, Placed { token, line }, begun, left),
+        _ => Err(AllocError),
+    }
+}
+
+// Whether a step begins with a token.
+fn is_step(token: &Token) -> bool
+    ensures { result ≡ is_step (token_meant (token_of token.now)) }
+{
+    matches!(
+        token,
+        Token::Sign(Sign::Dot) | Token::Sign(Sign::Colon) | Token::Sign(Sign::OpenBracket)
+    )
+}
+
+// Whether a step begins with the next token.
+fn begins_step(left: &Left) -> bool
+    ensures { result ≡ begins_step (left_of left.now) }
+{
+    match left.rest.tokens.front() {
+        Some(placed) => is_step(&placed.token),
+        None => false,
     }
 }
 
@@ -212,7 +217,7 @@ fn is_surely_scatter(braces: &Braces) -> bool
 }
 
 // The steps behind an operand that is no scatter.
-#[tactic(auto, using(crate::proofs::Ends::no_step))]
+#[tactic(auto, using(crate::proofs::Ends::no_step, crate::proofs::Ends::no_step_there))]
 fn step_begins(
     alloc: Global,
     brackets: bool,
@@ -222,6 +227,9 @@ fn step_begins(
 ) -> Result<State, AllocError>
     ensures { IfOk result (λ s. state_of s ≡ steps_unless false brackets (operand_of operand) (all_begun begun.value.items an_operand) (left_of left)) }
 {
+    if !begins_step(&left) {
+        return Ok(no_step(operand, begun, left));
+    }
     match left.take() {
         Some(placed) => step_by(alloc, brackets, operand, placed, begun, left),
         None => Ok(no_step(operand, begun, left)),
@@ -239,7 +247,7 @@ pub fn steps_begin(
     ensures { IfOk result (λ s. state_of s ≡ steps_unless (is_surely_scatter (operand_of operand).braces) brackets (operand_of operand)
         (all_begun begun.value.items an_operand) (left_of left)) }
 {
-    if is_surely_scatter(&operand.braces) {
+    if is_surely_scatter(&operand.whole.braces) {
         return Ok(no_step(operand, begun, left));
     }
     step_begins(alloc, brackets, operand, begun, left)

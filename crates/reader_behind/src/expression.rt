@@ -10,11 +10,11 @@ ghost use Rattle.reader_frames.specs.FrameViews.{all_begun, within_expression};
 ghost use Rattle.reader_frames.specs.StateView.{state_of};
 
 use moo_reader::build::{assignment, conditional, joined, scatter};
-use moo_reader::found::{Found, Join};
+use moo_reader::found::{Found, Join, Scattering};
 use moo_token::token::Sign;
 use reader_frames::frame::{ExpressionFrame, Frame, WithinExpression};
 use reader_frames::left::Left;
-use reader_frames::state::{Next, Part, State, begin, past_sign};
+use reader_frames::state::{BeforeOperators, Next, Part, State, begin, past_sign};
 use std::alloc::{AllocError, Global};
 use std::collections::VecDeque;
 
@@ -22,8 +22,9 @@ use std::collections::VecDeque;
 fn in_parentheses(line: u64, found: Found, begun: Box<VecDeque<Frame>>, left: Left) -> State
     ensures { state_of result ≡ behind (f.in_parentheses line) (all_begun begun.value.items an_expression) (found_of found) (left_of left) }
 {
-    let Found { whole, .. } = found;
-    let next = Next::Found(Part::Expression(Found { line, whole }));
+    let Found { mut whole } = found;
+    whole.line = line;
+    let next = Next::Found(Part::Expression(Found { whole }));
     past_sign(Sign::CloseParenthesis, next, begun, left)
 }
 
@@ -42,11 +43,11 @@ fn right_of(
         (found_of other) (left_of left)) }
 {
     let found = joined(alloc, join, one, other)?;
-    let next = Next::Operators {
+    let next = Next::Operators(BeforeOperators {
         brackets,
         level,
         left: found,
-    };
+    });
     Ok(State { next, begun, left })
 }
 
@@ -91,15 +92,16 @@ fn chosen_second(
         (all_begun begun.value.items an_expression) (found_of second) (left_of left)) }
 {
     let found = conditional(alloc, condition, first, second)?;
-    let next = Next::Operators {
+    let next = Next::Operators(BeforeOperators {
         brackets,
         level,
         left: found,
-    };
+    });
     Ok(State { next, begun, left })
 }
 
 /// Behind an expression that is a part of another one.
+#[inline(always)]
 pub fn behind_within_expression(
     alloc: Global,
     within: WithinExpression,
@@ -133,12 +135,14 @@ pub fn behind_within_expression(
             line,
             nodes,
         } => {
+            let nodes = Box::into_inner(nodes);
             let found = assignment(alloc, Box::into_inner(target), line, nodes, found)?;
             let next = Next::Found(Part::Expression(found));
             Ok(State { next, begun, left })
         }
-        WithinExpression::ScatteredTo { items, line, nodes } => {
-            let found = scatter(alloc, Box::into_inner(items), line, nodes, found)?;
+        WithinExpression::ScatteredTo { line, scattering } => {
+            let Scattering { items, nodes } = Box::into_inner(scattering);
+            let found = scatter(alloc, items, line, nodes, found)?;
             let next = Next::Found(Part::Expression(found));
             Ok(State { next, begun, left })
         }

@@ -19,7 +19,7 @@ use reader_frames::frame::{
     ArgumentsFrame, CodesFrame, ExpressionFrame, Frame, OperandFrame, WithinOperand,
 };
 use reader_frames::left::Left;
-use reader_frames::state::{Next, Part, State, begin, past_sign, stuck};
+use reader_frames::state::{BeforeSteps, Next, Part, State, begin, past_sign, stuck};
 use std::alloc::{AllocError, Global};
 use std::collections::VecDeque;
 
@@ -52,9 +52,11 @@ fn property_named(
     ensures { IfOk result (λ s. state_of s ≡ behind (f.property_name brackets (operand_of object)) (all_begun begun.value.items an_operand) (found_of name)
         (left_of left)) }
 {
-    let Operand { found, .. } = object;
+    let found = Found {
+        whole: object.whole,
+    };
     let operand = property_of(alloc, found, name)?;
-    let next = Next::Steps { brackets, operand };
+    let next = Next::Steps(BeforeSteps { brackets, operand });
     Ok(State { next, begun, left })
 }
 
@@ -73,7 +75,9 @@ fn verb_named(
     if !left.take_sign(Sign::OpenParenthesis) {
         return Ok(stuck(begun, left));
     }
-    let Operand { found, .. } = object;
+    let found = Found {
+        whole: object.whole,
+    };
     let begun = begin(begun, Frame::Operand(OperandFrame::Steps { brackets }))?;
     let frame = ArgumentsFrame::VerbOf {
         object: found,
@@ -109,7 +113,7 @@ fn index_read(
         return Ok(State { next, begun, left });
     }
     let operand = index_of(alloc, list, index)?;
-    let next = Next::Steps { brackets, operand };
+    let next = Next::Steps(BeforeSteps { brackets, operand });
     Ok(past_sign(Sign::CloseBracket, next, begun, left))
 }
 
@@ -127,7 +131,7 @@ fn range_read(
         (found_of last) (left_of left)) }
 {
     let operand = range_of(alloc, list, first, last)?;
-    let next = Next::Steps { brackets, operand };
+    let next = Next::Steps(BeforeSteps { brackets, operand });
     Ok(past_sign(Sign::CloseBracket, next, begun, left))
 }
 
@@ -173,6 +177,7 @@ fn instead_read(
 }
 
 /// Behind an expression that is a part of an operand.
+#[inline(always)]
 pub fn behind_within_operand(
     alloc: Global,
     within: WithinOperand,

@@ -10,7 +10,6 @@ ghost use Rattle.spec_reader.specs.Next.{goes, reads_operators, reads_expression
 ghost use Rattle.spec_reader.specs.Ends as ends;
 ghost use Rattle.spec_reader.specs.Behind.{target_read, is_any_level, braces_read, found_by, scattered_or_stuck};
 ghost use Rattle.moo_tree.specs.ExpressionView.{items_of};
-ghost use Rattle.moo_reader.specs.Nodes.{nodes_of};
 ghost use Rattle.moo_reader.specs.Views.{found_of, operand_of, target_if};
 ghost use Rattle.reader_frames.specs.LeftView.{left_of};
 ghost use Rattle.reader_frames.specs.FrameViews.{all_begun, operand_begun};
@@ -18,15 +17,16 @@ ghost use Rattle.reader_frames.specs.StateView.{state_of};
 ghost use Rattle.reader_behind.specs.Assigning.{is_assigned};
 
 use crate::target::target_of;
-use moo_reader::found::{Braces, Found, Operand, Scattering, Whole};
-use moo_reader::node::Node;
+use moo_reader::found::{Braces, Found, Operand, Parts, Scattering, out_of_box};
+use moo_reader::node::Nodes;
 use moo_token::token::Sign;
 use moo_tree::expression::Target;
 use reader_frames::frame::{ExpressionFrame, Frame, OperandFrame, WithinExpression};
 use reader_frames::left::Left;
-use reader_frames::state::{Next, State, begin, past_sign, stuck};
+use reader_frames::state::{BeforeOperators, BeforeSteps, Next, State, begin, past_sign, stuck};
 use std::alloc::{AllocError, Global};
 use std::collections::VecDeque;
+use std::mem::replace;
 
 // Whether any expression may stand at this level.
 #[tactic(auto, using(crate::proofs::Assigning::any_level))]
@@ -53,11 +53,11 @@ fn operators(
 ) -> State
     ensures { state_of result ≡ goes (reads_operators brackets level (found_of found) (all_begun begun.value.items an_expression)) (left_of left) }
 {
-    let next = Next::Operators {
+    let next = Next::Operators(BeforeOperators {
         brackets,
         level,
         left: found,
-    };
+    });
     State { next, begun, left }
 }
 
@@ -67,15 +67,16 @@ fn assigned(
     brackets: bool,
     target: Target,
     line: u64,
-    nodes: Vec<Node>,
+    nodes: Nodes,
     begun: Box<VecDeque<Frame>>,
     left: Left,
 ) -> Result<State, AllocError>
     ensures { IfOk result (λ s. state_of s ≡ ends.past_sign t.assign (reads_expression brackets 0
-        (push (f.assigned_to (record { tree = own_length; line = line; nodes = nodes_of nodes.items }) target) (all_begun begun.value.items an_expression)))
+        (push (f.assigned_to (record { tree = own_length; line = line; nodes = nodes }) target) (all_begun begun.value.items an_expression)))
         (left_of left)) }
 {
     let target = Box::new(alloc, target)?;
+    let nodes = Box::new(alloc, nodes)?;
     let within = WithinExpression::AssignedTo {
         target,
         line,
@@ -91,7 +92,6 @@ fn assigned(
 
 // The value of a scatter.
 fn scattered(
-    alloc: Global,
     brackets: bool,
     line: u64,
     scattering: Box<Scattering>,
@@ -99,12 +99,10 @@ fn scattered(
     left: Left,
 ) -> Result<State, AllocError>
     ensures { IfOk result (λ s. state_of s ≡ ends.past_sign t.assign (reads_expression brackets 0
-        (push (f.scattered_to line (items_of scattering.value.items.items) (nodes_of scattering.value.nodes.items)) (all_begun begun.value.items an_expression)))
+        (push (f.scattered_to line (items_of scattering.value.items.items) scattering.value.nodes) (all_begun begun.value.items an_expression)))
         (left_of left)) }
 {
-    let Scattering { items, nodes } = Box::into_inner(scattering);
-    let items = Box::new(alloc, items)?;
-    let within = WithinExpression::ScatteredTo { items, line, nodes };
+    let within = WithinExpression::ScatteredTo { line, scattering };
     let begun = begin(
         begun,
         Frame::Expression(ExpressionFrame::Expression(within)),
@@ -131,8 +129,7 @@ fn behind_target(
     if !is_read {
         return Ok(operators(brackets, level, found, begun, left));
     }
-    let Found { line, whole } = found;
-    let Whole { tree, nodes } = Box::into_inner(whole);
+    let Parts { line, tree, nodes } = out_of_box(found);
     let Some(target) = target_of(alloc, tree)? else {
         return Err(AllocError);
     };
@@ -142,7 +139,6 @@ fn behind_target(
 // Behind braces that may be a scatter.
 #[tactic(auto, using(crate::proofs::Assigning::is_assigned_to, crate::proofs::Assigning::is_not_assigned))]
 fn behind_perhaps(
-    alloc: Global,
     brackets: bool,
     level: u8,
     found: Found,
@@ -151,17 +147,16 @@ fn behind_perhaps(
     left: Left,
 ) -> Result<State, AllocError>
     ensures { IfOk result (λ s. state_of s ≡ braces_read brackets level (by.whole (found_of found))
-        (by.perhaps_scatter (items_of scattering.value.items.items) (nodes_of scattering.value.nodes.items)) (all_begun begun.value.items an_expression) (left_of left)) }
+        (by.perhaps_scatter (items_of scattering.value.items.items) scattering.value.nodes) (all_begun begun.value.items an_expression) (left_of left)) }
 {
     if is_assigned(level, &left) {
-        return scattered(alloc, brackets, found.line, scattering, begun, left);
+        return scattered(brackets, found.whole.line, scattering, begun, left);
     }
     Ok(operators(brackets, level, found, begun, left))
 }
 
 // Behind braces that are a scatter.
 fn behind_surely(
-    alloc: Global,
     brackets: bool,
     level: u8,
     line: u64,
@@ -170,11 +165,11 @@ fn behind_surely(
     left: Left,
 ) -> Result<State, AllocError>
     ensures { IfOk result (λ s. state_of s ≡ scattered_or_stuck (reads_expression brackets 0
-        (push (f.scattered_to line (items_of scattering.value.items.items) (nodes_of scattering.value.nodes.items)) (all_begun begun.value.items an_expression)))
+        (push (f.scattered_to line (items_of scattering.value.items.items) scattering.value.nodes) (all_begun begun.value.items an_expression)))
         (is_any_level level) (left_of left)) }
 {
     if is_any_level(level) {
-        return scattered(alloc, brackets, line, scattering, begun, left);
+        return scattered(brackets, line, scattering, begun, left);
     }
     Ok(stuck(begun, left))
 }
@@ -190,24 +185,23 @@ fn behind_value(
     ensures { IfOk result (λ s. state_of s ≡ braces_read brackets level (operand_of operand) (operand_of operand).braces
         (all_begun begun.value.items an_expression) (left_of left)) }
 {
-    let Operand {
-        found,
-        is_target,
-        braces,
-        ..
-    } = operand;
+    let Operand { mut whole } = operand;
+    let is_target = whole.is_target;
+    let braces = replace(&mut whole.braces, Braces::NoScatter);
+    let found = Found { whole };
     match braces {
         Braces::NoScatter => behind_target(alloc, brackets, level, found, is_target, begun, left),
         Braces::PerhapsScatter(scattering) => {
-            behind_perhaps(alloc, brackets, level, found, scattering, begun, left)
+            behind_perhaps(brackets, level, found, scattering, begun, left)
         }
         Braces::SurelyScatter(scattering) => {
-            behind_surely(alloc, brackets, level, found.line, scattering, begun, left)
+            behind_surely(brackets, level, found.whole.line, scattering, begun, left)
         }
     }
 }
 
 /// Behind an operand.
+#[inline(always)]
 pub fn behind_operand(
     alloc: Global,
     frame: OperandFrame,
@@ -219,7 +213,7 @@ pub fn behind_operand(
 {
     match frame {
         OperandFrame::Steps { brackets } => {
-            let next = Next::Steps { brackets, operand };
+            let next = Next::Steps(BeforeSteps { brackets, operand });
             Ok(State { next, begun, left })
         }
         OperandFrame::Value { brackets, level } => {

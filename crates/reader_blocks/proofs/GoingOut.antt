@@ -1,11 +1,10 @@
 -- Strays that are gone over, the last one first.
-use Rattle.std.proofs.Common.{◌≡◌, ℕ, ◌+◌, ◌<◌, ◌≤◌, suc, Bool, true, false, if◌then◌else◌, List, [], ◌∷◌, ◌++◌, length, map, drop, get_or, Option, refl, sym, ap, ◌∙◌, append_assoc, add-one}
+use Rattle.std.proofs.Common.{◌≡◌, ℕ, ◌+◌, ◌<◌, ◌≤◌, suc, true, false, if◌then◌else◌, List, [], ◌∷◌, ◌++◌, length, map, drop, get_or, Option, sym, ap, ◌∙◌, append_assoc, add-one}
 use Rattle.std.proofs.Math.Seq.{drop-cons}
 use Rattle.std.proofs.Math.ListN.{drop_of_length-le}
 use Rattle.std.proofs.lemmas.List.{map-append, append-nil}
 use Rattle.std.proofs.lemmas.List.Elements.{filter-append}
 use Rattle.spec_value.specs.Datum.{Text}
-use Rattle.spec_program.specs.ReadPrograms as by
 use Rattle.spec_program.specs.ReadPrograms.{out_of_loop, goes_out, cut}
 use Rattle.moo_reader.specs.declared.block.Stray.{Stray}
 use Rattle.moo_reader.specs.BlockViews.{stray_of, strays_of}

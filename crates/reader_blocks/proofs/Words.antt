@@ -1,5 +1,5 @@
 -- What begins with a name, or with none.
-use Rattle.std.proofs.Common.{◌≡◌, ℕ, List, [], ◌∷◌, Option, Some, None, refl}
+use Rattle.std.proofs.Common.{◌≡◌, ℕ, List, [], Option, Some, None, refl}
 use Rattle.spec_value.specs.Datum.{Text, fold_case}
 use Rattle.spec_program.specs.Tree.{Statement}
 use Rattle.spec_program.specs.Tokens.{Placed}

@@ -87,6 +87,7 @@ fn arm_read(
 {
     if left.take_keyword(Keyword::Except) {
         let block = Box::new(alloc, block)?;
+        let variable = Box::new(alloc, variable)?;
         let frame = ArmsFrame::Behind {
             variable,
             codes,
@@ -150,7 +151,7 @@ pub fn behind_block(
             Ok(State { next, begun, left })
         }
         BlockFrame::Body { line, body } => {
-            let statement = with_body(alloc, line, body, block)?;
+            let statement = with_body(alloc, line, Box::into_inner(body), block)?;
             let next = Next::Found(Part::Statement(Box::new(alloc, statement)?));
             Ok(State { next, begun, left })
         }

@@ -4,15 +4,14 @@ ghost use Rattle.std.specs.Prelude.{◌≡◌, ◌++◌, IfOk};
 ghost use Rattle.spec_program.specs.Frames as f;
 ghost use Rattle.spec_program.specs.Reading.{under};
 ghost use Rattle.moo_tree.specs.StatementView.{node_statement};
-ghost use Rattle.moo_reader.specs.Nodes.{nodes_of};
 ghost use Rattle.moo_reader.specs.Views.{found_of};
 ghost use Rattle.moo_reader.specs.BlockViews.{block_found, statement_found, strays_of};
 ghost use Rattle.reader_frames.specs.FrameViews.{body_of};
 
 use crate::strays::{out_of_fork, out_of_loop};
 use moo_reader::block::{Block, FoundStatement, Stray};
-use moo_reader::found::{Found, Whole};
-use moo_reader::node::{Node, followed, under};
+use moo_reader::found::{Found, Parts, out_of_box};
+use moo_reader::node::{Nodes, followed, under};
 use moo_tree::statement::{Statement, StatementNode};
 use moo_value::text::Text;
 use reader_frames::frame::Body;
@@ -22,13 +21,13 @@ use std::alloc::{AllocError, Global};
 fn statement(
     line: u64,
     node: StatementNode,
-    nodes: Vec<Node>,
-    of_body: &[Node],
+    nodes: Nodes,
+    of_body: Nodes,
     strays: Vec<Stray>,
 ) -> Result<FoundStatement, AllocError>
     ensures { IfOk result (λ s. statement_found s ≡ record {
       tree = node_statement node;
-      nodes = under line (nodes_of nodes.items ++ nodes_of of_body.now);
+      nodes = under line (nodes ++ of_body);
       strays = strays_of strays.items;
     }) }
 {
@@ -51,7 +50,7 @@ fn over_list(
 ) -> Result<FoundStatement, AllocError>
     ensures { IfOk result (λ s. statement_found s ≡ f.with_body line (f.list_body variable (found_of list)) (block_found block)) }
 {
-    let Whole { tree, nodes } = Box::into_inner(list.whole);
+    let Parts { tree, nodes, .. } = out_of_box(list);
     let Block {
         reversed: mut body,
         nodes: of_body,
@@ -65,7 +64,7 @@ fn over_list(
         list: tree,
         body,
     };
-    statement(line, node, nodes, &of_body, strays)
+    statement(line, node, nodes, of_body, strays)
 }
 
 // Over a range of numbers.
@@ -79,18 +78,19 @@ fn over_range(
 ) -> Result<FoundStatement, AllocError>
     ensures { IfOk result (λ s. statement_found s ≡ f.with_body line (f.range_body variable (found_of first) (found_of last)) (block_found block)) }
 {
-    let Whole { tree, nodes } = Box::into_inner(first.whole);
-    let Whole {
+    let Parts { tree, nodes, .. } = out_of_box(first);
+    let Parts {
         tree: last,
         nodes: of_last,
-    } = Box::into_inner(last.whole);
+        ..
+    } = out_of_box(last);
     let Block {
         reversed: mut body,
         nodes: of_body,
         strays,
     } = block;
     body.reverse();
-    let nodes = followed(nodes, &of_last)?;
+    let nodes = followed(nodes, of_last)?;
     let own = Some(variable.clone()?);
     let strays = out_of_loop(alloc, &own, &strays)?;
     let node = StatementNode::ForRange {
@@ -99,7 +99,7 @@ fn over_range(
         last,
         body,
     };
-    statement(line, node, nodes, &of_body, strays)
+    statement(line, node, nodes, of_body, strays)
 }
 
 // While a condition is true.
@@ -112,7 +112,7 @@ fn repeated(
 ) -> Result<FoundStatement, AllocError>
     ensures { IfOk result (λ s. statement_found s ≡ f.with_body line (f.while_body name (found_of condition)) (block_found block)) }
 {
-    let Whole { tree, nodes } = Box::into_inner(condition.whole);
+    let Parts { tree, nodes, .. } = out_of_box(condition);
     let Block {
         reversed: mut body,
         nodes: of_body,
@@ -125,7 +125,7 @@ fn repeated(
         condition: tree,
         body,
     };
-    statement(line, node, nodes, &of_body, strays)
+    statement(line, node, nodes, of_body, strays)
 }
 
 // Another task.
@@ -138,7 +138,7 @@ fn forked(
 ) -> Result<FoundStatement, AllocError>
     ensures { IfOk result (λ s. statement_found s ≡ f.with_body line (f.fork_body variable (found_of delay)) (block_found block)) }
 {
-    let Whole { tree, nodes } = Box::into_inner(delay.whole);
+    let Parts { tree, nodes, .. } = out_of_box(delay);
     let Block {
         reversed: mut body,
         nodes: of_body,
@@ -151,7 +151,7 @@ fn forked(
         delay: tree,
         body,
     };
-    statement(line, node, nodes, &of_body, strays)
+    statement(line, node, nodes, of_body, strays)
 }
 
 /// A loop or a fork behind its body.

@@ -61,6 +61,7 @@ pub fn behind_arms(
             block,
         } => {
             let codes = Box::into_inner(codes);
+            let variable = Box::into_inner(variable);
             let arms = with_arm(variable, codes, Box::into_inner(block), arms)?;
             let next = Next::Found(Part::Arms(Box::new(alloc, arms)?));
             Ok(State { next, begun, left })

@@ -51,6 +51,7 @@ pub fn if_begins(line: u64, begun: Box<VecDeque<Frame>>, left: Left) -> Result<S
 
 // Behind `for x in`.
 fn for_in(
+    alloc: Global,
     line: u64,
     variable: Text,
     begun: Box<VecDeque<Frame>>,
@@ -62,11 +63,12 @@ fn for_in(
         let within = WithinStatement::RangeFirst { line, variable };
         return part_begins(within, begun, left);
     }
-    head_begins(line, Head::For(variable), begun, left)
+    head_begins(alloc, line, Head::For(variable), begun, left)
 }
 
 // Behind `for x`.
 fn for_named(
+    alloc: Global,
     line: u64,
     variable: Text,
     begun: Box<VecDeque<Frame>>,
@@ -77,7 +79,7 @@ fn for_named(
     if !left.take_keyword(Keyword::In) {
         return Ok(stuck(begun, left));
     }
-    for_in(line, variable, begun, left)
+    for_in(alloc, line, variable, begun, left)
 }
 
 /// Behind `for`.
@@ -93,7 +95,7 @@ pub fn for_begins(
         return Ok(stuck(begun, left));
     };
     let variable = lower_case(alloc, &word.text)?;
-    for_named(line, variable, begun, left)
+    for_named(alloc, line, variable, begun, left)
 }
 
 /// Behind `while`.
@@ -107,7 +109,7 @@ pub fn while_begins(
     ensures { IfOk result (λ s. state_of s ≡ meant.while_begins line (all_begun begun.value.items a_statement) (left_of left)) }
 {
     let name = perhaps_name(alloc, &mut left)?;
-    head_begins(line, Head::While(name), begun, left)
+    head_begins(alloc, line, Head::While(name), begun, left)
 }
 
 /// Behind `fork`.
@@ -121,7 +123,7 @@ pub fn fork_begins(
     ensures { IfOk result (λ s. state_of s ≡ meant.fork_begins line (all_begun begun.value.items a_statement) (left_of left)) }
 {
     let name = perhaps_name(alloc, &mut left)?;
-    head_begins(line, Head::Fork(name), begun, left)
+    head_begins(alloc, line, Head::Fork(name), begun, left)
 }
 
 /// Behind `try`.

@@ -15,7 +15,7 @@ ghost use Rattle.reader_blocks.specs.Names.{name_taken};
 
 use crate::strays::copied;
 use moo_reader::block::{FoundStatement, Stray};
-use moo_reader::node::{Node, under};
+use moo_reader::node::{Nodes, under};
 use moo_reader::text::lower_case;
 use moo_tree::statement::{Statement, StatementNode};
 use moo_value::text::Text;
@@ -46,7 +46,7 @@ fn stray(
 ) -> Result<FoundStatement, AllocError>
     ensures { IfOk result (λ s. statement_found s ≡ by.stray line name (node_statement node)) }
 {
-    let nodes = under(line, Vec::new(alloc))?;
+    let nodes = under(line, Nodes::none(alloc))?;
     let mut strays = Vec::new(alloc);
     strays.push(Stray {
         line,

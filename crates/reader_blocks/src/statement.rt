@@ -35,6 +35,7 @@ fn body_of(head: Head, found: Found) -> Body
 
 // Behind the first value of a range.
 fn range_first(
+    alloc: Global,
     line: u64,
     variable: Text,
     first: Found,
@@ -43,6 +44,7 @@ fn range_first(
 ) -> Result<State, AllocError>
     ensures { IfOk result (λ s. state_of s ≡ behind (f.range_first line variable) (all_begun begun.value.items a_statement) (found_of first) (left_of left)) }
 {
+    let variable = Box::new(alloc, variable)?;
     let within = WithinStatement::RangeLast {
         line,
         variable,
@@ -58,6 +60,7 @@ fn range_first(
 
 // Behind the last value of a range.
 fn range_last(
+    alloc: Global,
     line: u64,
     variable: Text,
     first: Found,
@@ -71,7 +74,7 @@ fn range_last(
     if !left.take_sign(Sign::CloseBracket) {
         return Ok(stuck(begun, left));
     }
-    body_begins(line, Body::Range(variable, first, last), begun, left)
+    body_begins(alloc, line, Body::Range(variable, first, last), begun, left)
 }
 
 /// Behind an expression that is a part of a statement.
@@ -94,16 +97,20 @@ pub fn behind_within_statement(
             statement_ended(alloc, statement, begun, left)
         }
         WithinStatement::HeadOf { line, head } => {
-            body_begins(line, body_of(head, found), begun, left)
+            let body = body_of(Box::into_inner(head), found);
+            body_begins(alloc, line, body, begun, left)
         }
         WithinStatement::RangeFirst { line, variable } => {
-            range_first(line, variable, found, begun, left)
+            range_first(alloc, line, variable, found, begun, left)
         }
         WithinStatement::RangeLast {
             line,
             variable,
             first,
-        } => range_last(line, variable, first, found, begun, left),
+        } => {
+            let variable = Box::into_inner(variable);
+            range_last(alloc, line, variable, first, found, begun, left)
+        }
     }
 }
 

@@ -1,5 +1,5 @@
 -- Of fewer than two tokens none is the second.
-use Rattle.std.proofs.Common.{◌≡◌, ℕ, ◌≤◌, suc, false, List, [], ◌∷◌, length, refl, arith}
+use Rattle.std.proofs.Common.{◌≡◌, ◌≤◌, false, List, [], ◌∷◌, length, refl, arith}
 use Rattle.moo_token.specs.declared.token.Placed.{Placed}
 use Rattle.moo_token.specs.Tokens.{Ending, whole, faulty}
 use Rattle.moo_token.specs.Views.{places}

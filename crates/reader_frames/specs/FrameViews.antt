@@ -1,5 +1,5 @@
 -- What was begun, as the frames of the definitions.
-use Rattle.std.specs.Prelude.{List, [], ◌∷◌, Option, None, false}
+use Rattle.std.specs.Prelude.{List, [], ◌∷◌, None, false}
 use Rattle.spec_program.specs.Tree.{own_length}
 use Rattle.spec_program.specs.ReadPrograms as in_programs
 use Rattle.spec_program.specs.Frames as f
@@ -7,7 +7,6 @@ use Rattle.spec_program.specs.Frames.{Kind, an_expression, an_operand, some_argu
 use Rattle.moo_value.specs.Operators.{unary_of}
 use Rattle.moo_token.specs.Meaning.{sign_meant, keyword_meant}
 use Rattle.moo_tree.specs.ExpressionView.{items_of}
-use Rattle.moo_reader.specs.Nodes.{nodes_of}
 use Rattle.moo_reader.specs.Views.{found_of, operand_of, allowed_of, join_of, item_of, codes_found}
 use Rattle.moo_reader.specs.BlockViews.{statement_found, block_found}
 use Rattle.reader_frames.specs.declared.frame.Frame.{Frame}
@@ -59,8 +58,8 @@ within_expression (in_expression.Parentheses line) = f.in_parentheses line
 within_expression (in_expression.RightOf b k a j) = f.right_of b k (found_of a) (join_of j)
 within_expression (in_expression.ChosenFirst b k c) = f.chosen_first b k (found_of c)
 within_expression (in_expression.ChosenSecond b k c x) = f.chosen_second b k (found_of c) (found_of x)
-within_expression (in_expression.AssignedTo t line ns) = f.assigned_to (record { tree = own_length; line = line; nodes = nodes_of ns.items }) t.value
-within_expression (in_expression.ScatteredTo xs line ns) = f.scattered_to line (items_of xs.value.items) (nodes_of ns.items)
+within_expression (in_expression.AssignedTo t line ns) = f.assigned_to (record { tree = own_length; line = line; nodes = ns.value }) t.value
+within_expression (in_expression.ScatteredTo line s) = f.scattered_to line (items_of s.value.items.items) s.value.nodes
 within_expression in_expression.Head = f.in_head
 
 abbrev pub within_operand : WithinOperand → f.Frame an_expression an_operand
@@ -80,9 +79,9 @@ within_items (in_items.Default b a x) = f.item_default b (allowed_of a) x
 abbrev pub within_statement : WithinStatement → f.Frame an_expression a_statement
 within_statement (in_statement.Evaluated line) = f.evaluated line
 within_statement (in_statement.Returned line) = f.returned line
-within_statement (in_statement.HeadOf line h) = f.head_of line (head_of h)
+within_statement (in_statement.HeadOf line h) = f.head_of line (head_of h.value)
 within_statement (in_statement.RangeFirst line x) = f.range_first line x
-within_statement (in_statement.RangeLast line x a) = f.range_last line x (found_of a)
+within_statement (in_statement.RangeLast line x a) = f.range_last line x.value (found_of a)
 
 -- ---- a frame on others, whatever kind these take
 
@@ -121,7 +120,7 @@ block_begun (behind_block.Behind s) gs = push (f.statement_before (statement_fou
 block_begun (behind_block.To k) gs = push (f.to_word (keyword_meant k)) (gs a_block)
 block_begun (behind_block.Branch c) gs = push (f.block_of_branch (found_of c)) (gs some_branches_read)
 block_begun behind_block.Else gs = push f.as_else (gs some_branches_read)
-block_begun (behind_block.Body line b) gs = push (f.block_of_body line (body_of b)) (gs a_statement)
+block_begun (behind_block.Body line b) gs = push (f.block_of_body line (body_of b.value)) (gs a_statement)
 block_begun (behind_block.Tried line) gs = push (f.tried line) (gs a_statement)
 block_begun (behind_block.Finally line p) gs = push (f.finally_of line (block_found p.value)) (gs a_statement)
 block_begun (behind_block.Arm x c) gs = push (f.block_of_arm x (codes_found c.value)) (gs some_arms_read)
@@ -132,7 +131,7 @@ branches_begun (behind_branches.Behind c p) gs = push (f.branch_before (found_of
 
 abbrev pub arms_begun : ArmsFrame → Others → Frames some_arms_read
 arms_begun (behind_arms.Try line p) gs = push (f.arms_of line (block_found p.value)) (gs a_statement)
-arms_begun (behind_arms.Behind x c p) gs = push (f.arm_before x (codes_found c.value) (block_found p.value)) (gs some_arms_read)
+arms_begun (behind_arms.Behind x c p) gs = push (f.arm_before x.value (codes_found c.value) (block_found p.value)) (gs some_arms_read)
 
 -- ---- all of them
 

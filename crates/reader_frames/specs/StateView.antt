@@ -27,8 +27,8 @@ part_found (part.Arms a) gs = meant.found (all_begun gs some_arms_read) (arms_fo
 abbrev pub next_of : Next → List Frame → meant.Next
 next_of (next.Found p) gs = part_found p gs
 next_of (next.Expression b k) gs = meant.reads_expression b k (all_begun gs an_expression)
-next_of (next.Steps b o) gs = meant.reads_steps b (operand_of o) (all_begun gs an_operand)
-next_of (next.Operators b k e) gs = meant.reads_operators b k (found_of e) (all_begun gs an_expression)
+next_of (next.Steps s) gs = meant.reads_steps s.brackets (operand_of s.operand) (all_begun gs an_operand)
+next_of (next.Operators o) gs = meant.reads_operators o.brackets o.level (found_of o.left) (all_begun gs an_expression)
 next_of (next.Arguments b) gs = meant.reads_arguments b (all_begun gs some_arguments_read)
 next_of (next.Items b a) gs = meant.reads_items b (allowed_of a) (all_begun gs some_items_read)
 next_of next.Block gs = meant.reads_block (all_begun gs a_block)

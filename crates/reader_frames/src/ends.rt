@@ -21,6 +21,7 @@ use moo_reader::block::FoundStatement;
 use moo_reader::build::no_arguments;
 use moo_reader::found::{Allowed, BracedItem, FoundCodes};
 use moo_reader::items::{no_more, with_item};
+use moo_reader::node::Nodes;
 use moo_token::token::{Keyword, Sign};
 use moo_tree::expression::Codes;
 use std::alloc::{AllocError, Global};
@@ -80,7 +81,7 @@ pub fn codes_begin(
     if left.take_keyword(Keyword::Any) {
         let codes = FoundCodes {
             tree: Codes::Any,
-            nodes: Vec::new(alloc),
+            nodes: Nodes::none(alloc),
         };
         let next = Next::Found(Part::Codes(Box::new(alloc, codes)?));
         return Ok(State { next, begun, left });
@@ -105,6 +106,7 @@ pub fn statement_ended(
 
 /// The expression of a head in its parentheses.
 pub fn head_begins(
+    alloc: Global,
     line: u64,
     head: Head,
     begun: Box<VecDeque<Frame>>,
@@ -112,6 +114,7 @@ pub fn head_begins(
 ) -> Result<State, AllocError>
     ensures { IfOk result (λ s. state_of s ≡ by.head_begins line (head_of head) (all_begun begun.value.items a_statement) (left_of left)) }
 {
+    let head = Box::new(alloc, head)?;
     let within = WithinStatement::HeadOf { line, head };
     let begun = begin(begun, Frame::Expression(ExpressionFrame::Statement(within)))?;
     let within = WithinExpression::Head;
@@ -139,6 +142,7 @@ fn end_word(body: &Body) -> Keyword
 
 /// The body of a loop or a fork.
 pub fn body_begins(
+    alloc: Global,
     line: u64,
     body: Body,
     begun: Box<VecDeque<Frame>>,
@@ -147,6 +151,7 @@ pub fn body_begins(
     ensures { IfOk result (λ s. state_of s ≡ goes (by.body_begins line (body_of body) (all_begun begun.value.items a_statement)) (left_of left)) }
 {
     let end = end_word(&body);
+    let body = Box::new(alloc, body)?;
     let begun = begin(begun, Frame::Block(BlockFrame::Body { line, body }))?;
     let begun = begin(begun, Frame::Block(BlockFrame::To(end)))?;
     let next = Next::Block;

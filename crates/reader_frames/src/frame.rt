@@ -2,10 +2,10 @@
 //! `brackets` tells whether something stands in brackets, where `$` may, and `line` is that of its first token.
 
 use moo_reader::block::{Block, FoundStatement};
-use moo_reader::found::{Allowed, BracedItem, Found, FoundCodes, Join, Operand};
-use moo_reader::node::Node;
+use moo_reader::found::{Allowed, BracedItem, Found, FoundCodes, Join, Operand, Scattering};
+use moo_reader::node::Nodes;
 use moo_token::token::{Keyword, Sign};
-use moo_tree::expression::{Item, Target};
+use moo_tree::expression::Target;
 use moo_value::operator::UnaryOperator;
 use moo_value::text::Text;
 
@@ -68,13 +68,12 @@ pub enum WithinExpression {
     AssignedTo {
         target: Box<Target>,
         line: u64,
-        nodes: Vec<Node>,
+        nodes: Box<Nodes>,
     },
-    /// The value of a scatter. The nodes are those of its defaults.
+    /// The value of a scatter.
     ScatteredTo {
-        items: Box<Vec<Item>>,
         line: u64,
-        nodes: Vec<Node>,
+        scattering: Box<Scattering>,
     },
     /// Up to the closing parenthesis of a statement's head.
     Head,
@@ -154,7 +153,7 @@ pub enum WithinStatement {
     /// The expression of a loop or a fork.
     HeadOf {
         line: u64,
-        head: Head,
+        head: Box<Head>,
     },
     /// The first value of a range, by the loop's variable.
     RangeFirst {
@@ -163,7 +162,7 @@ pub enum WithinStatement {
     },
     RangeLast {
         line: u64,
-        variable: Text,
+        variable: Box<Text>,
         first: Found,
     },
 }
@@ -247,7 +246,7 @@ pub enum BlockFrame {
     /// The body of a loop or a fork.
     Body {
         line: u64,
-        body: Body,
+        body: Box<Body>,
     },
     /// What is tried.
     Tried {
@@ -284,7 +283,7 @@ pub enum ArmsFrame {
     },
     /// A handler before them.
     Behind {
-        variable: Option<Text>,
+        variable: Box<Option<Text>>,
         codes: Box<FoundCodes>,
         block: Box<Block>,
     },

@@ -2,7 +2,6 @@
 
 ghost use Rattle.std.specs.Prelude.{◌≡◌, ◌∷◌, OnOk, IfOk};
 ghost use Rattle.spec_program.specs.Reading.{is_sign, is_keyword};
-ghost use Rattle.spec_program.specs.ReadExpressions.{ends_item};
 ghost use Rattle.spec_program.specs.Moves.{begins_with};
 ghost use Rattle.spec_reader.specs.Next.{taken, taken_word};
 ghost use Rattle.spec_reader.specs.Begins.{taken_word_alone};

@@ -29,33 +29,33 @@ pub enum Part {
     Arms(Box<Arms>),
 }
 
+/// An operand before its steps.
+#[derive(Drop)]
+pub struct BeforeSteps {
+    pub brackets: bool,
+    pub operand: Operand,
+}
+
+/// An expression before operators that bind at least as tightly as this level.
+#[derive(Drop)]
+pub struct BeforeOperators {
+    pub brackets: bool,
+    pub level: u8,
+    pub left: Found,
+}
+
 /// What is read next, or was found.
 #[derive(Drop)]
 pub enum Next {
     Found(Part),
     /// An expression that binds at least as tightly as this level: 0 is any.
-    Expression {
-        brackets: bool,
-        level: u8,
-    },
+    Expression { brackets: bool, level: u8 },
     /// The steps behind an operand.
-    Steps {
-        brackets: bool,
-        operand: Operand,
-    },
-    /// The operators behind an expression that bind at least as tightly as this level.
-    Operators {
-        brackets: bool,
-        level: u8,
-        left: Found,
-    },
-    Arguments {
-        brackets: bool,
-    },
-    Items {
-        brackets: bool,
-        allowed: Allowed,
-    },
+    Steps(BeforeSteps),
+    /// The operators behind an expression.
+    Operators(BeforeOperators),
+    Arguments { brackets: bool },
+    Items { brackets: bool, allowed: Allowed },
     Block,
     Branches,
     Arms,
@@ -63,22 +63,24 @@ pub enum Next {
     Sticks,
 }
 
-/// What is read next, within what was begun, the newest first, and the tokens from there on.
+/// What was begun, the newest first, what is read next within it, and the tokens from there on.
 #[derive(Drop)]
 pub struct State {
-    pub next: Next,
     pub begun: Box<VecDeque<Frame>>,
+    pub next: Next,
     pub left: Left,
 }
 
 /// Something more that was begun.
+#[inline(always)]
 pub fn begin(
     mut begun: Box<VecDeque<Frame>>,
     frame: Frame,
 ) -> Result<Box<VecDeque<Frame>>, AllocError>
     ensures { IfOk result (λ g. g.value.items ≡ frame ∷ begun.value.items) }
 {
-    begun.push_front(frame)?;
+    begun.reserve(1)?;
+    begun.push_front_reserved(frame);
     Ok(begun)
 }
 

@@ -29,13 +29,14 @@ use std::alloc::{AllocError, Global};
 use std::collections::VecDeque;
 
 // Takes what was begun last.
-fn pop(begun: &mut Box<VecDeque<Frame>>) -> Option<Frame>
-    ensures { Pops begun.old.value.items result begun.new.value.items }
+fn pop(begun: &mut VecDeque<Frame>) -> Option<Frame>
+    ensures { Pops begun.old.items result begun.new.items }
 {
     begun.pop_front()
 }
 
 // Behind an expression, by what was begun last.
+#[inline(always)]
 fn behind_expression(
     alloc: Global,
     frame: ExpressionFrame,
@@ -63,6 +64,7 @@ fn behind_expression(
     }
 }
 
+#[inline(always)]
 fn found_expression(
     alloc: Global,
     found: Found,
@@ -77,6 +79,7 @@ fn found_expression(
     behind_expression(alloc, frame, found, begun, left)
 }
 
+#[inline(always)]
 fn found_operand(
     alloc: Global,
     operand: Operand,
@@ -200,6 +203,7 @@ fn found_block(
 }
 
 /// Behind what was found, by what was begun last.
+#[inline(always)]
 pub fn behind_found(
     alloc: Global,
     part: Part,

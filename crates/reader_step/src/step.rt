@@ -17,7 +17,7 @@ use reader_begins::steps::steps_begin;
 use reader_blocks::begin::{arms_begin, block_begins, branches_begin};
 use reader_frames::frame::{Frame, OperandFrame};
 use reader_frames::left::Left;
-use reader_frames::state::{Next, State, begin, stuck};
+use reader_frames::state::{BeforeOperators, BeforeSteps, Next, State, begin, stuck};
 use std::alloc::{AllocError, Global};
 use std::collections::VecDeque;
 
@@ -40,6 +40,7 @@ fn expression_begins(
 }
 
 /// What is read next, or was found, one step on. The step of a state that no text leads to is answered as a lack of memory.
+#[inline(always)]
 pub fn step(alloc: Global, state: State) -> Result<State, AllocError>
     ensures { IfOk result (λ s. state_of s ≡ step (state_of state)) }
 {
@@ -49,12 +50,16 @@ pub fn step(alloc: Global, state: State) -> Result<State, AllocError>
         Next::Expression { brackets, level } => {
             expression_begins(alloc, brackets, level, begun, left)
         }
-        Next::Steps { brackets, operand } => steps_begin(alloc, brackets, operand, begun, left),
-        Next::Operators {
-            brackets,
-            level,
-            left: found,
-        } => operators_begin(brackets, level, found, begun, left),
+        Next::Steps(BeforeSteps { brackets, operand }) => {
+            steps_begin(alloc, brackets, operand, begun, left)
+        }
+        Next::Operators(
+            BeforeOperators {
+                brackets,
+                level,
+                left: found,
+            },
+        ) => operators_begin(brackets, level, found, begun, left),
         Next::Arguments { brackets } => arguments_begin(brackets, begun, left),
         Next::Items { brackets, allowed } => items_begin(alloc, brackets, allowed, begun, left),
         Next::Block => block_begins(alloc, begun, left),

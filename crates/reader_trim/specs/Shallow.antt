@@ -3,12 +3,10 @@ use Rattle.std.specs.Prelude.{◌≡◌, Bool, List, None, is_some}
 use Rattle.spec_program.specs.Tree.{Expr}
 use Rattle.spec_program.specs.Reading.{Node}
 use Rattle.spec_program.specs.ReadPrograms.{too_deep}
-use Rattle.spec_program.specs.Similar.{Similar, SimilarTarget}
+use Rattle.spec_program.specs.Similar.{Similar}
 use Rattle.moo_tree.specs.ExpressionView.{items_of}
-use Rattle.moo_reader.specs.Nodes.{nodes_of}
 use Rattle.moo_reader.specs.Views.{target_if}
 use Rattle.moo_reader.specs.declared.found.Scattering.{Scattering}
-use Rattle.moo_reader.specs.declared.found.Whole.{Whole}
 
 -- a target stays one
 pub record IsShallowOperand (ns : List Node) (is_target : Bool) (e d : Expr) : Type 0 where
@@ -17,8 +15,4 @@ pub record IsShallowOperand (ns : List Node) (is_target : Bool) (e d : Expr) : T
 
 -- with few nodes
 abbrev pub IsFew : Scattering → Scattering → Type 0
-IsFew s t = Similar (nodes_of s.nodes.items) (nodes_of t.nodes.items) (items_of s.items.items) (items_of t.items.items)
-
-pub record IsFewOperand (is_target : Bool) (w v : Whole) : Type 0 where
-  pub parts : Similar (nodes_of w.nodes.items) (nodes_of v.nodes.items) w.tree v.tree
-  pub target : SimilarTarget (nodes_of w.nodes.items) (nodes_of v.nodes.items) (target_if is_target w.tree) (target_if is_target v.tree)
+IsFew s t = Similar s.nodes t.nodes (items_of s.items.items) (items_of t.items.items)

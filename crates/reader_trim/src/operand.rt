@@ -2,11 +2,11 @@
 
 ghost use Rattle.std.specs.Prelude.{IfOk};
 ghost use Rattle.spec_program.specs.Similar.{SimilarOperand, SimilarBraces};
-ghost use Rattle.moo_reader.specs.Views.{operand_of, braces_of};
-ghost use Rattle.reader_trim.specs.Shallow.{IsFew, IsFewOperand};
+ghost use Rattle.moo_reader.specs.Views.{whole_of, operand_of, braces_of};
+ghost use Rattle.reader_trim.specs.Shallow.{IsFew};
 
 use crate::shallow::{shallow_list, shallow_operand};
-use moo_reader::found::{Braces, Found, Operand, Scattering, Whole};
+use moo_reader::found::{Braces, Operand, Scattering, Whole};
 use moo_reader::node::kept;
 use std::alloc::{AllocError, Global};
 
@@ -39,34 +39,36 @@ fn trimmed_braces(alloc: Global, braces: Braces) -> Result<Braces, AllocError>
     }
 }
 
-// What may stand in the place of a tree and its nodes in an operand.
-fn trimmed_whole(alloc: Global, is_target: bool, whole: Whole) -> Result<Whole, AllocError>
-    ensures { IfOk result (λ w. IsFewOperand is_target whole w) }
+// What may stand in the place of an operand out of its box.
+fn trimmed_whole(alloc: Global, whole: Whole) -> Result<Whole, AllocError>
+    ensures { IfOk result (λ w. SimilarOperand (whole_of whole) (whole_of w)) }
 {
-    let Whole { tree, nodes } = whole;
+    let Whole {
+        line,
+        tree,
+        nodes,
+        is_target,
+        ranged,
+        braces,
+    } = whole;
     let few = kept(alloc, &nodes)?;
     let tree = shallow_operand(alloc, is_target, tree, &nodes)?;
-    Ok(Whole { tree, nodes: few })
+    let braces = trimmed_braces(alloc, braces)?;
+    Ok(Whole {
+        line,
+        tree,
+        nodes: few,
+        is_target,
+        ranged,
+        braces,
+    })
 }
 
 /// An operand that may stand in the place of this one.
 pub fn trimmed_operand(alloc: Global, operand: Operand) -> Result<Operand, AllocError>
     ensures { IfOk result (λ o. SimilarOperand (operand_of operand) (operand_of o)) }
 {
-    let Operand {
-        found: Found { line, whole },
-        is_target,
-        ranged,
-        braces,
-    } = operand;
-    let few = trimmed_whole(alloc, is_target, Box::into_inner(whole))?;
+    let few = trimmed_whole(alloc, Box::into_inner(operand.whole))?;
     let whole = Box::new(alloc, few)?;
-    let braces = trimmed_braces(alloc, braces)?;
-    let found = Found { line, whole };
-    Ok(Operand {
-        found,
-        is_target,
-        ranged,
-        braces,
-    })
+    Ok(Operand { whole })
 }

@@ -4,20 +4,19 @@ ghost use Rattle.std.specs.Prelude.{◌≡◌, None, IfOk, is_some};
 ghost use Rattle.spec_program.specs.Tree as tree;
 ghost use Rattle.spec_program.specs.ReadPrograms as by;
 ghost use Rattle.moo_tree.specs.ExpressionView.{codes_of};
-ghost use Rattle.moo_reader.specs.Nodes.{nodes_of};
 ghost use Rattle.moo_reader.specs.Views.{as_target, target_if};
 ghost use Rattle.moo_reader.specs.BlockViews.{otherwise_of};
 ghost use Rattle.reader_trim.specs.Shallow.{IsShallowOperand};
 
-use moo_reader::node::Node;
+use moo_reader::node::Nodes;
 use moo_reader::trim::too_deep;
 use moo_tree::expression::{Codes, Expression, ExpressionNode};
 use moo_tree::statement::{Statement, StatementNode};
 use std::alloc::{AllocError, Global};
 
 /// A list, or an empty one.
-pub fn shallow_list<T: Drop>(alloc: Global, list: Vec<T>, nodes: &[Node]) -> Vec<T>
-    ensures { by.too_deep (nodes_of nodes.now) ≡ None → list.items ≡ result.items }
+pub fn shallow_list<T: Drop>(alloc: Global, list: Vec<T>, nodes: &Nodes) -> Vec<T>
+    ensures { by.too_deep nodes.now ≡ None → list.items ≡ result.items }
 {
     match too_deep(nodes) {
         None => list,
@@ -26,8 +25,8 @@ pub fn shallow_list<T: Drop>(alloc: Global, list: Vec<T>, nodes: &[Node]) -> Vec
 }
 
 /// Codes, or all of them.
-pub fn shallow_codes(codes: Codes, nodes: &[Node]) -> Codes
-    ensures { by.too_deep (nodes_of nodes.now) ≡ None → codes_of codes ≡ codes_of result }
+pub fn shallow_codes(codes: Codes, nodes: &Nodes) -> Codes
+    ensures { by.too_deep nodes.now ≡ None → codes_of codes ≡ codes_of result }
 {
     match too_deep(nodes) {
         None => codes,
@@ -36,8 +35,8 @@ pub fn shallow_codes(codes: Codes, nodes: &[Node]) -> Codes
 }
 
 /// A statement, or one that does nothing else than to end the program.
-pub fn shallow_statement(statement: Statement, nodes: &[Node]) -> Statement
-    ensures { by.too_deep (nodes_of nodes.now) ≡ None → statement ≡ result }
+pub fn shallow_statement(statement: Statement, nodes: &Nodes) -> Statement
+    ensures { by.too_deep nodes.now ≡ None → statement ≡ result }
 {
     match too_deep(nodes) {
         None => statement,
@@ -48,11 +47,8 @@ pub fn shallow_statement(statement: Statement, nodes: &[Node]) -> Statement
 }
 
 /// What is done otherwise, or nothing.
-pub fn shallow_otherwise(
-    otherwise: Option<Vec<Statement>>,
-    nodes: &[Node],
-) -> Option<Vec<Statement>>
-    ensures { by.too_deep (nodes_of nodes.now) ≡ None → otherwise_of otherwise ≡ otherwise_of result }
+pub fn shallow_otherwise(otherwise: Option<Vec<Statement>>, nodes: &Nodes) -> Option<Vec<Statement>>
+    ensures { by.too_deep nodes.now ≡ None → otherwise_of otherwise ≡ otherwise_of result }
 {
     match too_deep(nodes) {
         None => otherwise,
@@ -107,9 +103,9 @@ pub fn shallow_operand(
     alloc: Global,
     is_target: bool,
     tree: Expression,
-    nodes: &[Node],
+    nodes: &Nodes,
 ) -> Result<Expression, AllocError>
-    ensures { IfOk result (λ e. IsShallowOperand (nodes_of nodes.now) is_target tree e) }
+    ensures { IfOk result (λ e. IsShallowOperand nodes.now is_target tree e) }
 {
     match too_deep(nodes) {
         None => Ok(tree),

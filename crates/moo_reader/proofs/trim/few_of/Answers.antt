@@ -1,7 +1,8 @@
-use Rattle.moo_reader.proofs.Depth.{similar_boxed}
+use Rattle.moo_reader.specs.Views.{found_of}
+use Rattle.moo_reader.proofs.Depth.{similar_kept}
 use Rattle.moo_reader.proofs.trim.few_of.Goals as goal
 
 pub returns : goal.returns
 returns c =
-    similar_boxed _ (record { tree = c.shallow-tree.result; nodes = c.in_ok-nodes_kept.nodes_kept }) c.in_ok-whole.whole.value c.in_ok-whole.ensures.ok
-    c.in_ok-nodes_kept.ensures c.shallow-tree.ensures
+    similar_kept (record { tree = c.args.tree; line = c.args.line; nodes = c.args.nodes.now }) (found_of c.in_ok-found.found) c.in_ok-few.few
+    c.shallow-tree.result c.in_ok-found.ensures c.in_ok-few.ensures c.shallow-tree.ensures

@@ -6,9 +6,8 @@ returns-in_ok-part-in-Found c = part_next c.args.next c.in-Found.part c.in_ok-pa
 
 pub returns-in_ok-operand-in-Steps : goal.returns-in_ok-operand-in-Steps
 returns-in_ok-operand-in-Steps c =
-    steps_next c.args.next c.in-Steps.brackets c.in-Steps.operand c.in_ok-operand-in-Steps.operand c.in-Steps.is c.in_ok-operand-in-Steps.ensures
+    steps_next c.args.next c.in-Steps.before c.in_ok-operand-in-Steps.operand c.in-Steps.is c.in_ok-operand-in-Steps.ensures
 
 pub returns-in_ok-left-in-Operators : goal.returns-in_ok-left-in-Operators
 returns-in_ok-left-in-Operators c =
-    operators_next c.args.next c.in-Operators.brackets c.in-Operators.level c.in-Operators.left c.in_ok-left-in-Operators.left
-    c.in-Operators.is c.in_ok-left-in-Operators.ensures
+    operators_next c.args.next c.in-Operators.before c.in_ok-left-in-Operators.left c.in-Operators.is c.in_ok-left-in-Operators.ensures

@@ -6,7 +6,7 @@ use Rattle.reader_trim.proofs.block.trimmed_branches.Goals as goal
 pub returns : goal.returns
 returns c =
     record {
-      branches = few_reversed branches_of _ _ _ _ _ _ c.deref.ensures.value c.deref-2.ensures.value c.in_ok-few.ensures c.shallow_list-reversed.ensures;
-      otherwise = few_nodes _ _ _ _ _ _ c.deref.ensures.value c.deref-3.ensures.value c.in_ok-few.ensures c.shallow_otherwise-otherwise.ensures;
+      branches = few_reversed branches_of _ _ _ _ c.in_ok-few.ensures c.shallow_list-reversed.ensures;
+      otherwise = few_nodes _ _ _ _ c.in_ok-few.ensures c.shallow_otherwise-otherwise.ensures;
       strays = refl;
     }

@@ -3,4 +3,4 @@ use Rattle.reader_trim.proofs.Few.{few_nodes}
 use Rattle.reader_trim.proofs.block.trimmed_statement.Goals as goal
 
 pub returns : goal.returns
-returns c = record { parts = few_nodes _ _ _ _ _ _ c.deref.ensures.value c.deref-2.ensures.value c.in_ok-few.ensures c.shallow_statement-tree.ensures; strays = refl }
+returns c = record { parts = few_nodes _ _ _ _ c.in_ok-few.ensures c.shallow_statement-tree.ensures; strays = refl }

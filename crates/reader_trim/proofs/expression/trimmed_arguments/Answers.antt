@@ -3,4 +3,4 @@ use Rattle.reader_trim.proofs.Few.{few_reversed}
 use Rattle.reader_trim.proofs.expression.trimmed_arguments.Goals as goal
 
 pub returns : goal.returns
-returns c = record { parts = few_reversed arguments_of _ _ _ _ _ _ c.deref.ensures.value c.deref-2.ensures.value c.in_ok-few.ensures c.shallow_list-reversed.ensures }
+returns c = record { parts = few_reversed arguments_of _ _ _ _ c.in_ok-few.ensures c.shallow_list-reversed.ensures }

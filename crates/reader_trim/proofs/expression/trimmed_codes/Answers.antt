@@ -2,4 +2,4 @@ use Rattle.reader_trim.proofs.Few.{few_nodes}
 use Rattle.reader_trim.proofs.expression.trimmed_codes.Goals as goal
 
 pub returns : goal.returns
-returns c = record { parts = few_nodes _ _ _ _ _ _ c.deref.ensures.value c.deref-2.ensures.value c.in_ok-few.ensures c.shallow_codes-tree.ensures }
+returns c = record { parts = few_nodes _ _ _ _ c.in_ok-few.ensures c.shallow_codes-tree.ensures }

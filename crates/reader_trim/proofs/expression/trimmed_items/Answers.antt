@@ -8,5 +8,5 @@ returns c =
     record {
       allowed = refl;
       arguments = c.in_ok-arguments.ensures.parts;
-      items = few_reversed items_of _ _ _ _ _ _ c.deref.ensures.value c.deref-2.ensures.value c.in_ok-few.ensures c.shallow_list-reversed.ensures;
+      items = few_reversed items_of _ _ _ _ c.in_ok-few.ensures c.shallow_list-reversed.ensures;
     }

@@ -1,7 +1,5 @@
-use Rattle.reader_trim.proofs.Few.{few_of_operand}
+use Rattle.reader_trim.proofs.Few.{few_whole}
 use Rattle.reader_trim.proofs.operand.trimmed_whole.Goals as goal
 
 pub returns : goal.returns
-returns c =
-    few_of_operand c.args.is_target c.args.whole (record { tree = c.in_ok-tree.tree; nodes = c.in_ok-few.few }) _ _ c.deref.ensures.value c.deref-2.ensures.value
-    c.in_ok-few.ensures c.in_ok-tree.ensures
+returns c = few_whole c.args.whole c.in_ok-few.few c.in_ok-tree.tree c.in_ok-braces.braces c.in_ok-few.ensures c.in_ok-tree.ensures c.in_ok-braces.ensures

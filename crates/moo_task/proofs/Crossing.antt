@@ -32,10 +32,10 @@ start_sync : IsSync start.the_row
 start_sync = search (sendable, crosses, text_sync) depth 60
 
 shared_start_send : IsSend shared_start.the_row
-shared_start_send = search (sendable, crosses, start_send, start_sync) depth 60
+shared_start_send = search (sendable, crosses, text_send, start_send, start_sync) depth 60
 
 shared_start_sync : IsSync shared_start.the_row
-shared_start_sync = search (sendable, crosses, start_send, start_sync) depth 60
+shared_start_sync = search (sendable, crosses, text_sync, start_send, start_sync) depth 60
 
 operands_send : IsSend operands.the_row
 operands_send = search (sendable, crosses, value_send) depth 60

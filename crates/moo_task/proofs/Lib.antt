@@ -25,3 +25,4 @@ pub mod Stopped
 pub mod Tables
 pub mod Copying
 pub mod Forks
+pub mod Unnamed

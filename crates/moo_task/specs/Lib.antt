@@ -17,3 +17,4 @@ pub mod Waits
 pub mod Copying
 pub mod Forking
 pub mod Queueing
+pub mod Starts

@@ -5,7 +5,7 @@ ghost use Rattle.moo_code.specs.Slots.{starting_slots as starting_slots_of};
 ghost use Rattle.moo_task.specs.Frames.{kept_of, begun};
 
 use crate::frame::Frame;
-use crate::moo_machine::call::{Call, Start};
+use crate::moo_machine::call::Call;
 use crate::moo_machine::verb::State;
 use crate::room::Room;
 use crate::start::SharedStart;
@@ -37,7 +37,7 @@ pub fn begin(
         mut operands,
     } = room;
     operands.clear();
-    start_slots(&mut slots, player, &call, start.as_start(), arguments, own)?;
+    start_slots(&mut slots, player, &call, &start, arguments, own)?;
     Ok(Frame {
         call,
         start,
@@ -58,7 +58,7 @@ fn start_slots(
     slots: &mut Vec<Option<Value>>,
     player: i32,
     call: &Call,
-    start: &Start,
+    start: &SharedStart,
     arguments: Value,
     own: usize,
 ) -> Result<(), AllocError>
@@ -121,26 +121,26 @@ fn put_first(
     row: &mut [Option<Value>],
     player: i32,
     call: &Call,
-    start: &Start,
+    start: &SharedStart,
     arguments: Value,
 ) -> Result<(), AllocError>
     requires { length row.old ≡ 17 }
     ensures { OnOk result ((args : Data) → arguments ≡ list args → row.new ≡ starting_slots_of player call.now call.now.verb start.now args) }
 {
     put(row, 0, arguments);
-    put_text(row, 1, &start.argstr)?;
+    put_text(row, 1, start.argstr())?;
     put_object(row, 2, call.caller);
-    put_object(row, 3, start.dobj);
-    put_text(row, 4, &start.dobjstr)?;
+    put_object(row, 3, start.dobj());
+    put_text(row, 4, start.dobjstr())?;
     put_integer(row, 5, 3);
     put_integer(row, 6, 0);
-    put_object(row, 7, start.iobj);
-    put_text(row, 8, &start.iobjstr)?;
+    put_object(row, 7, start.iobj());
+    put_text(row, 8, start.iobjstr())?;
     put_integer(row, 9, 4);
     put_integer(row, 10, 0);
     put_integer(row, 11, 1);
     put_object(row, 12, player);
-    put_text(row, 13, &start.prepstr)?;
+    put_text(row, 13, start.prepstr())?;
     put_integer(row, 14, 2);
     put_object(row, 15, call.this);
     put_text(row, 16, &call.verb)?;

@@ -42,9 +42,10 @@ pub struct Running {
 }
 
 impl Running {
-    /// A task that begins with a verb, with these arguments and so many ticks.
+    /// A task that begins with a verb, in this room, with these arguments and so many ticks.
     pub fn start(
         alloc: Global,
+        room: Room,
         player: i32,
         start: SharedStart,
         call: Call,
@@ -57,7 +58,6 @@ impl Running {
         ensures alone { IfOk result (λ r. r.outer ≡ []) }
         ensures ticks { IfOk result (λ r. ticks_of r ≡ ticks) }
     {
-        let room = Room::new(alloc);
         let frame = begin(room, player, start, call, program, arguments, ticks)?;
         Ok(Running {
             player,

@@ -8,10 +8,11 @@ ghost use Rattle.moo_task.specs.Sameness.{AgreeAt, AgreeOn, FurtherAgree, SlotsA
 
 use crate::effect::Waiting;
 use crate::frame::{Frame, Outer};
-use crate::moo_machine::call::{Call, Start};
+use crate::moo_machine::call::Call;
 use crate::moo_machine::operands::Operands;
 use crate::native::{Native, NativeName};
 use crate::outers::Outers;
+use crate::start::SharedStart;
 use crate::variables::{SharedVariables, Variable, value_in};
 use moo_program::names::has_slot_among;
 use moo_value::compare::equal;
@@ -85,7 +86,7 @@ fn stand_alike(a: &Frame, b: &Frame) -> bool
     ensures { IsTrue result ↔ StandAlike (kept_of a.now) (kept_of b.now) }
 {
     same_call(&a.call, &b.call)
-        && same_start(a.start.as_start(), b.start.as_start())
+        && same_start(&a.start, &b.start)
         && a.program.tree().same(b.program.tree())
         && a.state.place == b.state.place
         && same_operands(&a.state.operands, &b.state.operands)
@@ -102,15 +103,15 @@ fn same_call(a: &Call, b: &Call) -> bool
         && a.debug == b.debug
 }
 
-fn same_start(a: &Start, b: &Start) -> bool
+fn same_start(a: &SharedStart, b: &SharedStart) -> bool
     ensures { IsTrue result ↔ a.now ≡ b.now }
 {
-    a.argstr.as_str() == b.argstr.as_str()
-        && a.dobj == b.dobj
-        && a.dobjstr.as_str() == b.dobjstr.as_str()
-        && a.prepstr.as_str() == b.prepstr.as_str()
-        && a.iobj == b.iobj
-        && a.iobjstr.as_str() == b.iobjstr.as_str()
+    a.argstr().as_str() == b.argstr().as_str()
+        && a.dobj() == b.dobj()
+        && a.dobjstr().as_str() == b.dobjstr().as_str()
+        && a.prepstr().as_str() == b.prepstr().as_str()
+        && a.iobj() == b.iobj()
+        && a.iobjstr().as_str() == b.iobjstr().as_str()
 }
 
 #[tactic(auto, using(crate::proofs::Stacks::stacks_alike))]

@@ -43,6 +43,14 @@ impl Changes {
         }
     }
 
+    /// Lets go of all. Their room stays.
+    #[inline(always)]
+    pub fn clear(&mut self)
+        ensures { self.new ≡ [] }
+    {
+        self.items.clear();
+    }
+
     /// The changes, in their order.
     pub fn as_slice(&self) -> &[Change]
         ensures { map change_of result.now ≡ self.now }

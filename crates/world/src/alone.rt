@@ -39,15 +39,15 @@ impl<'w> Model for Alone<'w> {
 }
 
 impl<'w> Alone<'w> {
-    /// A view with nothing changed.
+    /// A view with nothing changed, in the room of changes that are done with.
     #[inline(always)]
-    pub fn over(alloc: Global, world: &'w World) -> Alone<'w>
+    pub fn over(alloc: Global, world: &'w World, room: Changes) -> Alone<'w>
         ensures empty { result ≡ record { home = world.now.plain; changes = [] } }
         ensures sound { IsSound world.now.plain }
     {
         world.know();
         Alone {
-            overlay: Overlay::over(alloc, world.records()),
+            overlay: Overlay::over(alloc, world.records(), room),
         }
     }
 

@@ -56,16 +56,17 @@ impl<'h> Model for Overlay<'h> {
 }
 
 impl<'h> Overlay<'h> {
-    /// Nothing changed.
+    /// Nothing changed. The changes that are given go, and leave their room.
     #[inline(always)]
-    pub(crate) fn over(alloc: Global, home: &'h Draft) -> Overlay<'h>
+    pub(crate) fn over(alloc: Global, home: &'h Draft, mut changes: Changes) -> Overlay<'h>
         ensures { result ≡ record { home = home.now; changes = [] } }
     {
+        changes.clear();
         Overlay {
             home,
             fork: None,
             seen: false,
-            changes: Changes::new(alloc),
+            changes,
             alloc,
         }
     }

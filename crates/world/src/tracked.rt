@@ -47,7 +47,7 @@ impl<'s> Tracked<'s> {
     {
         snapshot.know();
         Tracked {
-            overlay: Overlay::over(alloc, snapshot.records()),
+            overlay: Overlay::over(alloc, snapshot.records(), Changes::new(alloc)),
             reads: Asked::new(alloc),
         }
     }

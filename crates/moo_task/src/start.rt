@@ -117,20 +117,6 @@ impl SharedStart {
             Held::Named(start) => &start.iobjstr,
         }
     }
-
-    /// What is shared, once more.
-    pub fn to_start(&self) -> Result<Start, AllocError>
-        ensures { IfOk result (λ s. s ≡ self.now) }
-    {
-        Ok(Start {
-            argstr: self.argstr().clone()?,
-            dobj: self.dobj(),
-            dobjstr: self.dobjstr().clone()?,
-            prepstr: self.prepstr().clone()?,
-            iobj: self.iobj(),
-            iobjstr: self.iobjstr().clone()?,
-        })
-    }
 }
 
 // Whether nothing is named.

@@ -7,6 +7,7 @@ ghost use Rattle.speculate.specs.Right.{IsRight};
 use crate::guesses::Guess;
 use std::alloc::{AllocError, Global};
 use std::snapshot::Snapshot as Remembered;
+use task_run::rooms::Rooms;
 use task_run::step::run_step;
 use task_step::step::Step;
 use world::tracked::Tracked;
@@ -21,7 +22,8 @@ pub fn guess(alloc: Global, snapshot: &Snapshot, step: &Step) -> Result<Guess, A
     ensures before { IfOk result (λ g. g.before ≡ snapshot.now) }
 {
     let mut view = Tracked::over(alloc, snapshot);
-    let outcome = run_step(alloc, &mut view, step)?;
+    let mut rooms = Rooms::new(alloc);
+    let outcome = run_step(alloc, &mut view, &mut rooms, step)?;
     let (reads, changes) = view.finish();
     Ok(Guess {
         step: step.clone()?,

@@ -13,6 +13,7 @@ use crate::report::Report;
 use crate::trying::try_on;
 use std::alloc::{AllocError, Global};
 use task_run::list::play_step;
+use task_run::rooms::Rooms;
 use task_step::outcome::Outcome;
 use task_step::partial::{Partial, Refusal, refused};
 use task_step::step::Step;
@@ -38,8 +39,9 @@ pub(crate) fn play_here<G: Gate>(
         Ok(places) => places,
         Err(_) => return Err(refused(alloc, Refusal::Memory, world)),
     };
+    let mut rooms = Rooms::new(alloc);
     for (at, step) in steps.iter().enumerate() {
-        match step_here(alloc, gate, &mut world, step, at) {
+        match step_here(alloc, gate, &mut world, &mut rooms, step, at) {
             Ok((outcome, mark)) => {
                 outcomes.push_reserved(outcome);
                 marks.push_reserved(mark);
@@ -79,6 +81,7 @@ fn step_here<G: Gate>(
     alloc: Global,
     gate: &G,
     world: &mut World,
+    rooms: &mut Rooms,
     step: &Step,
     at: usize,
 ) -> Result<(Outcome, Mark), AllocError>
@@ -87,7 +90,7 @@ fn step_here<G: Gate>(
     ensures err { OnErr result (world.new.plain ≡ world.old.plain) }
     ensures views { IfOk result (λ r. world.new.opened ≡ world.old.opened + runs (r.1 ∷ [])) }
 {
-    match keep_here(alloc, gate, world, step, at) {
+    match keep_here(alloc, gate, world, rooms, step, at) {
         Some(outcome) => Ok((outcome, Mark::Kept)),
         None => run_here(alloc, world, step),
     }
@@ -99,6 +102,7 @@ fn keep_here<G: Gate>(
     alloc: Global,
     gate: &G,
     world: &mut World,
+    rooms: &mut Rooms,
     step: &Step,
     at: usize,
 ) -> Option<Outcome>
@@ -106,7 +110,7 @@ fn keep_here<G: Gate>(
     ensures { MatchOption result (world.new ≡ world.old) (λ o. (play1 world.old.plain step.now ≡ (world.new.plain, o)) × (world.new.opened ≡ world.old.opened)) }
 {
     if gate.is_free() {
-        return keep_tried(alloc, world, step);
+        return keep_tried(alloc, world, rooms, step);
     }
     keep_guessed(alloc, gate, world, step, at)
 }
@@ -154,16 +158,18 @@ fn guess_here<G: Gate>(
     gate.guess(alloc, at, &snapshot, step).ok()
 }
 
-// The same by the step itself, without a guess.
+// The same by the step itself, without a guess. It leaves its room.
 #[inline(always)]
-fn keep_tried(alloc: Global, world: &mut World, step: &Step) -> Option<Outcome>
+fn keep_tried(alloc: Global, world: &mut World, rooms: &mut Rooms, step: &Step) -> Option<Outcome>
     requires { IsTrue (in_range step.now) }
     ensures { MatchOption result (world.new ≡ world.old) (λ o. (play1 world.old.plain step.now ≡ (world.new.plain, o)) × (world.new.opened ≡ world.old.opened)) }
 {
-    let Ok((outcome, changes, after)) = try_on(alloc, world, step) else {
+    let Ok((outcome, changes, after)) = try_on(alloc, world, rooms, step) else {
         return None;
     };
-    match take_over(world, &changes, after) {
+    let done = take_over(world, &changes, after);
+    rooms.changes = changes;
+    match done {
         Ok(()) => Some(outcome),
         Err(_) => None,
     }

@@ -6,6 +6,8 @@ ghost use Rattle.spec_moo.specs.Steps.{play1};
 ghost use Rattle.view.specs.Sound.{IsSound};
 
 use std::alloc::{AllocError, Global};
+use std::mem;
+use task_run::rooms::Rooms;
 use task_run::step::run_step;
 use task_step::outcome::Outcome;
 use task_step::step::Step;
@@ -14,11 +16,13 @@ use world::alone::Alone;
 use world::draft::Draft;
 use world::worlds::World;
 
-/// What a step makes of the world: its outcome, the changes, and the records with them, where they were made. The world stays as it is.
+/// What a step makes of the world, in the room of an earlier one: its outcome, the changes, and the records with them, where they were made. The world stays
+/// as it is.
 #[inline(always)]
 pub(crate) fn try_on(
     alloc: Global,
     world: &World,
+    rooms: &mut Rooms,
     step: &Step,
 ) -> Result<(Outcome, Changes, Option<Draft>), AllocError>
     requires { IsTrue (in_range step.now) }
@@ -26,8 +30,9 @@ pub(crate) fn try_on(
     ensures sound { IfOk result (λ r. IsSound (apply_all r.1 world.now.plain)) }
     ensures after { IfOk result (λ r. IfSome r.2 (λ d. d ≡ apply_all r.1 world.now.plain)) }
 {
-    let mut view = Alone::over(alloc, world);
-    let outcome = run_step(alloc, &mut view, step)?;
+    let room = mem::replace(&mut rooms.changes, Changes::new(alloc));
+    let mut view = Alone::over(alloc, world, room);
+    let outcome = run_step(alloc, &mut view, rooms, step)?;
     let (changes, after) = view.finish();
     Ok((outcome, changes, after))
 }

@@ -9,6 +9,7 @@ ghost use Rattle.local_code.specs.Scenes.{caller_of, scene_at, effect_at};
 use moo_task::deeds::Deeds;
 use moo_task::effect::NativeEffect;
 use moo_task::native::Native;
+use moo_task::room::Room;
 use moo_task::running::Running;
 use moo_value::text::Text;
 use moo_value::value::Value;
@@ -50,4 +51,10 @@ pub trait Natives {
         ensures does { IfOk result (λ e. Goes V.holds V.now view.old view.new (λ before after.
             native_turn (scene_at deeds.old before task.now) (caller_of task.now) (native_of native) value ≡ effect_at e deeds.new after task.now)) }
         ensures well_formed { OnOk result (AreAgreeing V.holds V.now view.new) };
+
+    /// Room for a task that begins, left by one that has ended, or none yet.
+    fn take_room(&mut self, alloc: Global) -> Room;
+
+    /// The room of a task that has ended, for one that begins.
+    fn leave_room(&mut self, room: Room);
 }

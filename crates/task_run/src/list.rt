@@ -3,6 +3,7 @@ ghost use Rattle.std.specs.Prelude.{◌≡◌, ◌≢◌, ◌≤◌, ◌+◌, �
 ghost use Rattle.spec_world.specs.Step.{RunsOn, AllInRange, in_range};
 ghost use Rattle.spec_moo.specs.Steps.{play1, play};
 
+use crate::rooms::Rooms;
 use crate::step::run_step;
 use std::alloc::{AllocError, Global};
 use task_step::list::may_play;
@@ -58,7 +59,8 @@ pub fn play_step(alloc: Global, world: &mut World, step: &Step) -> Result<Outcom
 {
     world.know();
     let mut live = Live::open(world);
-    let outcome = run_step(alloc, &mut live, step)?;
+    let mut rooms = Rooms::new(alloc);
+    let outcome = run_step(alloc, &mut live, &mut rooms, step)?;
     live.keep();
     Ok(outcome)
 }

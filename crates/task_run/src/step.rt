@@ -5,15 +5,20 @@ ghost use Rattle.spec_moo.specs.Steps.{play1};
 ghost use Rattle.view.specs.Law.{Goes, AreSound};
 ghost use Rattle.task_run.specs.Performed.{StepsTo};
 
-use builtins::builtin_natives::builtins::Builtins;
+use crate::rooms::Rooms;
 use std::alloc::{AllocError, Global};
 use steps::step_events::play::play_step;
 use task_step::outcome::Outcome;
 use task_step::step::Step;
 use view::law::View;
 
-/// Runs a step over the view. After an error the view is to be undone or dropped.
-pub fn run_step<V: View>(alloc: Global, view: &mut V, step: &Step) -> Result<Outcome, AllocError>
+/// Runs a step over the view, in the room of an earlier one. After an error the view is to be undone or dropped.
+pub fn run_step<V: View>(
+    alloc: Global,
+    view: &mut V,
+    rooms: &mut Rooms,
+    step: &Step,
+) -> Result<Outcome, AllocError>
     requires range { IsTrue (in_range step.now) }
     requires home { V.holds view.old (V.home view.old) }
     requires sound { AreSound V.holds V.now view.old }
@@ -24,6 +29,5 @@ pub fn run_step<V: View>(alloc: Global, view: &mut V, step: &Step) -> Result<Out
     ensures played { IfOk result (λ o. Goes V.holds V.now view.old view.new
         (λ before after. StepsTo (play1 before step.now) after o)) }
 {
-    let mut natives = Builtins;
-    play_step(alloc, view, &mut natives, step)
+    play_step(alloc, view, &mut rooms.natives, step)
 }

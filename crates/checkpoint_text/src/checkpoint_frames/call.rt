@@ -7,7 +7,8 @@ ghost use Rattle.spec_world.specs.Checkpoint.{call_line, flag, object_text, with
 ghost use Rattle.checkpoint_text.specs.CheckpointFramesLines.{start_line};
 
 use crate::checkpoint_fields::page::Page;
-use moo_task::moo_machine::call::{Call, Start};
+use moo_task::moo_machine::call::Call;
+use moo_task::start::SharedStart;
 use moo_value::text::Text;
 use std::alloc::AllocError;
 
@@ -46,13 +47,13 @@ fn put_verb(page: &mut Page, verb: &Text, debug: bool, count: usize) -> Result<(
 }
 
 /// Writes the line of what the command line gave.
-pub fn put_start(page: &mut Page, start: &Start) -> Result<(), AllocError>
+pub fn put_start(page: &mut Page, start: &SharedStart) -> Result<(), AllocError>
     ensures { OnOk result (page.new ≡ page.old ++ with_line_ends (start_line start.now ∷ [])) }
 {
     page.put("start {")?;
-    put_items(page, &start.argstr, start.dobj, &start.dobjstr)?;
+    put_items(page, start.argstr(), start.dobj(), start.dobjstr())?;
     page.put(", ")?;
-    put_items(page, &start.prepstr, start.iobj, &start.iobjstr)?;
+    put_items(page, start.prepstr(), start.iobj(), start.iobjstr())?;
     page.put("}\n")
 }
 

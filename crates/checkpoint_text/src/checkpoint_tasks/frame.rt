@@ -25,7 +25,7 @@ pub fn put_frame(
     ensures { OnOk result (page.new ≡ page.old ++ with_line_ends (verb_lines (waiting_of waiting.now) (kept_of frame.now))) }
 {
     put_program(page, alloc, &frame.call, &frame.program)?;
-    put_start(page, frame.start.as_start())?;
+    put_start(page, &frame.start)?;
     let path = frame_path(alloc, waiting, frame)?;
     put_place(page, &path)?;
     put_variables(page, alloc, frame)?;

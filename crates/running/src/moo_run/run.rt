@@ -10,7 +10,10 @@ use crate::moo_run::step::step;
 use local_code::moo_run::stopped::{Stop, Stopped};
 use local_code::moo_run::tracing::verbs_under_way;
 use moo_task::deeds::Deeds;
+use moo_task::frame::Frame;
+use moo_task::moo_machine::verb::State;
 use moo_task::outcome::Outcome;
+use moo_task::room::Room;
 use moo_task::running::Running;
 use std::alloc::{AllocError, Global};
 use step_deeds::natives::Natives;
@@ -40,10 +43,11 @@ pub fn run<V: View, N: Natives>(
         match outcome {
             Outcome::On => {}
             Outcome::Ends(end) => {
+                let ticks_left = leave(natives, task);
                 return Ok(Stopped {
                     stop: Stop::Ends(end),
                     deeds,
-                    ticks_left: task.frame.state.ticks,
+                    ticks_left,
                 });
             }
             Outcome::RanOut => {
@@ -72,4 +76,31 @@ pub fn run<V: View, N: Natives>(
             Outcome::LacksOperand => unreachable!(),
         }
     }
+}
+
+// A task that has ended leaves its room. The ticks that it had left.
+#[inline(always)]
+fn leave<N: Natives>(natives: &mut N, task: Running) -> u32
+    ensures { result ≡ task.frame.state.ticks }
+{
+    let Running {
+        player: _,
+        frame,
+        outer: _outer,
+    } = task;
+    let Frame {
+        call: _call,
+        start: _start,
+        program: _program,
+        further: _further,
+        state,
+    } = frame;
+    let State {
+        place: _,
+        operands,
+        slots,
+        ticks,
+    } = state;
+    natives.leave_room(Room::left(slots, operands));
+    ticks
 }

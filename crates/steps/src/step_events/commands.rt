@@ -25,6 +25,7 @@ use builtins_view::builtins_world::values::texts_value;
 use moo_program::program::Program;
 use moo_task::deeds::Deeds;
 use moo_task::moo_machine::call::{Call, Start};
+use moo_task::room::Room;
 use moo_task::running::Running;
 use moo_value::text::Text;
 use player_commands::command_lines::parts::Parts;
@@ -122,7 +123,7 @@ fn run_verb<V: View, N: Natives>(
     let word = said.parts.verb.clone()?;
     let call = command_call(player, this, word, &verb);
     let program = program_of(&verb)?;
-    let task = command_task(alloc, player, call, said, program)?;
+    let task = command_task(alloc, natives.take_room(alloc), player, call, said, program)?;
     play_task(alloc, view, natives, deeds, task)
 }
 
@@ -147,7 +148,7 @@ fn run_huh<V: View, N: Natives>(
     let word = Text::from_str(alloc, "huh")?;
     let call = command_call(player, room, word, found);
     let program = program_of(found)?;
-    let task = command_task(alloc, player, call, said, program)?;
+    let task = command_task(alloc, natives.take_room(alloc), player, call, said, program)?;
     play_task(alloc, view, natives, deeds, task)
 }
 
@@ -167,9 +168,10 @@ fn command_call(player: i32, this: i32, word: Text, found: &FoundVerb) -> Call
     }
 }
 
-// A task that begins with a verb for a command, whose first word its variable `verb` has.
+// A task that begins with a verb for a command, in this room, whose first word its variable `verb` has.
 fn command_task(
     alloc: Global,
+    room: Room,
     player: i32,
     call: Call,
     said: Said,
@@ -204,6 +206,7 @@ fn command_task(
     };
     let task = begin(
         alloc,
+        room,
         player,
         call,
         verb,

@@ -7,6 +7,7 @@ ghost use Rattle.steps.specs.Tasks.{MayRun, called_as as called_as_of};
 
 use moo_program::program::Program;
 use moo_task::moo_machine::call::{Call, Start};
+use moo_task::room::Room;
 use moo_task::running::Running;
 use moo_task::start::SharedStart;
 use moo_value::text::Text;
@@ -14,9 +15,10 @@ use moo_value::value::Value;
 use rules::inherit::verb::FoundVerb;
 use std::alloc::{AllocError, Global};
 
-/// A task that begins with a verb, whose variable `verb` holds a word.
+/// A task that begins with a verb, in this room, whose variable `verb` holds a word.
 pub fn begin(
     alloc: Global,
+    room: Room,
     player: i32,
     call: Call,
     word: Text,
@@ -30,7 +32,9 @@ pub fn begin(
 {
     let called = called_as(&call, word);
     let start = SharedStart::new(alloc, start)?;
-    let mut task = Running::start(alloc, player, start, called, program, arguments, ticks)?;
+    let mut task = Running::start(
+        alloc, room, player, start, called, program, arguments, ticks,
+    )?;
     task.frame.call = call;
     Ok(task)
 }

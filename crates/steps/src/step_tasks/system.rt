@@ -10,6 +10,7 @@ ghost use Rattle.steps.specs.Tasks.{MayRun};
 
 use crate::step_tasks::begin::{begin, program_of};
 use moo_task::moo_machine::call::{Call, Start};
+use moo_task::room::Room;
 use moo_task::running::Running;
 use moo_value::text::Text;
 use moo_value::value::Value;
@@ -51,8 +52,9 @@ pub fn system_task(
     let name = Text::from_str(alloc, word)?;
     let start = unnamed(alloc, argstr)?;
     let program = program_of(found)?;
+    let room = Room::new(alloc);
     let task = begin(
-        alloc, caller, called, name, start, arguments, program, ticks,
+        alloc, room, caller, called, name, start, arguments, program, ticks,
     )?;
     Ok(task)
 }

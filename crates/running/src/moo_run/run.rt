@@ -43,7 +43,8 @@ pub fn run<V: View, N: Natives>(
         match outcome {
             Outcome::On => {}
             Outcome::Ends(end) => {
-                let ticks_left = leave(natives, task);
+                let ticks_left = task.frame.state.ticks;
+                leave(natives, task);
                 return Ok(Stopped {
                     stop: Stop::Ends(end),
                     deeds,
@@ -78,11 +79,9 @@ pub fn run<V: View, N: Natives>(
     }
 }
 
-// A task that has ended leaves its room. The ticks that it had left.
+// A task that has ended leaves its room.
 #[inline(always)]
-fn leave<N: Natives>(natives: &mut N, task: Running) -> u32
-    ensures { result ≡ task.frame.state.ticks }
-{
+fn leave<N: Natives>(natives: &mut N, task: Running) {
     let Running {
         player: _,
         frame,
@@ -99,8 +98,7 @@ fn leave<N: Natives>(natives: &mut N, task: Running) -> u32
         place: _,
         operands,
         slots,
-        ticks,
+        ticks: _,
     } = state;
     natives.leave_room(Room::left(slots, operands));
-    ticks
 }

@@ -1,6 +1,7 @@
 //! The programs of a text, read by several threads before its lines are.
 //!
-//! Nothing is promised of them but that each is the program of its text: so the lines around them are looked at no closer than to find them.
+//! Nothing is promised of them but that each is the program of its text, if that spells one: so the lines around them are looked at no closer than to find
+//! them.
 ghost use Rattle.std.specs.Prelude.{⊤};
 
 use checkpoint_lines::known::Known;
@@ -16,7 +17,7 @@ const PIECE: usize = 32;
 // More lines than a program has.
 const MOST_LINES: u64 = 999_999_999;
 
-/// Programs of verbs, each with its text, the last one first; none where there is no memory for all of them.
+/// Texts of verbs as they are read, the last one first; none where there is no memory for all of them.
 pub(crate) fn read_ahead<'a, R: Threads + Sync>(
     rt: &R,
     alloc: Global,
@@ -59,9 +60,7 @@ fn read_pieces<'a, R: Threads + Sync>(
 fn read_piece<'a>(alloc: Global, texts: &[&'a [u8]]) -> Result<Vec<Known<'a>>, AllocError> {
     let mut known = Vec::with_capacity(alloc, texts.len())?;
     for text in texts {
-        if let Some(program) = Known::read(alloc, text)? {
-            known.push(program)?;
-        }
+        known.push(Known::read(alloc, text)?)?;
     }
     Ok(known)
 }

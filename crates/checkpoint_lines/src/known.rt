@@ -1,4 +1,4 @@
-//! Programs that are known, each with the lines that spell it.
+//! Texts of programs that are known, each with its program, if its lines spell one.
 ghost use Rattle.std.specs.Prelude.{◌≡◌, List, Some, IsTrue, IfOk, IfSome};
 ghost use Rattle.spec_value.specs.Datum.{Text};
 ghost use Rattle.spec_program.specs.Tree.{Program as Source};
@@ -7,22 +7,22 @@ ghost use Rattle.spec_program.specs.Spelling.{canonical_lines};
 ghost use Rattle.spec_world.specs.Checkpoint.{with_line_ends};
 ghost use Rattle.spec_checkpoint.specs.Lines.{are_lines};
 ghost use Rattle.spec_faults.specs.Codes.{program_of};
-ghost use Rattle.checkpoint_lines.specs.Known.{Spells};
+ghost use Rattle.checkpoint_lines.specs.Known.{IsSpelled};
 
 use crate::program::tree_of;
 use moo_compiler::program::Program;
 use std::alloc::{AllocError, Global};
 use std::marker::Model;
 
-/// A program that was read before its turn, with its text: lines with their line feeds.
+/// A text that was read before its turn, lines with their line feeds, and the program that it spells, if there is one.
 #[derive(Drop)]
 pub struct Known<'a> {
     text: &'a [u8],
-    program: Program,
+    program: Option<Program>,
 }
 
 impl<'a> Model for Known<'a> {
-    ghost use Rattle.checkpoint_lines.specs.Known.{KnownProgram, known_code, Spells};
+    ghost use Rattle.checkpoint_lines.specs.Known.{KnownProgram, known_code, IsSpelled};
 
     ghost Value = { KnownProgram };
 
@@ -30,24 +30,21 @@ impl<'a> Model for Known<'a> {
 
     ghost view = { λ k. record { text = k.text.now; program = k.program } };
 
-    ghost invariant = { λ k. Spells k.text.now k.program };
+    ghost invariant = { λ k. IsSpelled k.text.now k.program };
 }
 
 impl<'a> Known<'a> {
-    /// The program of a text. None where it spells none.
-    pub fn read(alloc: Global, text: &'a [u8]) -> Result<Option<Known<'a>>, AllocError>
-        ensures { IfOk result (λ o. IfSome o (λ k. k.text ≡ text.now)) }
+    /// A text as it is read.
+    pub fn read(alloc: Global, text: &'a [u8]) -> Result<Known<'a>, AllocError>
+        ensures { IfOk result (λ k. k.text ≡ text.now) }
     {
-        let found = read(alloc, text)?;
-        match found {
-            Some(program) => Ok(Some(Known { text, program })),
-            None => Ok(None),
-        }
+        let program = read(alloc, text)?;
+        Ok(Known { text, program })
     }
 
-    // The program, if this is its text.
-    fn for_text(self, text: &[u8]) -> Option<Program>
-        ensures { IfSome result (λ p. Spells text.now p) }
+    // What was read, if this is the text.
+    fn for_text(self, text: &[u8]) -> Option<Option<Program>>
+        ensures { IfSome result (λ p. IsSpelled text.now p) }
     {
         let Known { text: own, program } = self;
         if own == text { Some(program) } else { None }
@@ -69,8 +66,8 @@ fn read(alloc: Global, text: &[u8]) -> Result<Option<Program>, AllocError>
     }
 }
 
-/// The program whose canonical lines these are, each with its line feed, with its code: the last of those that are known, if this is its text, or as it
-/// is read.
+/// The program whose canonical lines these are, each with its line feed, with its code: as it is known, if the last of those that are known has this text,
+/// else as it is read.
 pub(crate) fn known_or_read(
     alloc: Global,
     known: &mut Vec<Known<'_>>,
@@ -80,14 +77,14 @@ pub(crate) fn known_or_read(
     ensures tells { (ts : List Text) → IsTrue (are_lines ts) → text.now ≡ with_line_ends ts → IfOk result (λ o. o ≡ program_of ts) }
 {
     match last_for(known, text) {
-        Some(program) => Ok(Some(program)),
+        Some(program) => Ok(program),
         None => read(alloc, text),
     }
 }
 
-// The program of the last that is known, which is known no more, if this is its text.
-fn last_for(known: &mut Vec<Known<'_>>, text: &[u8]) -> Option<Program>
-    ensures { IfSome result (λ p. Spells text.now p) }
+// What was read of the last that is known, which is known no more, if this is its text.
+fn last_for(known: &mut Vec<Known<'_>>, text: &[u8]) -> Option<Option<Program>>
+    ensures { IfSome result (λ p. IsSpelled text.now p) }
 {
     match known.pop() {
         Some(last) => last.for_text(text),

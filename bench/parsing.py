@@ -1,10 +1,12 @@
-"""What programs cost to read and to spell: ordinary code, and texts of 60,000 characters that are long, deep or wrong at their end."""
-from runs import Failure, Figure, beyond, play, sized
+"""What programs cost to read and to spell: ordinary code, texts of 60,000 characters that are long, deep or wrong at their end, and worlds with a program of
+10 MB."""
+from runs import PLAY, Failure, Figure, beyond, folder, least, play, run, script, sized
 from worlds import World
 
 CALLS = sized(20, 1)
 CALLS_OF_HOSTILE = sized(5, 1)
 LENGTH = sized(60000, 2000)
+LENGTH_IN_WORLDS = sized(10_000_000, 2000)
 # Ordinary code, in lines as the server spells them.
 ORDINARY = [
     'if (typeof(args[1]) != str || length(args) < 2)',
@@ -66,14 +68,16 @@ HOSTILE = [
     ("forks", "fork (0) ", "", " endfork"),
     ("leavings of no loop", "break;", "", ""),
 ]
+# Programs that a world's text holds: what stands again and again, and the middle.
+IN_WORLDS = [("open parentheses", "("), ("a sum without an end", "1+"), ("open braces", "{"), ("one text", "x"), ("empty statements", ";")]
 SET = ['return set_verb_code(#3, "given", this.text);']
 PEEK = ["return length(this.text);"]
 SPELL = ['return length(verb_code(#3, "given"));']
 
 
-def ordinary():
+def ordinary(most=LENGTH):
     """Lines of ordinary code, of so many characters at most."""
-    lines, rest = [], LENGTH
+    lines, rest = [], most
     while rest > sum(map(len, ORDINARY)) + len(ORDINARY):
         lines += ORDINARY
         rest -= sum(map(len, ORDINARY)) + len(ORDINARY)
@@ -131,7 +135,37 @@ def spelled(text, calls):
     return calls * characters(text) / beyond(play(world_of(text, SPELL, text), tries), idle)
 
 
-def figures(_peers):
+def in_world(lines, status):
+    """Characters a second of a world's text, read whole or refused, which is a program nearly all."""
+    world = World()
+    world.room.verb("given", lines)
+    path, idle = world.write("world"), script("script", [])
+    return characters(lines) / least(lambda: run(PLAY, path, idle, status=status)).processor
+
+
+def cut(peers, lines):
+    """Characters a second of the same program where plain Rust cuts its tokens."""
+    path = folder.file("program")
+    with open(path, "w") as file:
+        file.write("\n".join(lines))
+    taken = peers.tokens(path)
+    return {} if taken is None else {"Rust": characters(lines) / taken}
+
+
+def figures_in_worlds(peers):
+    text = ordinary(LENGTH_IN_WORLDS)
+    usual = in_world(text, 0)
+    yield Figure("ordinary code, a world with a program of 10 MB", "MB/s", usual, cut(peers, text))
+    for name, part in IN_WORLDS:
+        text = [part * (LENGTH_IN_WORLDS // len(part))]
+        is_text = name == "one text"
+        if is_text:
+            text = [f'"{text[0]}";']
+        yield Figure(f"{name}, a world with 10 MB", "MB/s", in_world(text, 0 if is_text else 2), {"ordinary": usual, **cut(peers, text)})
+
+
+def figures(peers):
+    yield from figures_in_worlds(peers)
     text = ordinary()
     yield Figure("ordinary code, set_verb_code", "MB/s", by_call(text, CALLS))
     yield Figure("ordinary code, .program and its lines", "MB/s", by_line(text, CALLS))

@@ -17,7 +17,8 @@ def has_twin():
     source = f"{ROOT}/bench/twin.rs"
     if not shutil.which("rustc"):
         return False
-    if not os.path.exists(TWIN) or os.path.getmtime(TWIN) < os.path.getmtime(source):
+    sources = [f"{ROOT}/bench/{name}" for name in ("twin.rs", "family.rs", "tokens.rs")]
+    if not os.path.exists(TWIN) or os.path.getmtime(TWIN) < max(map(os.path.getmtime, sources)):
         os.makedirs(os.path.dirname(TWIN), exist_ok=True)
         words = ["rustc", "--edition", "2024", "-O", "-o", TWIN, source]
         return subprocess.run(words, stderr=subprocess.DEVNULL).returncode == 0
@@ -50,6 +51,13 @@ class Peers:
         words, times = self.here[who]
         done = least(lambda: run(*words, name, str(steps * times), str(turns)))
         return done.processor, done.output.strip()
+
+    def tokens(self, path):
+        """Processor seconds in which plain Rust cuts the tokens of a program; None where it is not here."""
+        if "Rust" not in self.here:
+            return None
+        words, _ = self.here["Rust"]
+        return max(least(lambda: run(*words, "tokens", path)).processor - self.idle["Rust"], 1e-9)
 
     def loop(self, name, steps, turns, given, without=()):
         """Processor seconds of each for the same steps of a loop. The last step gives what the product's did."""

@@ -1,28 +1,47 @@
-//! The benchmarks' loops in plain Rust, and a server of lines. `bench/run` compiles it where there is a `rustc`.
+//! The benchmarks' loops in plain Rust, a server of lines, and a cutter of programs. `bench/run` compiles it where there is a `rustc`.
 //!
 //! `twin NAME STEPS TURNS` runs a loop, so many turns of it in each step, and prints what the last step gave; `nothing` does nothing. `twin serve PORT`
-//! answers lines as the server's fixture does.
+//! answers lines as the server's fixture does. `twin tokens FILE` counts the tokens of a program, and adds up what they are worth.
 mod family;
+mod tokens;
 
 use family::{find, inherit};
 use std::collections::BTreeMap;
 use std::hint::black_box;
 use std::io::{BufRead, BufReader, Write};
 use std::net::{TcpListener, TcpStream};
+use tokens::{Fault, Token, tokens};
 
 fn main() {
     let words: Vec<String> = std::env::args().skip(1).collect();
     let number = |at: usize| words.get(at).and_then(|word| word.parse::<usize>().ok());
     match (words.first().map(String::as_str), number(1), number(2)) {
         (Some("serve"), Some(port), None) => serve(port),
+        (Some("tokens"), None, None) if words.len() == 2 => count_tokens(&words[1]),
         (Some(name), Some(steps), Some(turns)) => run(name, steps, turns),
         _ => refuse(),
     }
 }
 
 fn refuse() -> ! {
-    eprintln!("twin: the words are NAME STEPS TURNS, or serve PORT");
+    eprintln!("twin: the words are NAME STEPS TURNS, serve PORT, or tokens FILE");
     std::process::exit(2);
+}
+
+fn count_tokens(file: &str) {
+    let text = std::fs::read_to_string(file).unwrap_or_default();
+    match tokens(black_box(&text)) {
+        Ok(found) => println!("{} {}", found.len(), found.iter().map(Token::worth).sum::<i64>()),
+        Err((fault, line)) => println!("line {line}: {}", told(&fault)),
+    }
+}
+
+fn told(fault: &Fault) -> &'static str {
+    match fault {
+        Fault::Character => "Character",
+        Fault::Unclosed => "Unclosed",
+        Fault::Number => "Number",
+    }
 }
 
 fn run(name: &str, steps: usize, turns: usize) {

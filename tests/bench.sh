@@ -23,7 +23,7 @@ group() {
 group language 12
 group world 8
 group steps 19
-group parse 65
+group parse 71
 group checkpoint 10
 group worst 80
 group telnet 6

@@ -21,36 +21,36 @@ instructions-init g c =
       held = c.requires.home;
       well_formed = c.requires.well_formed;
       player = refl;
-      over = over_first c.args.task.player (scene_at c.args.deeds (g.V.View.now c.args.view.now (g.V.View.home c.args.view.now)) c.args.task) (running_kept c.args.task) c.args.task.outer
-          (ticks_of c.args.task) c.requires.under_way;
-      comes = λ w h. (h, comes_first c.args.task.player (begun_at c.args.deeds (g.V.View.now c.args.view.now w) c.args.task));
+      over = over_first c.args.task.now.player (scene_at c.args.deeds.now (g.V.View.now c.args.view.now (g.V.View.home c.args.view.now)) c.args.task.now) (running_kept c.args.task.now) c.args.task.now.outer
+          (ticks_of c.args.task.now) c.requires.under_way;
+      comes = λ w h. (h, comes_first c.args.task.now.player (begun_at c.args.deeds.now (g.V.View.now c.args.view.now w) c.args.task.now));
     }
 
 pub instructions-smaller : goal.instructions-smaller
 instructions-smaller g c =
     let view = g.V.View in
-    let b = bound_of c.args.deeds (view.now c.args.view.now (view.home c.args.view.now)) c.args.task in
+    let b = bound_of c.args.deeds.now (view.now c.args.view.now (view.home c.args.view.now)) c.args.task.now in
     let home = view.home c.instructions.view in
     let held : view.holds c.step.new.view home = subst (view.holds c.step.new.view) (c.in_ok-outcome.ensures.lasts.home_stays ∙ c.in_ok-go_asking.ensures.lasts.home_stays) c.in_ok-outcome.ensures.lasts.home_is_left in
     let l = c.in_ok-outcome.ensures.step home held in
-    let over = (over_onward c.args.task.player c.instructions.task c.go_asking.new.task c.instructions.deeds (view.now c.instructions.view home) (view.now c.go_asking.new.view home) c.instructions.invariant.player ((c.in_ok-go_asking.ensures.comes home (c.in_ok-outcome.ensures.step home held).0).1 c.instructions.deeds) b c.instructions.invariant.over) in
-    subst (λ (x : World). lasting c.args.task.player b (begun_at c.step.new.deeds (view.now c.step.new.view x) c.step.new.task)
-    < lasting c.args.task.player b (begun_at c.instructions.deeds (view.now c.instructions.view home) c.instructions.task)) (sym (c.in_ok-outcome.ensures.lasts.home_stays ∙ c.in_ok-go_asking.ensures.lasts.home_stays))
-    (falls_onward c.args.task.player c.instructions.task c.go_asking.new.task c.instructions.deeds (view.now c.instructions.view home) (view.now c.go_asking.new.view home) c.instructions.invariant.player ((c.in_ok-go_asking.ensures.comes home (c.in_ok-outcome.ensures.step home held).0).1 c.instructions.deeds) b (begun_at c.step.new.deeds (view.now c.step.new.view home) c.step.new.task) c.instructions.invariant.over
-    (falls_on c.args.task.player b (scene_at c.instructions.deeds (view.now c.go_asking.new.view home) c.go_asking.new.task) (running_kept c.go_asking.new.task) c.go_asking.new.task.outer
+    let over = (over_onward c.args.task.now.player c.instructions.task c.go_asking.new.task c.instructions.deeds (view.now c.instructions.view home) (view.now c.go_asking.new.view home) c.instructions.invariant.player ((c.in_ok-go_asking.ensures.comes home (c.in_ok-outcome.ensures.step home held).0).1 c.instructions.deeds) b c.instructions.invariant.over) in
+    subst (λ (x : World). lasting c.args.task.now.player b (begun_at c.step.new.deeds (view.now c.step.new.view x) c.step.new.task)
+    < lasting c.args.task.now.player b (begun_at c.instructions.deeds (view.now c.instructions.view home) c.instructions.task)) (sym (c.in_ok-outcome.ensures.lasts.home_stays ∙ c.in_ok-go_asking.ensures.lasts.home_stays))
+    (falls_onward c.args.task.now.player c.instructions.task c.go_asking.new.task c.instructions.deeds (view.now c.instructions.view home) (view.now c.go_asking.new.view home) c.instructions.invariant.player ((c.in_ok-go_asking.ensures.comes home (c.in_ok-outcome.ensures.step home held).0).1 c.instructions.deeds) b (begun_at c.step.new.deeds (view.now c.step.new.view home) c.step.new.task) c.instructions.invariant.over
+    (falls_on c.args.task.now.player b (scene_at c.instructions.deeds (view.now c.go_asking.new.view home) c.go_asking.new.task) (running_kept c.go_asking.new.task) c.go_asking.new.task.outer
     (ticks_of c.go_asking.new.task) (begun_at c.step.new.deeds (view.now c.step.new.view home) c.step.new.task) over
-    (step_to c.args.task.player c.go_asking.new.task c.step.new.task c.instructions.deeds c.step.new.deeds (view.now c.go_asking.new.view home) (view.now c.step.new.view home) c.in_ok-outcome.outcome
+    (step_to c.args.task.now.player c.go_asking.new.task c.step.new.task c.instructions.deeds c.step.new.deeds (view.now c.go_asking.new.view home) (view.now c.step.new.view home) c.in_ok-outcome.outcome
     (begun_at c.step.new.deeds (view.now c.step.new.view home) c.step.new.task) (c.in_ok-go_asking.ensures.player ∙ c.instructions.invariant.player) l.1
     (ap (λ (o : Outcome). led_at o c.step.new.deeds (view.now c.step.new.view home) c.step.new.task) c.in-On.is))))
 
 pub instructions-preserved : goal.instructions-preserved
 instructions-preserved g c =
     let view = g.V.View in
-    let b = bound_of c.args.deeds (view.now c.args.view.now (view.home c.args.view.now)) c.args.task in
+    let b = bound_of c.args.deeds.now (view.now c.args.view.now (view.home c.args.view.now)) c.args.task.now in
     let home = view.home c.instructions.view in
     let held : view.holds c.step.new.view home = subst (view.holds c.step.new.view) (c.in_ok-outcome.ensures.lasts.home_stays ∙ c.in_ok-go_asking.ensures.lasts.home_stays) c.in_ok-outcome.ensures.lasts.home_is_left in
     let on_then = λ (w : World) (h : view.holds c.step.new.view w).
-    step_to c.args.task.player c.go_asking.new.task c.step.new.task c.instructions.deeds c.step.new.deeds (view.now c.go_asking.new.view w) (view.now c.step.new.view w) c.in_ok-outcome.outcome
+    step_to c.args.task.now.player c.go_asking.new.task c.step.new.task c.instructions.deeds c.step.new.deeds (view.now c.go_asking.new.view w) (view.now c.step.new.view w) c.in_ok-outcome.outcome
     (begun_at c.step.new.deeds (view.now c.step.new.view w) c.step.new.task) (c.in_ok-go_asking.ensures.player ∙ c.instructions.invariant.player) (c.in_ok-outcome.ensures.step w h).1
     (ap (λ (o : Outcome). led_at o c.step.new.deeds (view.now c.step.new.view w) c.step.new.task) c.in-On.is) in
     record {
@@ -59,15 +59,15 @@ instructions-preserved g c =
       held = c.in_ok-outcome.ensures.lasts.home_is_left;
       well_formed = c.in_ok-outcome.ensures.well_formed;
       player = c.in_ok-outcome.ensures.player ∙ (c.in_ok-go_asking.ensures.player ∙ c.instructions.invariant.player);
-      over = subst (λ (x : World). IsOver (ran c.args.task.player b (begun_at c.step.new.deeds (view.now c.step.new.view x) c.step.new.task))) (sym (c.in_ok-outcome.ensures.lasts.home_stays ∙ c.in_ok-go_asking.ensures.lasts.home_stays))
-          (over_on c.args.task.player b (scene_at c.instructions.deeds (view.now c.go_asking.new.view home) c.go_asking.new.task) (running_kept c.go_asking.new.task) c.go_asking.new.task.outer
-          (ticks_of c.go_asking.new.task) (begun_at c.step.new.deeds (view.now c.step.new.view home) c.step.new.task) (over_onward c.args.task.player c.instructions.task c.go_asking.new.task c.instructions.deeds (view.now c.instructions.view home) (view.now c.go_asking.new.view home) c.instructions.invariant.player ((c.in_ok-go_asking.ensures.comes home (c.in_ok-outcome.ensures.step home held).0).1 c.instructions.deeds) _ c.instructions.invariant.over) (on_then home held));
+      over = subst (λ (x : World). IsOver (ran c.args.task.now.player b (begun_at c.step.new.deeds (view.now c.step.new.view x) c.step.new.task))) (sym (c.in_ok-outcome.ensures.lasts.home_stays ∙ c.in_ok-go_asking.ensures.lasts.home_stays))
+          (over_on c.args.task.now.player b (scene_at c.instructions.deeds (view.now c.go_asking.new.view home) c.go_asking.new.task) (running_kept c.go_asking.new.task) c.go_asking.new.task.outer
+          (ticks_of c.go_asking.new.task) (begun_at c.step.new.deeds (view.now c.step.new.view home) c.step.new.task) (over_onward c.args.task.now.player c.instructions.task c.go_asking.new.task c.instructions.deeds (view.now c.instructions.view home) (view.now c.go_asking.new.view home) c.instructions.invariant.player ((c.in_ok-go_asking.ensures.comes home (c.in_ok-outcome.ensures.step home held).0).1 c.instructions.deeds) _ c.instructions.invariant.over) (on_then home held));
       comes = λ w h.
           let l = c.in_ok-outcome.ensures.step w h in
           let was = c.instructions.invariant.comes w (c.in_ok-go_asking.ensures.comes w l.0).0 in (
             was.0,
-            comes_on c.args.task.player (begun_at c.args.deeds (view.now c.args.view.now w) c.args.task) (scene_at c.instructions.deeds (view.now c.go_asking.new.view w) c.go_asking.new.task)
-                (running_kept c.go_asking.new.task) c.go_asking.new.task.outer (ticks_of c.go_asking.new.task) (begun_at c.step.new.deeds (view.now c.step.new.view w) c.step.new.task) (comes_onward c.args.task.player c.instructions.task c.go_asking.new.task c.instructions.deeds (view.now c.instructions.view w) (view.now c.go_asking.new.view w) c.instructions.invariant.player ((c.in_ok-go_asking.ensures.comes w (c.in_ok-outcome.ensures.step w h).0).1 c.instructions.deeds) _ was.1) (on_then w h),
+            comes_on c.args.task.now.player (begun_at c.args.deeds.now (view.now c.args.view.now w) c.args.task.now) (scene_at c.instructions.deeds (view.now c.go_asking.new.view w) c.go_asking.new.task)
+                (running_kept c.go_asking.new.task) c.go_asking.new.task.outer (ticks_of c.go_asking.new.task) (begun_at c.step.new.deeds (view.now c.step.new.view w) c.step.new.task) (comes_onward c.args.task.now.player c.instructions.task c.go_asking.new.task c.instructions.deeds (view.now c.instructions.view w) (view.now c.go_asking.new.view w) c.instructions.invariant.player ((c.in_ok-go_asking.ensures.comes w (c.in_ok-outcome.ensures.step w h).0).1 c.instructions.deeds) _ was.1) (on_then w h),
           );
     }
 
@@ -78,10 +78,10 @@ returns-in-Ends-clause-stopped g c w h =
     let was = c.instructions.invariant.comes w (c.in_ok-go_asking.ensures.comes w l.0).0 in (
       was.0,
       λ f vars focus ps same stands.
-          stops f vars focus ps c.args.task.player (scene_at c.args.deeds (view.now c.args.view.now w) c.args.task) (running_kept c.args.task) c.args.task.outer (ticks_of c.args.task) _ same stands
-          (comes_on c.args.task.player (begun_at c.args.deeds (view.now c.args.view.now w) c.args.task) (scene_at c.instructions.deeds (view.now c.go_asking.new.view w) c.go_asking.new.task)
-          (running_kept c.go_asking.new.task) c.go_asking.new.task.outer (ticks_of c.go_asking.new.task) _ (comes_onward c.args.task.player c.instructions.task c.go_asking.new.task c.instructions.deeds (view.now c.instructions.view w) (view.now c.go_asking.new.view w) c.instructions.invariant.player ((c.in_ok-go_asking.ensures.comes w (c.in_ok-outcome.ensures.step w h).0).1 c.instructions.deeds) _ was.1)
-          (step_to c.args.task.player c.go_asking.new.task c.step.new.task c.instructions.deeds c.step.new.deeds (view.now c.go_asking.new.view w) (view.now c.step.new.view w) c.in_ok-outcome.outcome
+          stops f vars focus ps c.args.task.now.player (scene_at c.args.deeds.now (view.now c.args.view.now w) c.args.task.now) (running_kept c.args.task.now) c.args.task.now.outer (ticks_of c.args.task.now) _ same stands
+          (comes_on c.args.task.now.player (begun_at c.args.deeds.now (view.now c.args.view.now w) c.args.task.now) (scene_at c.instructions.deeds (view.now c.go_asking.new.view w) c.go_asking.new.task)
+          (running_kept c.go_asking.new.task) c.go_asking.new.task.outer (ticks_of c.go_asking.new.task) _ (comes_onward c.args.task.now.player c.instructions.task c.go_asking.new.task c.instructions.deeds (view.now c.instructions.view w) (view.now c.go_asking.new.view w) c.instructions.invariant.player ((c.in_ok-go_asking.ensures.comes w (c.in_ok-outcome.ensures.step w h).0).1 c.instructions.deeds) _ was.1)
+          (step_to c.args.task.now.player c.go_asking.new.task c.step.new.task c.instructions.deeds c.step.new.deeds (view.now c.go_asking.new.view w) (view.now c.step.new.view w) c.in_ok-outcome.outcome
           _ (c.in_ok-go_asking.ensures.player ∙ c.instructions.invariant.player) l.1
           (ap (λ (o : Outcome). led_at o c.step.new.deeds (view.now c.step.new.view w) c.step.new.task) c.in-Ends.is))),
     )
@@ -93,10 +93,10 @@ returns-in-RanOut-clause-stopped g c w h =
     let was = c.instructions.invariant.comes w (c.in_ok-go_asking.ensures.comes w l.0).0 in (
       was.0,
       λ f vars focus ps same stands.
-          stops f vars focus ps c.args.task.player (scene_at c.args.deeds (view.now c.args.view.now w) c.args.task) (running_kept c.args.task) c.args.task.outer (ticks_of c.args.task) _ same stands
-          (comes_on c.args.task.player (begun_at c.args.deeds (view.now c.args.view.now w) c.args.task) (scene_at c.instructions.deeds (view.now c.go_asking.new.view w) c.go_asking.new.task)
-          (running_kept c.go_asking.new.task) c.go_asking.new.task.outer (ticks_of c.go_asking.new.task) _ (comes_onward c.args.task.player c.instructions.task c.go_asking.new.task c.instructions.deeds (view.now c.instructions.view w) (view.now c.go_asking.new.view w) c.instructions.invariant.player ((c.in_ok-go_asking.ensures.comes w (c.in_ok-outcome.ensures.step w h).0).1 c.instructions.deeds) _ was.1)
-          (step_to c.args.task.player c.go_asking.new.task c.step.new.task c.instructions.deeds c.step.new.deeds (view.now c.go_asking.new.view w) (view.now c.step.new.view w) c.in_ok-outcome.outcome
+          stops f vars focus ps c.args.task.now.player (scene_at c.args.deeds.now (view.now c.args.view.now w) c.args.task.now) (running_kept c.args.task.now) c.args.task.now.outer (ticks_of c.args.task.now) _ same stands
+          (comes_on c.args.task.now.player (begun_at c.args.deeds.now (view.now c.args.view.now w) c.args.task.now) (scene_at c.instructions.deeds (view.now c.go_asking.new.view w) c.go_asking.new.task)
+          (running_kept c.go_asking.new.task) c.go_asking.new.task.outer (ticks_of c.go_asking.new.task) _ (comes_onward c.args.task.now.player c.instructions.task c.go_asking.new.task c.instructions.deeds (view.now c.instructions.view w) (view.now c.go_asking.new.view w) c.instructions.invariant.player ((c.in_ok-go_asking.ensures.comes w (c.in_ok-outcome.ensures.step w h).0).1 c.instructions.deeds) _ was.1)
+          (step_to c.args.task.now.player c.go_asking.new.task c.step.new.task c.instructions.deeds c.step.new.deeds (view.now c.go_asking.new.view w) (view.now c.step.new.view w) c.in_ok-outcome.outcome
           _ (c.in_ok-go_asking.ensures.player ∙ c.instructions.invariant.player) l.1
           (ap (λ (o : Outcome). led_at o c.step.new.deeds (view.now c.step.new.view w) c.step.new.task) c.in-RanOut.is
           ∙ ap (λ ts. halts (stopped (scene_at c.step.new.deeds (view.now c.step.new.view w) c.step.new.task) (out_of_ticks ts) 0)) (sym c.in_ok-verbs-in-RanOut.ensures)))),
@@ -109,10 +109,10 @@ returns-in-Waits-clause-stopped g c w h =
     let was = c.instructions.invariant.comes w (c.in_ok-go_asking.ensures.comes w l.0).0 in (
       was.0,
       λ f vars focus ps same stands.
-          stops f vars focus ps c.args.task.player (scene_at c.args.deeds (view.now c.args.view.now w) c.args.task) (running_kept c.args.task) c.args.task.outer (ticks_of c.args.task) _ same stands
-          (comes_on c.args.task.player (begun_at c.args.deeds (view.now c.args.view.now w) c.args.task) (scene_at c.instructions.deeds (view.now c.go_asking.new.view w) c.go_asking.new.task)
-          (running_kept c.go_asking.new.task) c.go_asking.new.task.outer (ticks_of c.go_asking.new.task) _ (comes_onward c.args.task.player c.instructions.task c.go_asking.new.task c.instructions.deeds (view.now c.instructions.view w) (view.now c.go_asking.new.view w) c.instructions.invariant.player ((c.in_ok-go_asking.ensures.comes w (c.in_ok-outcome.ensures.step w h).0).1 c.instructions.deeds) _ was.1)
-          (step_to c.args.task.player c.go_asking.new.task c.step.new.task c.instructions.deeds c.step.new.deeds (view.now c.go_asking.new.view w) (view.now c.step.new.view w) c.in_ok-outcome.outcome
+          stops f vars focus ps c.args.task.now.player (scene_at c.args.deeds.now (view.now c.args.view.now w) c.args.task.now) (running_kept c.args.task.now) c.args.task.now.outer (ticks_of c.args.task.now) _ same stands
+          (comes_on c.args.task.now.player (begun_at c.args.deeds.now (view.now c.args.view.now w) c.args.task.now) (scene_at c.instructions.deeds (view.now c.go_asking.new.view w) c.go_asking.new.task)
+          (running_kept c.go_asking.new.task) c.go_asking.new.task.outer (ticks_of c.go_asking.new.task) _ (comes_onward c.args.task.now.player c.instructions.task c.go_asking.new.task c.instructions.deeds (view.now c.instructions.view w) (view.now c.go_asking.new.view w) c.instructions.invariant.player ((c.in_ok-go_asking.ensures.comes w (c.in_ok-outcome.ensures.step w h).0).1 c.instructions.deeds) _ was.1)
+          (step_to c.args.task.now.player c.go_asking.new.task c.step.new.task c.instructions.deeds c.step.new.deeds (view.now c.go_asking.new.view w) (view.now c.step.new.view w) c.in_ok-outcome.outcome
           _ (c.in_ok-go_asking.ensures.player ∙ c.instructions.invariant.player) l.1
           (ap (λ (o : Outcome). led_at o c.step.new.deeds (view.now c.step.new.view w) c.step.new.task) c.in-Waits.is
           ∙ ap (λ ks. waits (scene_at c.step.new.deeds (view.now c.step.new.view w) c.step.new.task) (waiting_of c.in-Waits.waiting) (verb (running_kept c.step.new.task) ∷ ks) (ticks_of c.step.new.task))
@@ -124,9 +124,9 @@ unreachable-requires-in-LacksOperand g c =
     let view = g.V.View in
     let home = view.home c.instructions.view in
     let held : view.holds c.step.new.view home = subst (view.holds c.step.new.view) (c.in_ok-outcome.ensures.lasts.home_stays ∙ c.in_ok-go_asking.ensures.lasts.home_stays) c.in_ok-outcome.ensures.lasts.home_is_left in
-    operands_there c.args.task.player (bound_of c.args.deeds (view.now c.args.view.now (view.home c.args.view.now)) c.args.task)
+    operands_there c.args.task.now.player (bound_of c.args.deeds.now (view.now c.args.view.now (view.home c.args.view.now)) c.args.task.now)
     (scene_at c.instructions.deeds (view.now c.go_asking.new.view home) c.go_asking.new.task) (running_kept c.go_asking.new.task) c.go_asking.new.task.outer (ticks_of c.go_asking.new.task)
-    (over_onward c.args.task.player c.instructions.task c.go_asking.new.task c.instructions.deeds (view.now c.instructions.view home) (view.now c.go_asking.new.view home) c.instructions.invariant.player ((c.in_ok-go_asking.ensures.comes home (c.in_ok-outcome.ensures.step home held).0).1 c.instructions.deeds) _ c.instructions.invariant.over)
-    (step_to c.args.task.player c.go_asking.new.task c.step.new.task c.instructions.deeds c.step.new.deeds (view.now c.go_asking.new.view home) (view.now c.step.new.view home) c.in_ok-outcome.outcome
+    (over_onward c.args.task.now.player c.instructions.task c.go_asking.new.task c.instructions.deeds (view.now c.instructions.view home) (view.now c.go_asking.new.view home) c.instructions.invariant.player ((c.in_ok-go_asking.ensures.comes home (c.in_ok-outcome.ensures.step home held).0).1 c.instructions.deeds) _ c.instructions.invariant.over)
+    (step_to c.args.task.now.player c.go_asking.new.task c.step.new.task c.instructions.deeds c.step.new.deeds (view.now c.go_asking.new.view home) (view.now c.step.new.view home) c.in_ok-outcome.outcome
     lacks_operand (c.in_ok-go_asking.ensures.player ∙ c.instructions.invariant.player) (c.in_ok-outcome.ensures.step home held).1
     (ap (λ (o : Outcome). led_at o c.step.new.deeds (view.now c.step.new.view home) c.step.new.task) c.in-LacksOperand.is))

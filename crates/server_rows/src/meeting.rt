@@ -6,7 +6,7 @@ use std::alloc::{AllocError, Global};
 use std::hint;
 use std::sync::atomic::{AtomicBool, AtomicU64, Ordering};
 use task_step::step::Step;
-use world::worlds::Snapshot;
+use world::shared::SharedSnapshot;
 
 /// How many turns one waits for the other.
 const TURNS: u64 = 10_000_000;
@@ -97,7 +97,7 @@ impl Gate for MeetingGate {
         &self,
         alloc: Global,
         position: usize,
-        snapshot: &Snapshot,
+        snapshot: &SharedSnapshot,
         step: &Step,
     ) -> Result<Guess, AllocError> {
         self.calls.fetch_add(1, Ordering::SeqCst);

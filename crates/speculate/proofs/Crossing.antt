@@ -14,7 +14,7 @@ use Rattle.round_claims.specs.contracts.claims.Claims as claims
 use Rattle.round_claims.specs.contracts.claims.ClaimSeat as seat
 use Rattle.view.proofs.PartsCrossing.{changes_send}
 use Rattle.task_step.proofs.Crossing.{step_send, step_sync, outcome_send}
-use Rattle.world.proofs.Crossing.{count_send, reads_send, snapshot_send, world_send}
+use Rattle.world.proofs.Crossing.{count_send, seen_send, shared_send, world_send}
 use Rattle.speculate.specs.contracts.board.Board as board
 use Rattle.speculate.specs.contracts.guesses.Guess as guess
 use Rattle.speculate.specs.contracts.guesses.Spent as spent
@@ -28,13 +28,13 @@ use Rattle.std.specs.contracts.marker.PhantomData as PhantomData
 use Rattle.task_step.specs.contracts.step.Step as step
 
 guess_send : IsSend guess.the_row
-guess_send = search (sendable, crosses, step_send, reads_send, changes_send, outcome_send, snapshot_send) depth 60
+guess_send = search (sendable, crosses, step_send, seen_send, changes_send, outcome_send, shared_send) depth 60
 
 held_send : IsSend held.the_row
 held_send = search (sendable, crosses, guess_send) depth 60
 
 spent_send : IsSend spent.the_row
-spent_send = search (sendable, crosses, step_send, reads_send, changes_send) depth 60
+spent_send = search (sendable, crosses, step_send, seen_send, changes_send) depth 60
 
 mark_send : IsSend mark.the_row
 mark_send = search (sendable, crosses) depth 60

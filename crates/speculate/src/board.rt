@@ -8,7 +8,7 @@ use crate::commit::{Done, commit};
 use crate::guesses::{Guess, Spent};
 use crate::held::{Held, Mark, put_back, take_out};
 use crate::report::Report;
-use crate::sight::Sight;
+use crate::sight::{Sight, shared};
 use std::alloc::{AllocError, Global};
 use std::marker::Model;
 use std::mem;
@@ -350,11 +350,11 @@ impl Board {
     }
 
     /// What a worker sees that is to go so far ahead of what is committed, and farther where guesses held so far ahead. None after want of memory.
-    pub(crate) fn sight(&self, ahead: usize) -> Option<Sight>
+    pub(crate) fn sight(&self, alloc: Global, ahead: usize) -> Option<Sight>
         ensures { IfSome result (λ s. s.snapshot ≡ world_after self.now.base.plain self.now.steps s.count) }
     {
         let count = self.count();
-        let Ok(snapshot) = self.snapshot() else {
+        let Ok(snapshot) = shared(alloc, &self.world) else {
             return None;
         };
         let limit = count.saturating_add(ahead.max(self.reach));

@@ -23,7 +23,7 @@ use std::thread::{Builder, Threads};
 use task_step::partial::{Partial, Refusal};
 use task_step::stack::STACK_SIZE;
 use task_step::step::Step;
-use world::worlds::Snapshot;
+use world::shared::SharedSnapshot;
 
 // How often at most a worker guesses what is next in place of its own positions.
 const MOST_HELPS: usize = 64;
@@ -121,7 +121,7 @@ fn work<J: Run, G: Gate, R: Wait>(
     requires range { AllInRange steps.now }
     requires seat { seat.offer ≡ claims.now }
 {
-    let mut sight = shared.look(rt, ahead);
+    let mut sight = shared.look(rt, alloc, ahead);
     'claim: while let Some(ticket) = claims.claim(&mut seat) {
         let first = ticket.position().saturating_mul(size).min(steps.len());
         let end = first.saturating_add(size).min(steps.len());
@@ -245,7 +245,7 @@ fn guess_on<G: Gate>(
 fn guess_batch<G: Gate>(
     alloc: Global,
     gate: &G,
-    snapshot: &Snapshot,
+    snapshot: &SharedSnapshot,
     steps: &[Step],
     first: usize,
     end: usize,

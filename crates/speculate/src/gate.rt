@@ -6,7 +6,7 @@ use crate::guesses::Guess;
 use crate::guessing::guess;
 use std::alloc::{AllocError, Global};
 use task_step::step::Step;
-use world::worlds::Snapshot;
+use world::shared::SharedSnapshot;
 
 /// Makes every guess of a list, each on the thread of the worker that took its position. It may answer want of memory at will;
 /// the step is then run when its turn comes.
@@ -16,7 +16,7 @@ pub trait Gate: Sync {
         &self,
         alloc: Global,
         position: usize,
-        snapshot: &Snapshot,
+        snapshot: &SharedSnapshot,
         step: &Step,
     ) -> Result<Guess, AllocError>
         requires { IsTrue (in_range step.now) }
@@ -39,7 +39,7 @@ impl Gate for Free {
         &self,
         alloc: Global,
         _position: usize,
-        snapshot: &Snapshot,
+        snapshot: &SharedSnapshot,
         step: &Step,
     ) -> Result<Guess, AllocError> {
         guess(alloc, snapshot, step)
@@ -55,7 +55,7 @@ impl Gate for Free {
 pub(crate) fn guess_at<G: Gate>(
     alloc: Global,
     gate: &G,
-    snapshot: &Snapshot,
+    snapshot: &SharedSnapshot,
     steps: &[Step],
     at: usize,
 ) -> Option<Guess>

@@ -14,25 +14,26 @@ use task_step::step::Step;
 use view::change::Change;
 use view::changes::Changes;
 use view::part::Part;
-use world::reads::Reads;
-use world::worlds::{Snapshot, World};
+use world::seen::Seen;
+use world::shared::SharedSnapshot;
+use world::worlds::World;
 
 /// What a step reads, changes and answers, found on a snapshot. It is so on each world that gives the answers that were read.
 #[derive(Drop)]
 pub struct Guess {
     pub(crate) step: Step,
-    pub(crate) reads: Reads,
+    pub(crate) reads: Seen,
     pub(crate) changes: Changes,
     pub(crate) outcome: Outcome,
     // The world on which it was found.
-    pub(crate) before: Remembered<Snapshot>,
+    pub(crate) before: Remembered<SharedSnapshot>,
 }
 
 /// What is left of a guess that is committed, to be let go where nobody waits for it.
 #[derive(Drop)]
 pub(crate) struct Spent {
     step: Step,
-    reads: Reads,
+    reads: Seen,
     changes: Changes,
 }
 

@@ -10,11 +10,11 @@ use std::snapshot::Snapshot as Remembered;
 use task_run::rooms::Rooms;
 use task_run::step::run_step;
 use task_step::step::Step;
+use world::shared::SharedSnapshot;
 use world::tracked::Tracked;
-use world::worlds::Snapshot;
 
 /// Runs a step on a snapshot, which stays as it is. The guess is right for every world, whatever became of it since.
-pub fn guess(alloc: Global, snapshot: &Snapshot, step: &Step) -> Result<Guess, AllocError>
+pub fn guess(alloc: Global, snapshot: &SharedSnapshot, step: &Step) -> Result<Guess, AllocError>
     requires { IsTrue (in_range step.now) }
     ensures step { IfOk result (λ g. g.step ≡ step.now) }
     ensures right { IfOk result (λ g. IsRight g) }
@@ -22,9 +22,8 @@ pub fn guess(alloc: Global, snapshot: &Snapshot, step: &Step) -> Result<Guess, A
     ensures before { IfOk result (λ g. g.before ≡ snapshot.now) }
 {
     let mut view = Tracked::over(alloc, snapshot);
-    let mut rooms = Rooms::new(alloc);
-    let outcome = run_step(alloc, &mut view, &mut rooms, step)?;
-    let (reads, changes) = view.finish();
+    let outcome = run_step(alloc, &mut view, step)?;
+    let (reads, changes) = view.finish()?;
     Ok(Guess {
         step: step.clone()?,
         reads,

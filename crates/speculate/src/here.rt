@@ -10,6 +10,7 @@ use crate::gate::Gate;
 use crate::guesses::Guess;
 use crate::held::Mark;
 use crate::report::Report;
+use crate::sight::shared;
 use crate::trying::try_on;
 use std::alloc::{AllocError, Global};
 use task_run::list::play_step;
@@ -141,7 +142,7 @@ fn keep_guessed<G: Gate>(
     }
 }
 
-// The gate's guess on the world as it is. Nothing shares the world's records behind it.
+// The gate's guess on the world as it is, which shares the world's records until it is let go.
 fn guess_here<G: Gate>(
     alloc: Global,
     gate: &G,
@@ -152,7 +153,7 @@ fn guess_here<G: Gate>(
     requires { IsTrue (in_range step.now) }
     ensures { IfSome result (λ g. g.before ≡ world.now.plain) }
 {
-    let Ok(snapshot) = world.snapshot() else {
+    let Ok(snapshot) = shared(alloc, world) else {
         return None;
     };
     gate.guess(alloc, at, &snapshot, step).ok()

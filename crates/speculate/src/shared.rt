@@ -61,11 +61,11 @@ impl<J: Run> SharedBoard<J> {
     }
 
     /// What a worker sees of the board. None after want of memory.
-    pub fn look<R: Wait>(&self, rt: &R, ahead: usize) -> Option<Sight>
+    pub fn look<R: Wait>(&self, rt: &R, alloc: Global, ahead: usize) -> Option<Sight>
         ensures { IfSome result (λ s. s.snapshot ≡ world_after J.base.plain J.steps s.count) }
     {
         let tied = self.board.lock(rt);
-        tied.board.sight(ahead)
+        tied.board.sight(alloc, ahead)
     }
 
     /// Posts guesses, each with its position, and the number of steps that were committed when they were made, and loses what holds nothing then from the
@@ -104,7 +104,7 @@ impl<J: Run> SharedBoard<J> {
     {
         let mut tied = self.board.lock(rt);
         let spent = tied.board.hand_in_all(alloc, first, end, found, seen);
-        (tied.board.sight(ahead), spent)
+        (tied.board.sight(alloc, ahead), spent)
     }
 
     /// The board, when no worker has it any more.

@@ -40,14 +40,20 @@ same_slot None (Some y) p is = cc
 same_slot (Some x) None p is = cc
 same_slot (Some x) (Some y) p is = cc
 
+pub slot_by_answer : (v w : World) (o : ℤ) (p : Text) → ask v (about_slot o p) ≡ ask w (about_slot o p) → slot_at v o p ≡ slot_at w o p
+slot_by_answer v w o p is = same_slot (object_at v o) (object_at w o) p is
+
 pub slot_alike : (v w : World) (o : ℤ) (p : Text) → AnswersAlike v w → slot_at v o p ≡ slot_at w o p
-slot_alike v w o p alike = same_slot (object_at v o) (object_at w o) p (alike (about_slot o p))
+slot_alike v w o p alike = slot_by_answer v w o p (alike (about_slot o p))
 
 same_parent : (h k : Option Header) → the_header h ≡ the_header k → option_map (λ x. x.parent) h ≡ option_map (λ x. x.parent) k
 same_parent h k is = cc
 
+pub parent_by_answer : (v w : World) (o : ℤ) → ask v (about_header o) ≡ ask w (about_header o) → option_map (λ x. x.parent) (header_at v o) ≡ option_map (λ x. x.parent) (header_at w o)
+parent_by_answer v w o is = same_parent (header_at v o) (header_at w o) is
+
 pub parent_alike : (v w : World) (o : ℤ) → AnswersAlike v w → option_map (λ x. x.parent) (header_at v o) ≡ option_map (λ x. x.parent) (header_at w o)
-parent_alike v w o alike = same_parent (header_at v o) (header_at w o) (alike (about_header o))
+parent_alike v w o alike = parent_by_answer v w o (alike (about_header o))
 
 --- no light change gives an object another parent
 pub parent_lightly : (cs : List Change) (w : World) (o : ℤ) → AllLight cs → option_map (λ x. x.parent) (header_at (apply_all cs w) o) ≡ option_map (λ x. x.parent) (header_at w o)

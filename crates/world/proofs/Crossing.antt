@@ -1,4 +1,4 @@
--- Worlds, snapshots and what was read may go to other threads, and snapshots be lent to them.
+-- Worlds and snapshots may go to other threads, and snapshots be lent to them.
 use denote.Param.Send.{IsSend, IsSync, recorded_send, sendable}
 use denote.Model.Goals.{has_of, part_has, one_law, All, tied_goals, send}
 use denote.Param.SendFields.{as_row_send, declared_send}
@@ -9,7 +9,7 @@ use Rattle.std.proofs.Crossing.{crosses}
 use Rattle.due_table.proofs.Crossing.{due_send, due_sync}
 use Rattle.moo_task.proofs.Crossing.{task_send, task_sync}
 use Rattle.moo_task.specs.contracts.task.Task as task
-use Rattle.view.proofs.PartsCrossing.{answer_send, object_send, object_sync, link_send, link_sync, question_send}
+use Rattle.view.proofs.PartsCrossing.{object_send, object_sync, link_send, link_sync, question_send, answer_send}
 use Rattle.view.specs.contracts.link.Link as link
 use Rattle.view.specs.contracts.object.Object as object
 use Rattle.world_table.proofs.Crossing.{table_send, table_sync}
@@ -19,8 +19,9 @@ use Rattle.world.specs.contracts.count.Count.TheKnot as knot
 use Rattle.world.specs.contracts.count.Count as count
 use Rattle.world.specs.contracts.draft.Draft as draft
 use Rattle.world.specs.contracts.links.Links as links
-use Rattle.world.specs.contracts.reads.Read as read
-use Rattle.world.specs.contracts.reads.Reads as reads
+use Rattle.world.specs.contracts.noted.Noted as noted
+use Rattle.world.specs.contracts.seen.Seen as seen
+use Rattle.world.specs.contracts.shared.SharedSnapshot as shared
 use Rattle.world.specs.contracts.tasks.Tasks as tasks
 use Rattle.world.specs.contracts.worlds.Snapshot as snapshot
 use Rattle.world.specs.contracts.worlds.World as world
@@ -69,6 +70,15 @@ snapshot_send = search (sendable, crosses, draft_send) depth 60
 pub snapshot_sync : IsSync snapshot.the_row
 snapshot_sync = search (sendable, crosses, draft_sync) depth 60
 
+pub shared_send : IsSend shared.the_row
+shared_send = search (sendable, crosses, snapshot_send, snapshot_sync) depth 60
+
+noted_send : IsSend noted.the_row
+noted_send = search (sendable, crosses, question_send, answer_send) depth 60
+
+pub seen_send : IsSend seen.the_row
+seen_send = search (sendable, crosses, shared_send, noted_send) depth 60
+
 at_count_send : (p : Parts knot.frame) → IsSend (knot.at-Count p)
 at_count_send p = recorded_send _ _ _ (split_one (knot.layer-Count (rows knot.frame p member-Count)) Inside split-Count join-Count joins-Count) (declared_send (knot.type-Count (rows knot.frame p member-Count)) ((search (sendable, crosses, as_row_send) depth 60), tt))
 
@@ -86,9 +96,3 @@ count_send = goals member-Count
 
 pub world_send : IsSend world.the_row
 world_send = search (sendable, crosses, draft_send, count_send) depth 60
-
-read_send : IsSend read.the_row
-read_send = declared_send read.the_type (question_send, (answer_send, tt))
-
-pub reads_send : IsSend reads.the_row
-reads_send = search (sendable, crosses, read_send) depth 60

@@ -1,18 +1,31 @@
 -- A question that is found among those that were asked.
-use Rattle.std.proofs.Common.{◌≡◌, ◌<◌, ℕ, zero, suc, List, [], ◌∷◌, map, length, Contains, slice_index_or, arith, sym, ap, subst, ◌∙◌}
+use Rattle.std.proofs.Common.{◌≡◌, ◌<◌, ℕ, zero, suc, List, [], ◌∷◌, map, length, Contains, slice_index_or, arith, refl, sym, ap, subst}
 use Rattle.spec_world.specs.World.{World}
 use Rattle.spec_world.specs.Questions as meant
 use Rattle.spec_world.specs.Questions.{ask, Agrees}
-use Rattle.view.specs.Meanings.{question_of, answer_of}
-use Rattle.world.specs.ReadMeaning.{read_of}
-use Rattle.world.specs.declared.reads.Read.{Read}
+use Rattle.view.specs.Meanings.{question_of}
+use Rattle.world.specs.Seen.{read_on}
+use Rattle.world.specs.declared.noted.Noted.{Noted}
 
--- the question of a read that is there, with its answer
-pub read_at : (rs : List Read) (i : ℕ) (x : Read) (q : meant.Question) → i < length rs → x ≡ slice_index_or rs i x → question_of x.question ≡ q
-    → Contains (map read_of rs) record { question = q; answer = answer_of x.answer }
-read_at [] i x q under there is = absurd (omega (arith, under))
-read_at (r ∷ rs) zero x q under there is = (0, omega arith, ap read_of (sym there) ∙ ap (λ (p : meant.Question). record { question = p; answer = answer_of x.answer }) is)
-read_at (r ∷ rs) (suc i) x q under there is = let rest = read_at rs i x q (omega (arith, under)) there is in (suc rest.0, omega (arith, rest.1), rest.2)
+-- what stands at a place is there
+pub stands_at : {X : Type 0} (xs : List X) (i : ℕ) (x : X) → i < length xs → x ≡ slice_index_or xs i x → Contains xs x
+stands_at xs i x under is = (i, under, sym is)
+
+index_mapped : {X Y : Type 0} (f : X → Y) (xs : List X) (k : ℕ) (x : X) → k < length xs → slice_index_or xs k x ≡ x → slice_index_or (map f xs) k (f x) ≡ f x
+index_mapped f [] k x under is = absurd (omega (arith, under))
+index_mapped f (y ∷ ys) zero x under is = ap f is
+index_mapped f (y ∷ ys) (suc k) x under is = index_mapped f ys k x (omega (arith, under)) is
+
+length_mapped : {X Y : Type 0} (f : X → Y) (xs : List X) → length (map f xs) ≡ length xs
+length_mapped f [] = refl
+length_mapped f (x ∷ xs) = ap suc (length_mapped f xs)
+
+-- what a note says is among what the notes say
+pub read_among : (w : World) (ns : List Noted) (n : Noted) (q : meant.Question) → Contains ns n → q ≡ question_of n.question
+    → Contains (map (read_on w) ns) record { question = q; answer = (read_on w n).answer }
+read_among w ns n q among is =
+    subst (λ p. Contains (map (read_on w) ns) record { question = p; answer = (read_on w n).answer }) (sym is)
+    (among.0, subst (λ k. among.0 < k) (sym (length_mapped (read_on w) ns)) among.1, index_mapped (read_on w) ns among.0 n among.1 among.2)
 
 given_at : (w : World) (rs : List meant.Read) (k : ℕ) (r : meant.Read) → Agrees w rs → k < length rs → slice_index_or rs k r ≡ r → ask w r.question ≡ r.answer
 given_at w [] k r of_w under is = absurd (omega (arith, under))

@@ -1,5 +1,8 @@
 pub mod Besides
 pub mod Late
+pub mod Listed
+pub mod Seen
+pub mod Sought
 pub mod Trace
 pub mod Amended
 pub mod Counted
@@ -15,4 +18,3 @@ pub mod LinkTable
 pub mod Revised
 pub mod Due
 pub mod Moved
-pub mod ReadMeaning

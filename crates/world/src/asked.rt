@@ -1,16 +1,16 @@
-//! What was read, each question once.
-ghost use Rattle.std.specs.Prelude.{◌≡◌, ◌++◌, ◌∷◌, [], List, Some, map, option_map, Contains, IfSome, OnOk, OnErr};
-ghost use Rattle.spec_world.specs.Questions.{Read as Meant};
+//! What was asked, each question once.
+ghost use Rattle.std.specs.Prelude.{◌≡◌, ◌++◌, ◌∷◌, [], map, Contains, IfSome, OnOk, OnErr};
+ghost use Rattle.spec_world.specs.World.{World};
 ghost use Rattle.view.specs.Meanings.{question_of, answer_of};
-ghost use Rattle.world.specs.ReadMeaning.{read_of};
+ghost use Rattle.world.specs.Seen.{read_on};
+ghost use Rattle.world.specs.Sought.{sought_of};
 
-use crate::questions::{mark_of, same_question};
-use crate::reads::{Read, Reads};
+use crate::noted::Noted;
+use crate::questions::{Sought, mark_of};
 use std::alloc::{AllocError, Global};
-use std::marker::Model;
-use view::question::{Answer, Question};
+use view::question::Answer;
 
-// As long as there are so many reads at most, their marks alone are looked at.
+// As long as there are so many at most, their marks alone are looked at.
 const FEW: usize = 12;
 
 // How many places there are at first.
@@ -19,84 +19,71 @@ const FIRST: usize = 64;
 // How many places a question may have.
 const TRIES: usize = 4;
 
-// No read has this index.
+// No question has this index.
 const VACANT: usize = usize::MAX;
 
-/// What was read. A question that was asked before is mostly found again: by the marks of a few reads, and of many by a place that names a read
-/// which may be the one of the question. Its question is compared.
+/// What was asked. A question that was asked before is mostly found again: by the marks of a few, and of many by a place that names one which may be it.
+/// It is compared.
 #[derive(Drop)]
 pub(crate) struct Asked {
-    reads: Reads,
-    // the marks of the first reads
+    notes: Vec<Noted>,
+    // the marks of the first ones
     marks: [u32; FEW],
-    // the places of all reads, once they are more
+    // the places of all, once they are more
     places: Vec<usize>,
     alloc: Global,
 }
 
-impl Model for Asked {
-    ghost use Rattle.std.specs.Prelude.{List};
-    ghost use Rattle.std.specs.Coded.{coded_list};
-    ghost use Rattle.spec_world.specs.Questions.{Read as Meant};
-    ghost use Rattle.view.specs.QuestionCode.{read_code};
-
-    ghost Value = { List Meant };
-
-    ghost coded = { coded_list read_code };
-
-    ghost view = { λ a. a.reads };
-}
-
 impl Asked {
-    /// Nothing read.
+    /// Nothing asked.
     pub(crate) fn new(alloc: Global) -> Asked
-        ensures { result ≡ [] }
+        ensures { result.notes.items ≡ [] }
     {
         Asked {
-            reads: Reads::new(alloc),
+            notes: Vec::new(alloc),
             marks: [0; FEW],
             places: Vec::new(alloc),
             alloc,
         }
     }
 
-    /// The reads, in their order.
-    pub(crate) fn into_reads(self) -> Reads
-        ensures { result ≡ self }
+    /// What was asked, in its order.
+    pub(crate) fn into_notes(self) -> Vec<Noted>
+        ensures { result.items ≡ self.notes.items }
     {
         let Asked {
-            reads,
+            notes,
             marks: _,
             places: _,
             alloc: _,
         } = self;
-        reads
+        notes
     }
 
-    /// The answer that a question of this mark had, if it is found among those that were asked. It takes no memory.
+    /// What is sought, which has this mark, if it is found among what was asked. It takes no memory.
     #[inline(always)]
-    pub(crate) fn find(&self, mark: u64, question: &Question) -> Option<&Answer>
-        ensures { IfSome result (λ a. Contains self.now record { question = question_of question.now; answer = answer_of a.now }) }
+    pub(crate) fn find(&self, mark: u64, sought: &Sought<'_>) -> Option<&Noted>
+        ensures { IfSome result (λ n. Contains self.now.notes.items n.now × (sought_of sought.now ≡ question_of n.now.question)) }
     {
-        if self.reads.as_slice().len() > FEW {
-            return self.find_by_place(mark, question);
+        if self.notes.len() > FEW {
+            return self.find_by_place(mark, sought);
         }
-        self.find_by_mark(mark, question)
+        self.find_by_mark(mark, sought)
     }
 
-    // The same where there are few reads: the last one first.
+    // The same where there are few: the last one first.
     #[inline(always)]
-    fn find_by_mark(&self, mark: u64, question: &Question) -> Option<&Answer>
-        ensures { IfSome result (λ a. Contains self.now record { question = question_of question.now; answer = answer_of a.now }) }
+    fn find_by_mark(&self, mark: u64, sought: &Sought<'_>) -> Option<&Noted>
+        ensures { IfSome result (λ n. Contains self.now.notes.items n.now × (sought_of sought.now ≡ question_of n.now.question)) }
     {
         let short = short_of(mark);
-        let mut index = self.reads.as_slice().len().min(FEW);
+        let mut index = self.notes.len().min(FEW);
         while index > 0 {
             index -= 1;
             if self.marks[index] == short
-                && let Some(answer) = answer_at(self.reads.as_slice(), index, question)
+                && let Some(noted) = noted_at(self.notes.as_slice(), index, sought)
             {
-                return Some(answer);
+                return Some(noted);
             }
         }
         None
@@ -104,28 +91,26 @@ impl Asked {
 
     // The same where there are many.
     #[inline(never)]
-    fn find_by_place(&self, mark: u64, question: &Question) -> Option<&Answer>
-        ensures { IfSome result (λ a. Contains self.now record { question = question_of question.now; answer = answer_of a.now }) }
+    fn find_by_place(&self, mark: u64, sought: &Sought<'_>) -> Option<&Noted>
+        ensures { IfSome result (λ n. Contains self.now.notes.items n.now × (sought_of sought.now ≡ question_of n.now.question)) }
     {
         for step in 0..TRIES {
             let index = self.named(mark, step);
             if index == VACANT {
                 return None;
             }
-            if let Some(answer) = answer_at(self.reads.as_slice(), index, question) {
-                return Some(answer);
+            if let Some(noted) = noted_at(self.notes.as_slice(), index, sought) {
+                return Some(noted);
             }
         }
         None
     }
 
-    /// The answer of the last read.
-    #[inline(always)]
-    pub(crate) fn last(&self) -> Option<&Answer>
-        ensures { (rs : List Meant) → (r : Meant) → self.now ≡ rs ++ r ∷ [] → option_map (λ a. answer_of a.now) result ≡ Some r.answer }
+    /// The answer that was kept with what is sought, if it is found.
+    pub(crate) fn answer(&self, mark: u64, sought: &Sought<'_>) -> Option<&Answer>
+        ensures { IfSome result (λ a. (w : World) → Contains (map (read_on w) self.now.notes.items) record { question = sought_of sought.now; answer = answer_of a.now }) }
     {
-        let read = self.reads.as_slice().last()?;
-        Some(&read.answer)
+        self.find(mark, sought)?.kept()
     }
 
     // The index that a mark's place at a try names.
@@ -138,60 +123,67 @@ impl Asked {
         }
     }
 
-    /// One more read, of a question of this mark.
+    /// One more, whose question has this mark.
     #[inline(always)]
-    pub(crate) fn push(
-        &mut self,
-        mark: u64,
-        question: Question,
-        answer: Answer,
-    ) -> Result<(), AllocError>
-        ensures ok { OnOk result (self.new ≡ self.old ++ record { question = question_of question; answer = answer_of answer } ∷ []) }
-        ensures err { OnErr result (self.new ≡ self.old) }
+    pub(crate) fn push(&mut self, mark: u64, noted: Noted) -> Result<(), AllocError>
+        ensures ok { OnOk result (self.new.notes.items ≡ self.old.notes.items ++ noted ∷ []) }
+        ensures err { OnErr result (self.new.notes.items ≡ self.old.notes.items) }
     {
-        let index = self.reads.as_slice().len();
+        let index = self.notes.len();
         if index == 0 {
-            self.reads.reserve(FEW)?;
+            self.notes.reserve(FEW)?;
         }
         if index < FEW {
-            self.reads.push(question, answer)?;
+            self.notes.push(noted)?;
             self.marks[index] = short_of(mark);
             return Ok(());
         }
         if index >= self.places.len() / 2 {
             self.grow()?;
         }
-        self.reads.push(question, answer)?;
+        self.notes.push(noted)?;
         settle(&mut self.places, mark, index);
         Ok(())
     }
 
-    // More places, for all that was read.
+    // More places, for all that was asked.
     #[inline(never)]
     fn grow(&mut self) -> Result<(), AllocError>
-        ensures { self.new ≡ self.old }
+        ensures { self.new.notes.items ≡ self.old.notes.items }
     {
         let count = self.places.len().saturating_mul(2).max(FIRST);
         let mut places = vec![in self.alloc; VACANT; count]?;
-        for (index, read) in self.reads.as_slice().iter().enumerate() {
-            settle(&mut places, mark_of(&read.question), index);
+        for (index, noted) in self.notes.iter().enumerate() {
+            settle(&mut places, mark_of(&noted.question), index);
         }
         self.places = places;
         Ok(())
     }
 }
 
-// The answer of the read of an index, if it is the one of a question.
+impl Noted {
+    /// The answer that is kept, if one is.
+    pub(crate) fn kept(&self) -> Option<&Answer>
+        ensures { IfSome result (λ a. (w : World) → (read_on w self.now).answer ≡ answer_of a.now) }
+    {
+        match &self.answer {
+            Some(answer) => Some(answer),
+            None => None,
+        }
+    }
+}
+
+// The note of an index, if it is of what is sought.
 #[inline(always)]
-fn answer_at<'r>(reads: &'r [Read], index: usize, question: &Question) -> Option<&'r Answer>
-    ensures { IfSome result (λ a. Contains (map read_of reads.now) record { question = question_of question.now; answer = answer_of a.now }) }
+fn noted_at<'r>(notes: &'r [Noted], index: usize, sought: &Sought<'_>) -> Option<&'r Noted>
+    ensures { IfSome result (λ n. Contains notes.now n.now × (sought_of sought.now ≡ question_of n.now.question)) }
 {
-    if index >= reads.len() {
+    if index >= notes.len() {
         return None;
     }
-    let read = &reads[index];
-    if same_question(&read.question, question) {
-        Some(&read.answer)
+    let noted = &notes[index];
+    if sought.is(&noted.question) {
+        Some(noted)
     } else {
         None
     }

@@ -7,14 +7,17 @@ ghost use Rattle.spec_world.specs.Listings.{waiting_ids, readers_on, connections
 ghost use Rattle.spec_world.specs.Questions.{header_at, children_at, contents_at, defines_at, slot_on, verbs_at, the_waiting, the_readers, the_connections, the_connected, ask, Agrees, apply, apply_all, new_part, new_value, new_next};
 ghost use Rattle.view.specs.Meanings.{question_of, answer_of, part_of, change_of};
 ghost use Rattle.world.specs.Besides.{is_about_verbs, AgreesBesides};
+ghost use Rattle.world.specs.Listed.{is_listed};
+ghost use Rattle.world.specs.Seen.{read_on};
 ghost use Rattle.world.specs.Due.{by_moment, due_ids, first_due_from};
 ghost use Rattle.world.specs.Numbered.{numbered};
 
 use crate::choice::{AllNumbers, gather};
 use crate::edits::{NewPart, NewValue};
 use crate::links::Links;
-use crate::reads::Reads;
-use crate::records::{put_record, record_at, revise_record, same_records, set_record};
+use crate::noted::Noted;
+use crate::records::{Compared, put_record, record_at, revise_record, same_records, set_record};
+use crate::seen::Seen;
 use crate::tasks::Tasks;
 use moo_task::task::Task;
 use moo_value::text::Text;
@@ -445,34 +448,75 @@ impl Draft {
         }
     }
 
-    /// Whether each question that was asked has the answer that was read. It takes no memory.
-    pub(crate) fn agrees(&self, reads: &Reads) -> bool
-        ensures { IsTrue result ↔ Agrees self.now reads.now }
+    // Whether a question has the answer that it has in another draft, where that is not put together of many records. It takes no memory.
+    fn answers_as(&self, other: &Draft, question: &Question) -> bool
+        requires { IsFalse (is_listed (question_of question.now)) }
+        ensures { IsTrue result ↔ ask self.now (question_of question.now) ≡ ask other.now (question_of question.now) }
     {
-        for read in reads.as_slice() {
-            if !self.answers(&read.question, &read.answer) {
+        match question {
+            Question::Header(object) => same_found(self.header(*object), other.header(*object)),
+            Question::Children(object) => {
+                same_found(self.children(*object), other.children(*object))
+            }
+            Question::Contents(object) => {
+                same_found(self.contents(*object), other.contents(*object))
+            }
+            Question::Defines(object) => same_found(self.defines(*object), other.defines(*object)),
+            Question::Slot(object, name) => {
+                same_slots(self.slot(*object, name), other.slot(*object, name))
+            }
+            Question::Verbs(object) => same_found(self.verbs(*object), other.verbs(*object)),
+            Question::Task(id) => same_found(self.tasks.get(*id), other.tasks.get(*id)),
+            Question::Link(number) => same_found(self.link(*number), other.link(*number)),
+            Question::Greatest => self.greatest == other.greatest,
+            Question::Ending => self.ending == other.ending,
+            Question::Waiting
+            | Question::Readers(_)
+            | Question::Connections(_)
+            | Question::Connected => unreachable!(),
+        }
+    }
+
+    // Whether a question has the answer that was read.
+    fn still_answers(&self, home: &Draft, noted: &Noted) -> bool
+        ensures { IsTrue result ↔ ask self.now (question_of noted.now.question) ≡ (read_on home.now noted.now).answer }
+    {
+        match &noted.answer {
+            Some(answer) => self.answers(&noted.question, answer),
+            None => self.answers_as(home, &noted.question),
+        }
+    }
+
+    /// Whether each question that was asked has the answer that was read. It takes no memory.
+    pub(crate) fn agrees(&self, seen: &Seen) -> bool
+        ensures { IsTrue result ↔ Agrees self.now seen.now }
+    {
+        let (home, notes) = seen.parts();
+        for noted in notes {
+            if !self.still_answers(home, noted) {
                 return false;
             }
         }
         true
     }
 
-    // Whether the question is about verbs, or has this answer.
-    fn answers_besides(&self, question: &Question, answer: &Answer) -> bool
-        ensures { IsTrue result ↔ (IsFalse (is_about_verbs (question_of question.now)) → ask self.now (question_of question.now) ≡ answer_of answer.now) }
+    // Whether the question is about verbs, or has the answer that was read.
+    fn still_answers_besides(&self, home: &Draft, noted: &Noted) -> bool
+        ensures { IsTrue result ↔ (IsFalse (is_about_verbs (question_of noted.now.question)) → ask self.now (question_of noted.now.question) ≡ (read_on home.now noted.now).answer) }
     {
-        match question {
+        match &noted.question {
             Question::Verbs(_) => true,
-            _ => self.answers(question, answer),
+            _ => self.still_answers(home, noted),
         }
     }
 
     /// Whether each question that was asked, but for those about verbs, has the answer that was read. It takes no memory.
-    pub(crate) fn agrees_besides(&self, reads: &Reads) -> bool
-        ensures { IsTrue result ↔ AgreesBesides self.now reads.now }
+    pub(crate) fn agrees_besides(&self, seen: &Seen) -> bool
+        ensures { IsTrue result ↔ AgreesBesides self.now seen.now }
     {
-        for read in reads.as_slice() {
-            if !self.answers_besides(&read.question, &read.answer) {
+        let (home, notes) = seen.parts();
+        for noted in notes {
+            if !self.still_answers_besides(home, noted) {
                 return false;
             }
         }
@@ -696,5 +740,27 @@ fn copied(found: Option<Option<&Slot>>) -> Result<Option<Option<Slot>>, AllocErr
         Some(Some(slot)) => Ok(Some(Some(slot.clone()?))),
         Some(None) => Ok(Some(None)),
         None => Ok(None),
+    }
+}
+
+// Whether two records that may be there are the same.
+fn same_found<R: Compared>(a: Option<&R>, b: Option<&R>) -> bool
+    ensures { IsTrue result ↔ option_map (λ x. x.now) a.entry ≡ option_map (λ x. x.now) b.entry }
+{
+    match (a, b) {
+        (Some(a), Some(b)) => a.is_same(b),
+        (None, None) => true,
+        _ => false,
+    }
+}
+
+// The same of slots of objects that may be there.
+fn same_slots(a: Option<Option<&Slot>>, b: Option<Option<&Slot>>) -> bool
+    ensures { IsTrue result ↔ option_map (λ y. option_map (λ x. x.now) y) a.entry ≡ option_map (λ y. option_map (λ x. x.now) y) b.entry }
+{
+    match (a, b) {
+        (Some(a), Some(b)) => same_found(a, b),
+        (None, None) => true,
+        _ => false,
     }
 }

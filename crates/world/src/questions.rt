@@ -1,9 +1,12 @@
 //! Questions, compared and told apart.
-ghost use Rattle.std.specs.Prelude.{◌≡◌, ◌↔◌, IsTrue};
+ghost use Rattle.std.specs.Prelude.{◌≡◌, ◌↔◌, IsTrue, IfOk};
 ghost use Rattle.spec_world.specs.Questions.{about_slot};
 ghost use Rattle.view.specs.Meanings.{question_of};
+ghost use Rattle.world.specs.Listed.{is_listed as is_listed_question};
+ghost use Rattle.world.specs.Sought.{sought_of};
 
 use moo_value::text::Text;
+use std::alloc::AllocError;
 use view::question::Question;
 
 // How many characters of a name its question's mark is made of.
@@ -11,6 +14,70 @@ const COUNTED: usize = 32;
 
 // What spreads numbers over all bits.
 const SPREAD: u64 = 0x9E37_79B9_7F4A_7C15;
+
+/// What is looked for among the questions that were asked.
+#[derive(Clone, Copy)]
+pub(crate) enum Sought<'q> {
+    /// This question.
+    Question(&'q Question),
+    /// The one for the slot of a property on an object.
+    Slot(i32, &'q Text),
+    /// The one for an object's header.
+    Header(i32),
+}
+
+impl<'q> Sought<'q> {
+    /// Its mark, as a question's. Nothing is proved by it.
+    #[inline(always)]
+    pub(crate) fn mark(&self) -> u64 {
+        match self {
+            Sought::Question(question) => mark_of(question),
+            Sought::Slot(object, name) => slot_mark(*object, name),
+            Sought::Header(object) => marked(0, *object),
+        }
+    }
+
+    /// Whether it is this question.
+    #[inline(always)]
+    pub(crate) fn is(&self, question: &Question) -> bool
+        ensures { IsTrue result ↔ sought_of self.now ≡ question_of question.now }
+    {
+        match self {
+            Sought::Question(sought) => same_question(sought, question),
+            Sought::Slot(object, name) => is_slot(*object, name, question),
+            Sought::Header(object) => {
+                matches!(question, Question::Header(other) if *object == *other)
+            }
+        }
+    }
+
+    /// The question itself.
+    #[inline(always)]
+    pub(crate) fn question(&self) -> Result<Question, AllocError>
+        ensures { IfOk result (λ q. question_of q ≡ sought_of self.now) }
+    {
+        match self {
+            Sought::Question(question) => Question::clone(question),
+            Sought::Slot(object, name) => Ok(Question::Slot(*object, Text::clone(name)?)),
+            Sought::Header(object) => Ok(Question::Header(*object)),
+        }
+    }
+}
+
+/// Whether the answer to a question is put together of many records.
+pub(crate) fn is_listed(question: &Question) -> bool
+    ensures { result ≡ is_listed_question (question_of question.now) }
+{
+    matches!(
+        question,
+        Question::Waiting | Question::Readers(_) | Question::Connections(_) | Question::Connected
+    )
+}
+
+// The mark of the question for a slot.
+fn slot_mark(object: i32, name: &Text) -> u64 {
+    named(marked(4, object), name)
+}
 
 /// Whether two questions are the same, the case of letters in names counted. It takes no memory.
 pub(crate) fn same_question(a: &Question, b: &Question) -> bool
@@ -55,7 +122,7 @@ pub(crate) fn mark_of(question: &Question) -> u64 {
         Question::Children(object) => marked(1, *object),
         Question::Contents(object) => marked(2, *object),
         Question::Defines(object) => marked(3, *object),
-        Question::Slot(object, name) => named(marked(4, *object), name),
+        Question::Slot(object, name) => slot_mark(*object, name),
         Question::Verbs(object) => marked(5, *object),
         Question::Task(id) => marked(6, *id),
         Question::Waiting => marked(7, 0),

@@ -10,8 +10,12 @@ ghost use Rattle.world.specs.Revised.{RevisesRecord};
 
 use moo_task::task::Task;
 use std::alloc::AllocError;
+use view::header::Header;
 use view::link::Link;
+use view::lists::{Names, Objects};
 use view::object::Object;
+use view::slot::Slot;
+use view::verb::Verbs;
 use world_table::Table;
 use world_table::revision::Revision;
 
@@ -139,6 +143,36 @@ impl Compared for Link {
 
 impl Compared for Task {
     fn is_same(&self, other: &Task) -> bool {
+        self.same(other)
+    }
+}
+
+impl Compared for Header {
+    fn is_same(&self, other: &Header) -> bool {
+        self.same(other)
+    }
+}
+
+impl Compared for Objects {
+    fn is_same(&self, other: &Objects) -> bool {
+        self.same(other)
+    }
+}
+
+impl Compared for Names {
+    fn is_same(&self, other: &Names) -> bool {
+        self.same(other)
+    }
+}
+
+impl Compared for Slot {
+    fn is_same(&self, other: &Slot) -> bool {
+        self.same(other)
+    }
+}
+
+impl Compared for Verbs {
+    fn is_same(&self, other: &Verbs) -> bool {
         self.same(other)
     }
 }

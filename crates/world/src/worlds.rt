@@ -9,7 +9,7 @@ ghost use Rattle.world.specs.Due.{by_moment, due_ids, first_due_from};
 use crate::count::Count;
 use crate::draft::Draft;
 use crate::prepared::Prepared;
-use crate::reads::Reads;
+use crate::seen::Seen;
 use std::alloc::{AllocError, Global};
 use std::marker::Model;
 use std::snapshot::Snapshot as Remembered;
@@ -96,14 +96,14 @@ impl World {
     }
 
     /// Whether each question that was asked has the answer that was read. It takes no memory.
-    pub fn agrees(&self, reads: &Reads) -> bool
+    pub fn agrees(&self, reads: &Seen) -> bool
         ensures { IsTrue result ↔ Agrees self.now.plain reads.now }
     {
         self.draft.agrees(reads)
     }
 
     /// Whether each question that was asked, but for those about verbs, has the answer that was read. It takes no memory.
-    pub fn agrees_besides(&self, reads: &Reads) -> bool
+    pub fn agrees_besides(&self, reads: &Seen) -> bool
         ensures { IsTrue result ↔ AgreesBesides self.now.plain reads.now }
     {
         self.draft.agrees_besides(reads)

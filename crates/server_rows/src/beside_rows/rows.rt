@@ -11,6 +11,7 @@ use std::sync::Arc;
 use std::test::Fail;
 use std::thread::Threads;
 use task_step::step::{Event, Step, in_range};
+use world::shared::SharedSnapshot;
 use world_fixture::fixture::fixture;
 
 /// How often the board is played.
@@ -55,7 +56,8 @@ fn commits(
     if !in_range(step) {
         return Ok(false);
     }
-    let guess = guess(alloc, &board.snapshot()?, step)?;
+    let snapshot = SharedSnapshot::new(alloc, board.snapshot()?)?;
+    let guess = guess(alloc, &snapshot, step)?;
     Ok(board.post(position, guess).is_ok() && board.advance(alloc)? == 1)
 }
 

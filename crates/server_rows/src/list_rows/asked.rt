@@ -11,7 +11,7 @@ use std::sync::atomic::{AtomicU64, Ordering};
 use std::test::Fail;
 use std::thread::Threads;
 use task_step::step::Step;
-use world::worlds::Snapshot;
+use world::shared::SharedSnapshot;
 use world_fixture::fixture::fixture;
 
 // Counts the guesses that it is asked for, and answers want of memory to position 1.
@@ -25,7 +25,7 @@ impl Gate for CountingGate {
         &self,
         alloc: Global,
         position: usize,
-        snapshot: &Snapshot,
+        snapshot: &SharedSnapshot,
         step: &Step,
     ) -> Result<Guess, AllocError> {
         self.calls.fetch_add(1, Ordering::SeqCst);

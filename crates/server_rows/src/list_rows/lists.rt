@@ -11,7 +11,8 @@ use std::sync::Wait;
 use std::test::Fail;
 use std::thread::Threads;
 use task_step::step::Step;
-use world::worlds::{Snapshot, World};
+use world::shared::SharedSnapshot;
+use world::worlds::World;
 use world_fixture::fixture::fixture;
 use world_fixture::rooms::fixture_with_rooms;
 
@@ -51,7 +52,7 @@ fn by_one(alloc: Global) -> Result<Vec<Line>, AllocError> {
 fn posts_all(
     alloc: Global,
     board: &mut Board,
-    snapshot: &Snapshot,
+    snapshot: &SharedSnapshot,
     steps: &[Step],
 ) -> Result<bool, AllocError> {
     for (position, step) in steps.iter().enumerate() {
@@ -75,7 +76,7 @@ fn board_with_guesses(
     let Some(mut board) = board_on(alloc, world, row)? else {
         return Ok(None);
     };
-    let opening = board.snapshot()?;
+    let opening = SharedSnapshot::new(alloc, board.snapshot()?)?;
     let has_all = posts_all(alloc, &mut board, &opening, steps.as_slice())?;
     Ok(if has_all { Some(board) } else { None })
 }

@@ -5,6 +5,7 @@ use speculate::held::Mark;
 use std::alloc::{AllocError, Global};
 use std::test::Fail;
 use task_step::step::Step;
+use world::shared::SharedSnapshot;
 use world_fixture::fixture::fixture;
 
 /// A call of a board, and what it answers.
@@ -48,7 +49,8 @@ fn posts(
     step: &Step,
     wanted: Option<Refused>,
 ) -> Result<bool, AllocError> {
-    let Some(guess) = guess_of(alloc, &board.snapshot()?, step)? else {
+    let snapshot = SharedSnapshot::new(alloc, board.snapshot()?)?;
+    let Some(guess) = guess_of(alloc, &snapshot, step)? else {
         return Ok(false);
     };
     Ok(match board.post(position, guess) {

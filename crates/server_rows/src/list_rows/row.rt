@@ -14,7 +14,8 @@ use std::sync::Wait;
 use std::thread::Threads;
 use task_step::outcome::{Ending, Outcome};
 use task_step::step::{Event, Step, in_range};
-use world::worlds::{Snapshot, World};
+use world::shared::SharedSnapshot;
+use world::worlds::World;
 
 /// A line `count` of a connection, and what it gives.
 #[derive(Clone, Copy)]
@@ -77,7 +78,7 @@ pub(super) fn steps_of(alloc: Global, row: &[Line]) -> Result<Vec<Step>, AllocEr
 /// A guess of a step, if that is in range.
 pub(super) fn guess_of(
     alloc: Global,
-    snapshot: &Snapshot,
+    snapshot: &SharedSnapshot,
     step: &Step,
 ) -> Result<Option<Guess>, AllocError> {
     if !in_range(step) {

@@ -62,8 +62,11 @@ parent_lightly cs w o all = same_parent (header_at (apply_all cs w) o) (header_a
 same_verbs : (x y : Option (List Verb)) → the_verbs x ≡ the_verbs y → x ≡ y
 same_verbs x y is = cc
 
+pub verbs_by_answer : (v w : World) (o : ℤ) → ask v (about_verbs o) ≡ ask w (about_verbs o) → verbs_at v o ≡ verbs_at w o
+verbs_by_answer v w o is = same_verbs (verbs_at v o) (verbs_at w o) is
+
 pub verbs_alike : (v w : World) (o : ℤ) → AnswersAlike v w → verbs_at v o ≡ verbs_at w o
-verbs_alike v w o alike = same_verbs (verbs_at v o) (verbs_at w o) (alike (about_verbs o))
+verbs_alike v w o alike = verbs_by_answer v w o (alike (about_verbs o))
 
 --- no light change gives an object other verbs
 pub verbs_lightly : (cs : List Change) (w : World) (o : ℤ) → AllLight cs → verbs_at (apply_all cs w) o ≡ verbs_at w o

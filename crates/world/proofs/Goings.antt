@@ -3,16 +3,16 @@ use Rattle.std.proofs.Common.{Result, Ok, Err, IfOk, OnOk, OnErr, ◌≡◌, ℤ
 use Rattle.std.specs.Prelude.{option_map}
 use Rattle.std.proofs.lemmas.List.{map-append}
 use Rattle.spec_value.specs.Datum.{Text}
-use Rattle.spec_world.specs.World.{World, Slot}
+use Rattle.spec_world.specs.World.{World, Slot, Verb}
 use Rattle.spec_world.specs.Inherit.{slot_at}
-use Rattle.spec_world.specs.Questions.{Question, Answer, ask, header_at, about_header, about_slot, Agrees, apply_all}
+use Rattle.spec_world.specs.Questions.{Question, Answer, ask, header_at, verbs_at, about_header, about_slot, about_verbs, Agrees, apply_all}
 use Rattle.view.specs.Sound.{IsSound}
 use Rattle.view.specs.Law.{Tells}
 use Rattle.view.specs.Meanings.{question_of}
 use Rattle.world.specs.Seen.{read_on}
 use Rattle.world.specs.Trace.{Trace, IsStart, IsTold, world_now}
 use Rattle.world.specs.declared.noted.Noted.{Noted}
-use Rattle.world.proofs.Alike.{slot_by_answer, parent_by_answer}
+use Rattle.world.proofs.Alike.{slot_by_answer, parent_by_answer, verbs_by_answer}
 use Rattle.world.proofs.Found.{given}
 use Rattle.world.proofs.History.{agrees_more, agrees_before, agrees_last, answered_now}
 
@@ -105,6 +105,14 @@ goes_by_parent (Ok p) old new o sound told now = λ w is.
     let goes = goes_on old new (about_header o) (ask (apply_all new.changes new.home) (about_header o)) sound told refl w is in
     (goes.0, (goes.1.0, parent_by_answer (apply_all old.changes w) (apply_all new.changes new.home) o goes.1.1 ∙ sym now))
 goes_by_parent (Err e) old new o sound told now = tt
+
+-- the same of verbs that come
+pub goes_by_verbs : {E : Type 0} (result : Result (Option (List Verb)) E) (old new : Trace) (o : ℤ) → IsSound new.home → OnOk result (IsTold old new (about_verbs o))
+    → IfOk result (λ vs. vs ≡ verbs_at (apply_all new.changes new.home) o) → IfOk result (λ vs. Tells IsStart world_now old new (λ w. verbs_at w o ≡ vs))
+goes_by_verbs (Ok vs) old new o sound told now = λ w is.
+    let goes = goes_on old new (about_verbs o) (ask (apply_all new.changes new.home) (about_verbs o)) sound told refl w is in
+    (goes.0, (goes.1.0, verbs_by_answer (apply_all old.changes w) (apply_all new.changes new.home) o goes.1.1 ∙ sym now))
+goes_by_verbs (Err e) old new o sound told now = tt
 
 -- a start that answers as home does is left
 pub stays : (old new : Trace) (q : Question) (w : World) → IsTold old new q → IsStart old w → ask w q ≡ ask old.home q → IsStart new w

@@ -24,6 +24,8 @@ pub(crate) enum Sought<'q> {
     Slot(i32, &'q Text),
     /// The one for an object's header.
     Header(i32),
+    /// The one for an object's verbs.
+    Verbs(i32),
 }
 
 impl<'q> Sought<'q> {
@@ -34,6 +36,7 @@ impl<'q> Sought<'q> {
             Sought::Question(question) => mark_of(question),
             Sought::Slot(object, name) => slot_mark(*object, name),
             Sought::Header(object) => marked(0, *object),
+            Sought::Verbs(object) => marked(5, *object),
         }
     }
 
@@ -48,6 +51,9 @@ impl<'q> Sought<'q> {
             Sought::Header(object) => {
                 matches!(question, Question::Header(other) if *object == *other)
             }
+            Sought::Verbs(object) => {
+                matches!(question, Question::Verbs(other) if *object == *other)
+            }
         }
     }
 
@@ -60,6 +66,7 @@ impl<'q> Sought<'q> {
             Sought::Question(question) => Question::clone(question),
             Sought::Slot(object, name) => Ok(Question::Slot(*object, Text::clone(name)?)),
             Sought::Header(object) => Ok(Question::Header(*object)),
+            Sought::Verbs(object) => Ok(Question::Verbs(*object)),
         }
     }
 }

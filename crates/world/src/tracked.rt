@@ -1,7 +1,7 @@
 //! A view of a snapshot that keeps what was read.
 ghost use Rattle.std.specs.Prelude.{◌≡◌, [], IsFalse, option_map, IfOk, OnOk};
 ghost use Rattle.spec_world.specs.Inherit.{slot_at};
-ghost use Rattle.spec_world.specs.Questions.{ask, apply, apply_all, header_at, about_header, about_slot, Agrees};
+ghost use Rattle.spec_world.specs.Questions.{ask, apply, apply_all, header_at, verbs_at, about_header, about_slot, about_verbs, Agrees};
 ghost use Rattle.view.specs.Meanings.{question_of, answer_of, change_of};
 ghost use Rattle.view.specs.Sound.{IsSound};
 ghost use Rattle.view.specs.Law.{Goes, Keeps};
@@ -23,6 +23,7 @@ use view::changes::Changes;
 use view::law::View;
 use view::question::{Answer, Question};
 use view::slot::Slot;
+use view::verb::Verbs;
 
 /// A view of a snapshot. It keeps the questions, whose answers are the snapshot's, and the changes; the snapshot stays as it is.
 #[derive(Drop)]
@@ -203,6 +204,19 @@ impl<'s> Tracked<'s> {
         self.note(Sought::Header(object))?;
         Ok(self.overlay.parent(object))
     }
+
+    // An object's own verbs. That they were asked for is kept.
+    #[inline(always)]
+    #[tactic(auto, using(crate::proofs::Goings::on_ok))]
+    fn verbs_now(&mut self, object: i32) -> Result<Option<Verbs>, AllocError>
+        ensures told { OnOk result (IsTold self.old self.new (about_verbs object)) }
+        ensures verbs { IfOk result (λ vs. vs ≡ verbs_at (apply_all self.new.changes self.new.home) object) }
+        ensures known { IsSound self.new.home × Agrees self.new.home self.new.reads }
+        ensures home { self.new.home ≡ self.old.home }
+    {
+        self.note(Sought::Verbs(object))?;
+        self.overlay.verbs(object).cloned()
+    }
 }
 
 impl<'s> View for Tracked<'s> {
@@ -231,6 +245,11 @@ impl<'s> View for Tracked<'s> {
     #[tactic(auto, using(crate::proofs::Goings::stays))]
     fn parent(&mut self, object: i32) -> Result<Option<i32>, AllocError> {
         self.parent_now(object)
+    }
+
+    #[tactic(auto, using(crate::proofs::Goings::stays))]
+    fn verbs(&mut self, object: i32) -> Result<Option<Verbs>, AllocError> {
+        self.verbs_now(object)
     }
 
     #[tactic(auto, using(crate::proofs::History::apply_all_last))]

@@ -22,7 +22,8 @@ pub fn guess(alloc: Global, snapshot: &SharedSnapshot, step: &Step) -> Result<Gu
     ensures before { IfOk result (λ g. g.before ≡ snapshot.now) }
 {
     let mut view = Tracked::over(alloc, snapshot);
-    let outcome = run_step(alloc, &mut view, step)?;
+    let mut rooms = Rooms::new(alloc);
+    let outcome = run_step(alloc, &mut view, &mut rooms, step)?;
     let (reads, changes) = view.finish()?;
     Ok(Guess {
         step: step.clone()?,

@@ -24,7 +24,7 @@ pub fn guess(alloc: Global, snapshot: &SharedSnapshot, step: &Step) -> Result<Gu
     let mut view = Tracked::over(alloc, snapshot);
     let mut rooms = Rooms::new(alloc);
     let outcome = run_step(alloc, &mut view, &mut rooms, step)?;
-    let (reads, changes) = view.finish()?;
+    let (reads, changes) = view.finish();
     Ok(Guess {
         step: step.clone()?,
         reads,

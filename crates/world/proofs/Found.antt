@@ -1,10 +1,10 @@
 -- A question that is found among those that were asked.
-use Rattle.std.proofs.Common.{◌≡◌, ◌<◌, ℕ, zero, suc, List, [], ◌∷◌, map, length, Contains, slice_index_or, arith, refl, sym, ap, subst}
+use Rattle.std.proofs.Common.{◌≡◌, ◌<◌, ℕ, zero, suc, List, [], ◌∷◌, map, length, Option, Some, None, IfSome, Contains, slice_index_or, arith, refl, sym, ap, subst}
 use Rattle.spec_world.specs.World.{World}
 use Rattle.spec_world.specs.Questions as meant
 use Rattle.spec_world.specs.Questions.{ask, Agrees}
 use Rattle.view.specs.Meanings.{question_of}
-use Rattle.world.specs.Seen.{read_on}
+use Rattle.world.specs.Seen.{read_on, seen_of}
 use Rattle.world.specs.declared.noted.Noted.{Noted}
 
 -- what stands at a place is there
@@ -35,3 +35,14 @@ given_at w (s ∷ rs) (suc k) r of_w under is = given_at w rs k r of_w.1 (omega 
 -- a world that agrees with reads gives each of their answers
 pub given : (w : World) (rs : List meant.Read) (r : meant.Read) → Contains rs r → Agrees w rs → ask w r.question ≡ r.answer
 given w rs r among of_w = given_at w rs among.0 r of_w among.1 among.2
+
+-- with the world that was asked, what was asked is what was read
+pub held : (own : Option World) (home : World) (ns : List Noted) → IfSome own (λ w. w ≡ home) → (own ≡ None → ns ≡ []) → seen_of own ns ≡ map (read_on home) ns
+held None home ns is none = ap (map (read_on home)) (sym (none refl))
+held (Some w) home ns is none = ap (λ v. map (read_on v) ns) is
+
+pub held_by_one : (own : Option World) (w : World) → own ≡ Some w → IfSome own (λ v. v ≡ w)
+held_by_one own w is = subst (λ o. IfSome o (λ v. v ≡ w)) (sym is) refl
+
+pub held_by_some : {X : Type 0} (own : Option World) (w : World) (a b : X) → own ≡ Some w → own ≡ None → a ≡ b
+held_by_some own w a b is none = cc

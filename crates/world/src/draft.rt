@@ -491,7 +491,9 @@ impl Draft {
     pub(crate) fn agrees(&self, seen: &Seen) -> bool
         ensures { IsTrue result ↔ Agrees self.now seen.now }
     {
-        let (home, notes) = seen.parts();
+        let Some((home, notes)) = seen.parts() else {
+            return true;
+        };
         for noted in notes {
             if !self.still_answers(home, noted) {
                 return false;
@@ -514,7 +516,9 @@ impl Draft {
     pub(crate) fn agrees_besides(&self, seen: &Seen) -> bool
         ensures { IsTrue result ↔ AgreesBesides self.now seen.now }
     {
-        let (home, notes) = seen.parts();
+        let Some((home, notes)) = seen.parts() else {
+            return true;
+        };
         for noted in notes {
             if !self.still_answers_besides(home, noted) {
                 return false;

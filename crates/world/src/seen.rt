@@ -1,5 +1,5 @@
 //! What was read of a snapshot.
-ghost use Rattle.std.specs.Prelude.{◌≡◌, map};
+ghost use Rattle.std.specs.Prelude.{◌≡◌, [], map, MatchOption};
 ghost use Rattle.world.specs.Seen.{read_on};
 
 use crate::draft::Draft;
@@ -8,32 +8,33 @@ use crate::shared::SharedSnapshot;
 use std::marker::Model;
 
 /// What was read of a snapshot: the questions, in the order in which they were asked, and the snapshot, which has their answers. So no answer has one more
-/// owner because it was read.
+/// owner because it was read. Where nothing was asked, there is no snapshot.
 #[derive(Drop)]
 pub struct Seen {
-    pub(crate) home: SharedSnapshot,
+    pub(crate) home: Option<SharedSnapshot>,
     pub(crate) notes: Vec<Noted>,
 }
 
 impl Model for Seen {
-    ghost use Rattle.std.specs.Prelude.{List, map};
+    ghost use Rattle.std.specs.Prelude.{List};
     ghost use Rattle.std.specs.Coded.{coded_list};
     ghost use Rattle.spec_world.specs.Questions.{Read};
     ghost use Rattle.view.specs.QuestionCode.{read_code};
-    ghost use Rattle.world.specs.Seen.{read_on};
+    ghost use Rattle.world.specs.Seen.{seen_of};
 
     ghost Value = { List Read };
 
     ghost coded = { coded_list read_code };
 
-    ghost view = { λ a. map (read_on a.home) a.notes.items };
+    ghost view = { λ a. seen_of a.home a.notes.items };
 }
 
 impl Seen {
-    /// The records of the snapshot, and the questions.
-    pub(crate) fn parts(&self) -> (&Draft, &[Noted])
-        ensures { map (read_on result.0.now) result.1.now ≡ self.now }
+    /// The records of the snapshot, and the questions. None where nothing was asked.
+    pub(crate) fn parts(&self) -> Option<(&Draft, &[Noted])>
+        ensures { MatchOption result (self.now ≡ []) (λ r. map (read_on r.0.now) r.1.now ≡ self.now) }
     {
-        (self.home.records(), self.notes.as_slice())
+        let home = self.home.as_ref()?;
+        Some((home.records(), self.notes.as_slice()))
     }
 }

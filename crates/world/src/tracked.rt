@@ -1,5 +1,5 @@
 //! A view of a snapshot that keeps what was read.
-ghost use Rattle.std.specs.Prelude.{◌≡◌, [], IsFalse, option_map, IfOk, OnOk};
+ghost use Rattle.std.specs.Prelude.{◌≡◌, [], Some, IsFalse, option_map, IfSome, IfOk, OnOk, OnErr};
 ghost use Rattle.spec_world.specs.Inherit.{slot_at};
 ghost use Rattle.spec_world.specs.Questions.{ask, apply, apply_all, header_at, verbs_at, about_header, about_slot, about_verbs, Agrees};
 ghost use Rattle.view.specs.Meanings.{question_of, answer_of, change_of};
@@ -31,11 +31,13 @@ pub struct Tracked<'s> {
     overlay: Overlay<'s>,
     asked: Asked,
     snapshot: &'s SharedSnapshot,
+    // One owner more of the snapshot, as soon as something is asked.
+    own: Option<SharedSnapshot>,
     alloc: Global,
 }
 
 impl<'s> Model for Tracked<'s> {
-    ghost use Rattle.std.specs.Prelude.{◌≡◌, map};
+    ghost use Rattle.std.specs.Prelude.{◌≡◌, [], None, map, IfSome};
     ghost use Rattle.spec_world.specs.Questions.{Agrees};
     ghost use Rattle.view.specs.Sound.{IsSound};
     ghost use Rattle.world.specs.Seen.{read_on};
@@ -47,7 +49,7 @@ impl<'s> Model for Tracked<'s> {
 
     ghost view = { λ a. record { home = a.overlay.home; reads = map (read_on a.overlay.home) a.asked.notes.items; changes = a.overlay.changes } };
 
-    ghost invariant = { λ a. IsSound a.overlay.home × Agrees a.overlay.home (map (read_on a.overlay.home) a.asked.notes.items) × (a.snapshot.now ≡ a.overlay.home) };
+    ghost invariant = { λ a. IsSound a.overlay.home × Agrees a.overlay.home (map (read_on a.overlay.home) a.asked.notes.items) × (a.snapshot.now ≡ a.overlay.home) × IfSome a.own (λ s. s ≡ a.snapshot.now) × (a.own ≡ None → a.asked.notes.items ≡ []) };
 }
 
 impl<'s> Tracked<'s> {
@@ -61,31 +63,28 @@ impl<'s> Tracked<'s> {
             overlay: Overlay::over(alloc, snapshot.records()),
             asked: Asked::new(alloc),
             snapshot,
+            own: None,
             alloc,
         }
     }
 
     /// What was read, and what is to change.
-    pub fn finish(self) -> Result<(Seen, Changes), AllocError>
-        ensures reads { IfOk result (λ r. r.0 ≡ self.entry.reads) }
-        ensures changes { IfOk result (λ r. r.1 ≡ self.entry.changes) }
+    #[tactic(auto, using(crate::proofs::Found::held))]
+    pub fn finish(self) -> (Seen, Changes)
+        ensures reads { result.0 ≡ self.entry.reads }
+        ensures changes { result.1 ≡ self.entry.changes }
         ensures agrees { Agrees self.entry.home self.entry.reads }
     {
         let Tracked {
             overlay,
             asked,
-            snapshot,
+            snapshot: _,
+            own,
             alloc: _,
         } = self;
         let (changes, _fork) = overlay.finish();
-        let home = snapshot.clone()?;
-        Ok((
-            Seen {
-                home,
-                notes: asked.into_notes(),
-            },
-            changes,
-        ))
+        let notes = asked.into_notes();
+        (Seen { home: own, notes }, changes)
     }
 
     // What is sought is asked, unless it was. It is no list.
@@ -114,6 +113,7 @@ impl<'s> Tracked<'s> {
         let _known = self.alloc;
         let question = sought.question()?;
         let answer = None;
+        hold(&mut self.own, self.snapshot)?;
         self.asked.push(mark, Noted { question, answer })
     }
 
@@ -177,6 +177,7 @@ impl<'s> Tracked<'s> {
         let question = question.clone()?;
         let boxed = Box::new(alloc, home)?;
         let answer = Some(boxed);
+        hold(&mut self.own, self.snapshot)?;
         self.asked.push(mark, Noted { question, answer })
     }
 
@@ -256,4 +257,17 @@ impl<'s> View for Tracked<'s> {
     fn put(&mut self, change: Change) -> Result<(), AllocError> {
         self.overlay.put(change)
     }
+}
+
+// The snapshot has one owner more, if this is none yet.
+#[inline(always)]
+fn hold(own: &mut Option<SharedSnapshot>, snapshot: &SharedSnapshot) -> Result<(), AllocError>
+    requires { IfSome own.old (λ s. s ≡ snapshot.now) }
+    ensures ok { OnOk result (own.new ≡ Some snapshot.now) }
+    ensures err { OnErr result (own.new ≡ own.old) }
+{
+    if own.is_none() {
+        *own = Some(snapshot.clone()?);
+    }
+    Ok(())
 }

@@ -3,6 +3,7 @@ use Rattle.spec_world.specs.Questions.{Agrees, ask}
 use Rattle.world.specs.Seen.{read_on}
 use Rattle.world.specs.Sought.{sought_of}
 use Rattle.world.specs.Trace.{Trace, IsTold}
+use Rattle.world.proofs.Found.{held_by_one, held_by_some}
 use Rattle.world.proofs.Goings.{agrees_longer, kept_told, on_either, on_good}
 use Rattle.world.proofs.tracked.Tracked.keep.Goals as goal
 
@@ -14,6 +15,8 @@ invariant_of-self c =
           (λ is. agrees_longer home c.self.inside.asked.notes.items c.push.new.self.notes.items _ is c.self.invariant.1 refl)
           (λ is. subst (λ ns. Agrees home (map (read_on home) ns)) (sym is) c.self.invariant.1),
       c.self.invariant.2,
+      held_by_one _ _ c.in_ok-hold.ensures.ok,
+      held_by_some _ _ _ _ c.in_ok-hold.ensures.ok,
     )
 
 pub returns-clause-told : goal.returns-clause-told

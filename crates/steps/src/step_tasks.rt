@@ -2,6 +2,7 @@
 //!
 //! What is said of a view here is said of each world that it still allows.
 pub mod begin;
+pub mod finish;
 pub mod opening;
 pub mod outcome;
 pub mod system;

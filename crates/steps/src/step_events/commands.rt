@@ -13,14 +13,15 @@ ghost use Rattle.player_commands.specs.declared.command_parser.command.Command.T
 ghost use Rattle.moo_task.specs.Deeds.{scene_of};
 ghost use Rattle.moo_task.specs.Outcomes.{ticks_of};
 ghost use Rattle.view.specs.Law.{Goes, Lasts};
-ghost use Rattle.steps.specs.StepsPerformed.{StepsTo};
+ghost use Rattle.steps.specs.StepsPerformed.{ComesTo};
 ghost use Rattle.steps.specs.Ready.{AreReady};
 ghost use Rattle.steps.specs.Tasks.{MayRun};
 
 use crate::step_links::programming::request;
 use crate::step_runs::play::play_task;
 use crate::step_tasks::begin::{begin, program_of};
-use crate::step_tasks::opening::{FOREGROUND_TICKS, nothing, says};
+use crate::step_tasks::finish::Finish;
+use crate::step_tasks::opening::{FOREGROUND_TICKS, says};
 use builtins_view::builtins_world::values::texts_value;
 use moo_program::program::Program;
 use moo_task::deeds::Deeds;
@@ -35,7 +36,6 @@ use player_commands::object_match::place::location;
 use rules::inherit::verb::FoundVerb;
 use std::alloc::{AllocError, Global};
 use step_deeds::natives::Natives;
-use task_step::outcome::Outcome;
 use view::law::View;
 use view::link::Link;
 
@@ -44,17 +44,17 @@ pub fn player_line<V: View, N: Natives>(
     alloc: Global,
     view: &mut V,
     natives: &mut N,
-    deeds: Deeds,
+    deeds: &mut Deeds,
     connection: i32,
     link: &Link,
     text: &Text,
-) -> Result<Outcome, AllocError>
+) -> Result<Finish, AllocError>
     requires home { V.holds view.old (V.home view.old) }
-    requires ready { AreReady V.holds V.now view.old deeds }
+    requires ready { AreReady V.holds V.now view.old deeds.old }
     requires link { (w : World) → V.holds view.old w → at (V.now view.old w).links connection ≡ Some link.now }
     ensures lasts { Lasts V.holds V.home V.anchor view.old view.new result }
     ensures played { IfOk result (λ o. Goes V.holds V.now view.old view.new (λ before after.
-        StepsTo (player_line_of (scene_of deeds before foreground_ticks) connection link.now.person text.now) after o)) }
+        ComesTo (player_line_of (scene_of deeds.old before foreground_ticks) connection link.now.person text.now) after deeds.new o)) }
 {
     text.know();
     let command = parse(alloc, view, link.person, text)?;
@@ -66,20 +66,20 @@ fn run_command<V: View, N: Natives>(
     alloc: Global,
     view: &mut V,
     natives: &mut N,
-    deeds: Deeds,
+    deeds: &mut Deeds,
     connection: i32,
     link: &Link,
     command: Command,
-) -> Result<Outcome, AllocError>
+) -> Result<Finish, AllocError>
     requires home { V.holds view.old (V.home view.old) }
-    requires ready { AreReady V.holds V.now view.old deeds }
+    requires ready { AreReady V.holds V.now view.old deeds.old }
     requires link { (w : World) → V.holds view.old w → at (V.now view.old w).links connection ≡ Some link.now }
     ensures lasts { Lasts V.holds V.home V.anchor view.old view.new result }
     ensures played { IfOk result (λ o. Goes V.holds V.now view.old view.new (λ before after.
-        StepsTo (command_run (scene_of deeds before foreground_ticks) connection link.now.person (command_of command)) after o)) }
+        ComesTo (command_run (scene_of deeds.old before foreground_ticks) connection link.now.person (command_of command)) after deeds.new o)) }
 {
     match command {
-        Command::Empty => nothing(alloc, &deeds),
+        Command::Empty => Ok(Finish::nothing()),
         Command::Program(asked) => request(alloc, view, deeds, connection, link, asked),
         Command::Verb(said, meant) => run_verb(
             alloc,
@@ -108,16 +108,16 @@ fn run_verb<V: View, N: Natives>(
     alloc: Global,
     view: &mut V,
     natives: &mut N,
-    deeds: Deeds,
+    deeds: &mut Deeds,
     player: i32,
     said: Said,
     meant: Meant,
-) -> Result<Outcome, AllocError>
+) -> Result<Finish, AllocError>
     requires home { V.holds view.old (V.home view.old) }
-    requires ready { AreReady V.holds V.now view.old deeds }
+    requires ready { AreReady V.holds V.now view.old deeds.old }
     ensures lasts { Lasts V.holds V.home V.anchor view.old view.new result }
     ensures played { IfOk result (λ o. (c : ℤ) → Goes V.holds V.now view.old view.new (λ before after.
-        StepsTo (command_run (scene_of deeds before foreground_ticks) c player (command_of (CallsVerb said meant))) after o)) }
+        ComesTo (command_run (scene_of deeds.old before foreground_ticks) c player (command_of (CallsVerb said meant))) after deeds.new o)) }
 {
     let Meant { this, verb } = meant;
     let word = said.parts.verb.clone()?;
@@ -133,16 +133,16 @@ fn run_huh<V: View, N: Natives>(
     alloc: Global,
     view: &mut V,
     natives: &mut N,
-    deeds: Deeds,
+    deeds: &mut Deeds,
     player: i32,
     said: Said,
     found: &FoundVerb,
-) -> Result<Outcome, AllocError>
+) -> Result<Finish, AllocError>
     requires home { V.holds view.old (V.home view.old) }
-    requires ready { AreReady V.holds V.now view.old deeds }
+    requires ready { AreReady V.holds V.now view.old deeds.old }
     ensures lasts { Lasts V.holds V.home V.anchor view.old view.new result }
     ensures played { IfOk result (λ o. (c : ℤ) → Goes V.holds V.now view.old view.new (λ before after.
-        StepsTo (command_run (scene_of deeds before foreground_ticks) c player (calls_huh (parts_of said.parts) (named_of said) found.now)) after o)) }
+        ComesTo (command_run (scene_of deeds.old before foreground_ticks) c player (calls_huh (parts_of said.parts) (named_of said) found.now)) after deeds.new o)) }
 {
     let room = location(view, player)?;
     let word = Text::from_str(alloc, "huh")?;

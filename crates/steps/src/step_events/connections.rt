@@ -11,7 +11,7 @@ ghost use Rattle.spec_moo.specs.Steps.Running.{system, system_task as system_tas
 ghost use Rattle.moo_task.specs.Deeds.{scene_of};
 ghost use Rattle.moo_task.specs.Outcomes.{ticks_of};
 ghost use Rattle.view.specs.Law.{Goes, Lasts};
-ghost use Rattle.steps.specs.StepsPerformed.{StepsTo};
+ghost use Rattle.steps.specs.StepsPerformed.{ComesTo};
 ghost use Rattle.steps.specs.Ready.{AreReady};
 ghost use Rattle.steps.specs.Tasks.{MayRun};
 ghost use Rattle.steps.specs.Opens.{IsOpening};
@@ -19,8 +19,8 @@ ghost use Rattle.steps.specs.Opens.{IsOpening};
 use crate::step_events::login::login;
 use crate::step_links::logins::{connection_object, is_nobodys, one_object};
 use crate::step_runs::play::play_task;
-use crate::step_tasks::opening::{FOREGROUND_TICKS, nothing};
-use crate::step_tasks::outcome::idle;
+use crate::step_tasks::finish::Finish;
+use crate::step_tasks::opening::FOREGROUND_TICKS;
 use crate::step_tasks::system::{on_system, system_task};
 use moo_task::deeds::Deeds;
 use moo_task::running::Running;
@@ -30,7 +30,7 @@ use rules::inherit::verb::FoundVerb;
 use std::alloc::{AllocError, Global};
 use step_deeds::links::close_link;
 use step_deeds::natives::Natives;
-use task_step::outcome::{Ending, Outcome};
+use task_step::outcome::Ending;
 use view::law::View;
 use view::link::Link;
 use view::readers::{read_link, write_link};
@@ -41,19 +41,19 @@ pub fn open<V: View, N: Natives>(
     alloc: Global,
     view: &mut V,
     natives: &mut N,
-    deeds: Deeds,
+    deeds: &mut Deeds,
     connection: i32,
-) -> Result<Outcome, AllocError>
+) -> Result<Finish, AllocError>
     requires home { V.holds view.old (V.home view.old) }
-    requires ready { AreReady V.holds V.now view.old deeds }
+    requires ready { AreReady V.holds V.now view.old deeds.old }
     requires connection { IsTrue (is_connection connection) }
     ensures lasts { Lasts V.holds V.home V.anchor view.old view.new result }
-    ensures played { IfOk result (λ o. (s : StepOf) → IsOpening s deeds → Goes V.holds V.now view.old view.new
-        (λ before after. StepsTo (opened_link s before connection (at before.links connection)) after o)) }
+    ensures played { IfOk result (λ o. (s : StepOf) → IsOpening s deeds.old → Goes V.holds V.now view.old view.new
+        (λ before after. ComesTo (opened_link s before connection (at before.links connection)) after deeds.new o)) }
 {
     let link = read_link(view, connection)?;
     match link {
-        Some(_) => Ok(idle(alloc, Ending::Nothing)),
+        Some(_) => Ok(Finish::idle(Ending::Nothing)),
         None => {
             let outcome = open_new(alloc, view, natives, deeds, connection)?;
             Ok(outcome)
@@ -66,16 +66,16 @@ fn open_new<V: View, N: Natives>(
     alloc: Global,
     view: &mut V,
     natives: &mut N,
-    deeds: Deeds,
+    deeds: &mut Deeds,
     connection: i32,
-) -> Result<Outcome, AllocError>
+) -> Result<Finish, AllocError>
     requires home { V.holds view.old (V.home view.old) }
-    requires ready { AreReady V.holds V.now view.old deeds }
+    requires ready { AreReady V.holds V.now view.old deeds.old }
     requires connection { IsTrue (is_connection connection) }
     requires new { (w : World) → V.holds view.old w → at (V.now view.old w).links connection ≡ None }
     ensures lasts { Lasts V.holds V.home V.anchor view.old view.new result }
-    ensures played { IfOk result (λ o. (s : StepOf) → IsOpening s deeds → Goes V.holds V.now view.old view.new
-        (λ before after. StepsTo (opened_link s before connection None) after o)) }
+    ensures played { IfOk result (λ o. (s : StepOf) → IsOpening s deeds.old → Goes V.holds V.now view.old view.new
+        (λ before after. ComesTo (opened_link s before connection None) after deeds.new o)) }
 {
     let object = connection_object(connection);
     write_link(view, connection, Some(Link::new(object)))?;
@@ -91,15 +91,15 @@ pub fn close<V: View, N: Natives>(
     alloc: Global,
     view: &mut V,
     natives: &mut N,
-    deeds: Deeds,
+    deeds: &mut Deeds,
     connection: i32,
-) -> Result<Outcome, AllocError>
+) -> Result<Finish, AllocError>
     requires home { V.holds view.old (V.home view.old) }
-    requires ready { AreReady V.holds V.now view.old deeds }
+    requires ready { AreReady V.holds V.now view.old deeds.old }
     requires connection { IsTrue (is_connection connection) }
     ensures lasts { Lasts V.holds V.home V.anchor view.old view.new result }
-    ensures played { IfOk result (λ o. (s : StepOf) → IsOpening s deeds → Goes V.holds V.now view.old view.new
-        (λ before after. StepsTo (closed_link s before connection (at before.links connection)) after o)) }
+    ensures played { IfOk result (λ o. (s : StepOf) → IsOpening s deeds.old → Goes V.holds V.now view.old view.new
+        (λ before after. ComesTo (closed_link s before connection (at before.links connection)) after deeds.new o)) }
 {
     let link = read_link(view, connection)?;
     match link {
@@ -108,7 +108,7 @@ pub fn close<V: View, N: Natives>(
             let outcome = gone(alloc, view, natives, deeds, connection, link.person)?;
             Ok(outcome)
         }
-        None => Ok(idle(alloc, Ending::Nothing)),
+        None => Ok(Finish::idle(Ending::Nothing)),
     }
 }
 
@@ -117,20 +117,20 @@ fn gone<V: View, N: Natives>(
     alloc: Global,
     view: &mut V,
     natives: &mut N,
-    deeds: Deeds,
+    deeds: &mut Deeds,
     connection: i32,
     person: i32,
-) -> Result<Outcome, AllocError>
+) -> Result<Finish, AllocError>
     requires home { V.holds view.old (V.home view.old) }
-    requires ready { AreReady V.holds V.now view.old deeds }
+    requires ready { AreReady V.holds V.now view.old deeds.old }
     requires connection { IsTrue (is_connection connection) }
     ensures lasts { Lasts V.holds V.home V.anchor view.old view.new result }
     ensures played { IfOk result (λ o. Goes V.holds V.now view.old view.new
-        (λ before after. StepsTo (gone_of (scene_of deeds before foreground_ticks) connection person) after o)) }
+        (λ before after. ComesTo (gone_of (scene_of deeds.old before foreground_ticks) connection person) after deeds.new o)) }
 {
     let nobodys = is_nobodys(connection, person);
     if nobodys {
-        let outcome = nothing(alloc, &deeds)?;
+        let outcome = Finish::nothing();
         return Ok(outcome);
     }
     let outcome = player_gone(alloc, view, natives, deeds, person)?;
@@ -142,14 +142,14 @@ fn player_gone<V: View, N: Natives>(
     alloc: Global,
     view: &mut V,
     natives: &mut N,
-    deeds: Deeds,
+    deeds: &mut Deeds,
     player: i32,
-) -> Result<Outcome, AllocError>
+) -> Result<Finish, AllocError>
     requires home { V.holds view.old (V.home view.old) }
-    requires ready { AreReady V.holds V.now view.old deeds }
+    requires ready { AreReady V.holds V.now view.old deeds.old }
     ensures lasts { Lasts V.holds V.home V.anchor view.old view.new result }
     ensures played { IfOk result (λ o. Goes V.holds V.now view.old view.new (λ before after.
-        StepsTo (told_gone (scene_of deeds before foreground_ticks) player (find_verb before system (codes "user_disconnected"))) after o)) }
+        ComesTo (told_gone (scene_of deeds.old before foreground_ticks) player (find_verb before system (codes "user_disconnected"))) after deeds.new o)) }
 {
     let found = on_system(view, "user_disconnected")?;
     match found {
@@ -159,7 +159,7 @@ fn player_gone<V: View, N: Natives>(
             Ok(outcome)
         }
         None => {
-            let outcome = nothing(alloc, &deeds)?;
+            let outcome = Finish::nothing();
             Ok(outcome)
         }
     }

@@ -10,7 +10,7 @@ ghost use Rattle.spec_moo.specs.Steps.Events.{line_on, line_taken, line_read, li
 ghost use Rattle.spec_value.specs.Datum.{list};
 ghost use Rattle.moo_task.specs.Deeds.{scene_of};
 ghost use Rattle.view.specs.Law.{Goes, Lasts};
-ghost use Rattle.steps.specs.StepsPerformed.{StepsTo};
+ghost use Rattle.steps.specs.StepsPerformed.{ComesTo};
 ghost use Rattle.steps.specs.Ready.{AreReady};
 ghost use Rattle.steps.specs.Opens.{IsOpening};
 
@@ -19,7 +19,7 @@ use crate::step_events::login::login;
 use crate::step_events::waiting::read_by;
 use crate::step_links::collecting::collect;
 use crate::step_links::logins::is_nobodys;
-use crate::step_tasks::outcome::idle;
+use crate::step_tasks::finish::Finish;
 use builtins_view::builtins_world::values::texts_value;
 use moo_task::deeds::Deeds;
 use moo_value::text::Text;
@@ -28,7 +28,7 @@ use player_commands::command_lines::parts::{Parts, line_parts};
 use std::alloc::{AllocError, Global};
 use step_deeds::links::reader;
 use step_deeds::natives::Natives;
-use task_step::outcome::{Ending, Outcome};
+use task_step::outcome::Ending;
 use view::law::View;
 use view::link::Link;
 use view::readers::read_link;
@@ -38,21 +38,21 @@ pub fn line<V: View, N: Natives>(
     alloc: Global,
     view: &mut V,
     natives: &mut N,
-    deeds: Deeds,
+    deeds: &mut Deeds,
     connection: i32,
     text: &Text,
-) -> Result<Outcome, AllocError>
+) -> Result<Finish, AllocError>
     requires home { V.holds view.old (V.home view.old) }
-    requires ready { AreReady V.holds V.now view.old deeds }
+    requires ready { AreReady V.holds V.now view.old deeds.old }
     requires connection { IsTrue (is_connection connection) }
     ensures lasts { Lasts V.holds V.home V.anchor view.old view.new result }
-    ensures played { IfOk result (λ o. (s : StepOf) → IsOpening s deeds → Goes V.holds V.now view.old view.new
-        (λ before after. StepsTo (line_on s before connection text.now (at before.links connection)) after o)) }
+    ensures played { IfOk result (λ o. (s : StepOf) → IsOpening s deeds.old → Goes V.holds V.now view.old view.new
+        (λ before after. ComesTo (line_on s before connection text.now (at before.links connection)) after deeds.new o)) }
 {
     let link = read_link(view, connection)?;
     match link {
         Some(link) => take_line(alloc, view, natives, deeds, connection, &link, text),
-        None => Ok(idle(alloc, Ending::Nothing)),
+        None => Ok(Finish::idle(Ending::Nothing)),
     }
 }
 
@@ -61,18 +61,18 @@ fn take_line<V: View, N: Natives>(
     alloc: Global,
     view: &mut V,
     natives: &mut N,
-    deeds: Deeds,
+    deeds: &mut Deeds,
     connection: i32,
     link: &Link,
     text: &Text,
-) -> Result<Outcome, AllocError>
+) -> Result<Finish, AllocError>
     requires home { V.holds view.old (V.home view.old) }
-    requires ready { AreReady V.holds V.now view.old deeds }
+    requires ready { AreReady V.holds V.now view.old deeds.old }
     requires link { (w : World) → V.holds view.old w → at (V.now view.old w).links connection ≡ Some link.now }
     requires connection { IsTrue (is_connection connection) }
     ensures lasts { Lasts V.holds V.home V.anchor view.old view.new result }
     ensures played { IfOk result (λ o. Goes V.holds V.now view.old view.new (λ before after.
-        StepsTo (line_taken (scene_of deeds before foreground_ticks) connection link.now text.now link.now.programming) after o)) }
+        ComesTo (line_taken (scene_of deeds.old before foreground_ticks) connection link.now text.now link.now.programming) after deeds.new o)) }
 {
     match &link.programming {
         Some(programming) => collect(alloc, view, deeds, connection, link, programming, text),
@@ -85,18 +85,18 @@ fn read_line<V: View, N: Natives>(
     alloc: Global,
     view: &mut V,
     natives: &mut N,
-    deeds: Deeds,
+    deeds: &mut Deeds,
     connection: i32,
     link: &Link,
     text: &Text,
-) -> Result<Outcome, AllocError>
+) -> Result<Finish, AllocError>
     requires home { V.holds view.old (V.home view.old) }
-    requires ready { AreReady V.holds V.now view.old deeds }
+    requires ready { AreReady V.holds V.now view.old deeds.old }
     requires link { (w : World) → V.holds view.old w → at (V.now view.old w).links connection ≡ Some link.now }
     requires connection { IsTrue (is_connection connection) }
     ensures lasts { Lasts V.holds V.home V.anchor view.old view.new result }
     ensures played { IfOk result (λ o. Goes V.holds V.now view.old view.new (λ before after.
-        StepsTo (line_read (scene_of deeds before foreground_ticks) connection link.now text.now (reader_of_link before connection)) after o)) }
+        ComesTo (line_read (scene_of deeds.old before foreground_ticks) connection link.now text.now (reader_of_link before connection)) after deeds.new o)) }
 {
     let reader = reader(view, connection)?;
     match reader {
@@ -113,18 +113,18 @@ fn line_for<V: View, N: Natives>(
     alloc: Global,
     view: &mut V,
     natives: &mut N,
-    deeds: Deeds,
+    deeds: &mut Deeds,
     connection: i32,
     link: &Link,
     text: &Text,
-) -> Result<Outcome, AllocError>
+) -> Result<Finish, AllocError>
     requires home { V.holds view.old (V.home view.old) }
-    requires ready { AreReady V.holds V.now view.old deeds }
+    requires ready { AreReady V.holds V.now view.old deeds.old }
     requires link { (w : World) → V.holds view.old w → at (V.now view.old w).links connection ≡ Some link.now }
     requires connection { IsTrue (is_connection connection) }
     ensures lasts { Lasts V.holds V.home V.anchor view.old view.new result }
     ensures played { IfOk result (λ o. Goes V.holds V.now view.old view.new (λ before after.
-        StepsTo (line_for_of (scene_of deeds before foreground_ticks) connection link.now text.now) after o)) }
+        ComesTo (line_for_of (scene_of deeds.old before foreground_ticks) connection link.now text.now) after deeds.new o)) }
 {
     let nobodys = is_nobodys(connection, link.person);
     if nobodys {

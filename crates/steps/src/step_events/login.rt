@@ -7,13 +7,13 @@ ghost use Rattle.spec_moo.specs.Steps.Running.{run as run_of, system_task as sys
 ghost use Rattle.spec_moo.specs.Steps.Events.{login as login_of, after_login, foreground_ticks};
 ghost use Rattle.moo_task.specs.Deeds.{scene_of};
 ghost use Rattle.view.specs.Law.{Goes, Lasts};
-ghost use Rattle.steps.specs.StepsPerformed.{StepsTo};
+ghost use Rattle.steps.specs.StepsPerformed.{ComesTo};
 ghost use Rattle.steps.specs.Ready.{AreReady};
 
 use crate::step_links::logins::{accept, connection_object};
-use crate::step_runs::run::{Ran, run_task};
-use crate::step_tasks::opening::{FOREGROUND_TICKS, nothing};
-use crate::step_tasks::outcome::outcome;
+use crate::step_runs::run::run_task;
+use crate::step_tasks::finish::Finish;
+use crate::step_tasks::opening::FOREGROUND_TICKS;
 use crate::step_tasks::system::{on_system, system_task};
 use moo_task::deeds::Deeds;
 use moo_value::text::Text;
@@ -21,7 +21,6 @@ use moo_value::value::Value;
 use rules::inherit::verb::FoundVerb;
 use std::alloc::{AllocError, Global};
 use step_deeds::natives::Natives;
-use task_step::outcome::Outcome;
 use view::law::View;
 
 /// A login: `#0:do_login_command` is called for the connection.
@@ -30,18 +29,18 @@ pub fn login<V: View, N: Natives>(
     alloc: Global,
     view: &mut V,
     natives: &mut N,
-    deeds: Deeds,
+    deeds: &mut Deeds,
     connection: i32,
     argstr: Text,
     arguments: Value,
-) -> Result<Outcome, AllocError>
+) -> Result<Finish, AllocError>
     requires home { V.holds view.old (V.home view.old) }
-    requires ready { AreReady V.holds V.now view.old deeds }
+    requires ready { AreReady V.holds V.now view.old deeds.old }
     requires list { (args : Data) × (arguments ≡ list args) }
     requires connection { IsTrue (is_connection connection) }
     ensures lasts { Lasts V.holds V.home V.anchor view.old view.new result }
     ensures played { IfOk result (λ o. (args : Data) → arguments ≡ list args → Goes V.holds V.now view.old view.new
-        (λ before after. StepsTo (login_of (scene_of deeds before foreground_ticks) connection argstr args) after o)) }
+        (λ before after. ComesTo (login_of (scene_of deeds.old before foreground_ticks) connection argstr args) after deeds.new o)) }
 {
     let found = on_system(view, "do_login_command")?;
     match found {
@@ -52,7 +51,7 @@ pub fn login<V: View, N: Natives>(
             Ok(outcome)
         }
         None => {
-            let outcome = nothing(alloc, &deeds)?;
+            let outcome = Finish::nothing();
             Ok(outcome)
         }
     }
@@ -63,20 +62,20 @@ fn log_in<V: View, N: Natives>(
     alloc: Global,
     view: &mut V,
     natives: &mut N,
-    deeds: Deeds,
+    deeds: &mut Deeds,
     connection: i32,
     argstr: Text,
     arguments: Value,
     found: &FoundVerb,
-) -> Result<Outcome, AllocError>
+) -> Result<Finish, AllocError>
     requires home { V.holds view.old (V.home view.old) }
-    requires ready { AreReady V.holds V.now view.old deeds }
+    requires ready { AreReady V.holds V.now view.old deeds.old }
     requires list { (args : Data) × (arguments ≡ list args) }
     requires connection { IsTrue (is_connection connection) }
     ensures lasts { Lasts V.holds V.home V.anchor view.old view.new result }
     ensures played { IfOk result (λ o. (args : Data) → arguments ≡ list args → Goes V.holds V.now view.old view.new
-        (λ before after. StepsTo (after_login connection (run_of (scene_of deeds before foreground_ticks)
-        (system_task_of (connection_object_of connection) (codes "do_login_command") argstr args found.now))) after o)) }
+        (λ before after. ComesTo (after_login connection (run_of (scene_of deeds.old before foreground_ticks)
+        (system_task_of (connection_object_of connection) (codes "do_login_command") argstr args found.now))) after deeds.new o)) }
 {
     let object = connection_object(connection);
     let task = system_task(
@@ -89,13 +88,6 @@ fn log_in<V: View, N: Natives>(
         FOREGROUND_TICKS,
     )?;
     let ran = run_task(alloc, view, natives, deeds, task)?;
-    let Ran {
-        ending,
-        mut deeds,
-        ticks_left: _,
-        ticks_used,
-    } = ran;
-    accept(alloc, view, &mut deeds, connection, &ending)?;
-    let outcome = outcome(alloc, &deeds, ending, ticks_used)?;
-    Ok(outcome)
+    accept(alloc, view, deeds, connection, &ran.ending)?;
+    Ok(ran)
 }

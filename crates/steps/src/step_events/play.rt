@@ -5,15 +5,16 @@ ghost use Rattle.spec_moo.specs.Steps.{play1};
 ghost use Rattle.spec_moo.specs.Steps.Events.{event_of as event_of_step};
 ghost use Rattle.task_step.specs.StepView.{event_of};
 ghost use Rattle.view.specs.Law.{AreSound, Goes, Lasts};
-ghost use Rattle.steps.specs.StepsPerformed.{StepsTo};
+ghost use Rattle.steps.specs.StepsPerformed.{ComesTo, StepsTo};
 ghost use Rattle.steps.specs.Ready.{AreReady};
 ghost use Rattle.steps.specs.Opens.{IsOpening};
 
 use crate::step_events::connections::{close, open};
 use crate::step_events::lines::line;
 use crate::step_events::waiting::ready;
+use crate::step_tasks::finish::Finish;
 use crate::step_tasks::opening::opening;
-use crate::step_tasks::outcome::idle;
+use crate::step_tasks::outcome::{idle, outcome};
 use moo_task::deeds::Deeds;
 use std::alloc::{AllocError, Global};
 use step_deeds::natives::Natives;
@@ -41,9 +42,9 @@ pub fn play_step<V: View, N: Natives>(
     if ending {
         return Ok(idle(alloc, Ending::Ended));
     }
-    let deeds = opening(alloc, step);
-    let outcome = perform(alloc, view, natives, deeds, &step.event)?;
-    Ok(outcome)
+    let mut deeds = opening(alloc, step);
+    let finish = perform(alloc, view, natives, &mut deeds, &step.event)?;
+    outcome(alloc, &deeds, finish)
 }
 
 // What happens in a step, unless the server is about to end.
@@ -51,15 +52,15 @@ fn perform<V: View, N: Natives>(
     alloc: Global,
     view: &mut V,
     natives: &mut N,
-    deeds: Deeds,
+    deeds: &mut Deeds,
     event: &Event,
-) -> Result<Outcome, AllocError>
+) -> Result<Finish, AllocError>
     requires range { IsTrue (event_in_range (event_of event.now)) }
     requires home { V.holds view.old (V.home view.old) }
-    requires ready { AreReady V.holds V.now view.old deeds }
+    requires ready { AreReady V.holds V.now view.old deeds.old }
     ensures lasts { Lasts V.holds V.home V.anchor view.old view.new result }
-    ensures played { IfOk result (λ o. (s : StepOf) → IsOpening s deeds → Goes V.holds V.now view.old view.new
-        (λ before after. StepsTo (event_of_step before s (event_of event.now)) after o)) }
+    ensures played { IfOk result (λ o. (s : StepOf) → IsOpening s deeds.old → Goes V.holds V.now view.old view.new
+        (λ before after. ComesTo (event_of_step before s (event_of event.now)) after deeds.new o)) }
 {
     match event {
         Event::Open(connection) => {

@@ -11,11 +11,12 @@ ghost use Rattle.syntax_fault.specs.Meaning.{IsFaultOrMemory};
 ghost use Rattle.moo_task.specs.Deeds.{scene_of};
 ghost use Rattle.view.specs.Law.{Goes, Lasts};
 ghost use Rattle.builtins_view.specs.Programs.{with_program};
-ghost use Rattle.steps.specs.StepsPerformed.{StepsTo};
+ghost use Rattle.steps.specs.StepsPerformed.{ComesTo};
 ghost use Rattle.steps.specs.Ready.{AreReady};
 ghost use Rattle.steps.specs.Codes.{HasVerb, HasVerbAt};
 
 use crate::step_links::faults::fault_text;
+use crate::step_tasks::finish::Finish;
 use crate::step_tasks::opening::says;
 use builtins_view::builtins_change::put::put_program;
 use moo_compiler::program::Program;
@@ -26,7 +27,6 @@ use moo_value::text::Text;
 use player_commands::command_parser::programming::programmable;
 use std::alloc::{AllocError, Global};
 use syntax_fault::fault::SyntaxFault;
-use task_step::outcome::Outcome;
 use view::law::View;
 use view::link::{Link, Programming};
 use view::lists::Lines;
@@ -37,17 +37,17 @@ use view::verb::Verb;
 pub(crate) fn end<V: View>(
     alloc: Global,
     view: &mut V,
-    deeds: Deeds,
+    deeds: &mut Deeds,
     connection: i32,
     link: &Link,
     programming: &Programming,
-) -> Result<Outcome, AllocError>
+) -> Result<Finish, AllocError>
     requires home { V.holds view.old (V.home view.old) }
-    requires ready { AreReady V.holds V.now view.old deeds }
+    requires ready { AreReady V.holds V.now view.old deeds.old }
     requires link { (w : World) → V.holds view.old w → at (V.now view.old w).links connection ≡ Some link.now }
     ensures lasts { Lasts V.holds V.home V.anchor view.old view.new result }
     ensures played { IfOk result (λ o. Goes V.holds V.now view.old view.new (λ before after.
-        StepsTo (ends (scene_of deeds before foreground_ticks) connection link.now programming.now) after o)) }
+        ComesTo (ends (scene_of deeds.old before foreground_ticks) connection link.now programming.now) after deeds.new o)) }
 {
     let place = programmable(
         view,
@@ -64,16 +64,16 @@ pub(crate) fn end<V: View>(
 fn end_at<V: View>(
     alloc: Global,
     view: &mut V,
-    deeds: Deeds,
+    deeds: &mut Deeds,
     connection: i32,
     programming: &Programming,
     place: Option<usize>,
-) -> Result<Outcome, AllocError>
+) -> Result<Finish, AllocError>
     requires home { V.holds view.old (V.home view.old) }
     requires there { (w : World) → V.holds view.old w → HasVerbAt (V.now view.old w) programming.now.object place }
     ensures lasts { Lasts V.holds V.home V.anchor view.old view.new result }
     ensures played { IfOk result (λ o. Goes V.holds V.now view.old view.new (λ before after.
-        StepsTo (ends_at (scene_of deeds before foreground_ticks) connection programming.now place) after o)) }
+        ComesTo (ends_at (scene_of deeds.old before foreground_ticks) connection programming.now place) after deeds.new o)) }
 {
     match place {
         Some(place) => {
@@ -99,17 +99,17 @@ fn end_at<V: View>(
 fn end_with<V: View>(
     alloc: Global,
     view: &mut V,
-    deeds: Deeds,
+    deeds: &mut Deeds,
     connection: i32,
     object: i32,
     place: usize,
     lines: &Option<Lines>,
-) -> Result<Outcome, AllocError>
+) -> Result<Finish, AllocError>
     requires home { V.holds view.old (V.home view.old) }
     requires there { (w : World) → V.holds view.old w → HasVerb (V.now view.old w) object place }
     ensures lasts { Lasts V.holds V.home V.anchor view.old view.new result }
     ensures played { IfOk result (λ o. Goes V.holds V.now view.old view.new (λ before after.
-        StepsTo (ends_with (scene_of deeds before foreground_ticks) connection object place lines.now) after o)) }
+        ComesTo (ends_with (scene_of deeds.old before foreground_ticks) connection object place lines.now) after deeds.new o)) }
 {
     match lines {
         Some(lines) => {
@@ -135,17 +135,17 @@ fn end_with<V: View>(
 fn put_lines<V: View>(
     alloc: Global,
     view: &mut V,
-    deeds: Deeds,
+    deeds: &mut Deeds,
     connection: i32,
     object: i32,
     place: usize,
     lines: &[Text],
-) -> Result<Outcome, AllocError>
+) -> Result<Finish, AllocError>
     requires home { V.holds view.old (V.home view.old) }
     requires there { (w : World) → V.holds view.old w → HasVerb (V.now view.old w) object place }
     ensures lasts { Lasts V.holds V.home V.anchor view.old view.new result }
     ensures played { IfOk result (λ o. Goes V.holds V.now view.old view.new (λ before after.
-        StepsTo (written (scene_of deeds before foreground_ticks) connection object place (parsed_lines lines.now)) after o)) }
+        ComesTo (written (scene_of deeds.old before foreground_ticks) connection object place (parsed_lines lines.now)) after deeds.new o)) }
 {
     let text = joined(alloc, lines)?;
     match parse(alloc, text.as_bytes()) {
@@ -164,17 +164,17 @@ fn put_lines<V: View>(
 fn put_tree<V: View>(
     alloc: Global,
     view: &mut V,
-    deeds: Deeds,
+    deeds: &mut Deeds,
     connection: i32,
     object: i32,
     place: usize,
     tree: Tree,
-) -> Result<Outcome, AllocError>
+) -> Result<Finish, AllocError>
     requires home { V.holds view.old (V.home view.old) }
     requires there { (w : World) → V.holds view.old w → HasVerb (V.now view.old w) object place }
     ensures lasts { Lasts V.holds V.home V.anchor view.old view.new result }
     ensures played { IfOk result (λ o. Goes V.holds V.now view.old view.new (λ before after.
-        StepsTo (written (scene_of deeds before foreground_ticks) connection object place (program_read tree)) after o)) }
+        ComesTo (written (scene_of deeds.old before foreground_ticks) connection object place (program_read tree)) after deeds.new o)) }
 {
     let program = Program::compile(alloc, tree)?;
     replace_program(alloc, view, object, place, program)?;
@@ -219,12 +219,12 @@ fn verb_at(verbs: &[Verb], place: usize) -> Option<&Verb>
 // The player is told of a text's fault, and the verb stays as it is.
 fn tell_fault(
     alloc: Global,
-    deeds: Deeds,
+    deeds: &mut Deeds,
     connection: i32,
     fault: SyntaxFault,
-) -> Result<Outcome, AllocError>
+) -> Result<Finish, AllocError>
     ensures { IfOk result (λ o. (p : Parsed) → IsFaultOrMemory fault p → (w : World) (t : ℕ) (object : ℤ) (place : ℕ)
-        → written (scene_of deeds w t) connection object place p ≡ (w, o)) }
+        → written (scene_of deeds.old w t) connection object place p ≡ (w, o)) }
 {
     let line = fault_text(alloc, fault)?;
     line.know();

@@ -9,16 +9,15 @@ ghost use Rattle.spec_moo.specs.Steps.Events.{foreground_ticks};
 ghost use Rattle.spec_moo.specs.Steps.Programming.{collected, goes_on, fits_still, with_line as with_line_of};
 ghost use Rattle.moo_task.specs.Deeds.{scene_of};
 ghost use Rattle.view.specs.Law.{Goes, Lasts};
-ghost use Rattle.steps.specs.StepsPerformed.{StepsTo};
+ghost use Rattle.steps.specs.StepsPerformed.{ComesTo};
 ghost use Rattle.steps.specs.Ready.{AreReady};
 
 use crate::step_links::coding::end;
-use crate::step_tasks::opening::nothing;
+use crate::step_tasks::finish::Finish;
 use moo_task::deeds::Deeds;
 use moo_value::answer::WEIGHT_LIMIT;
 use moo_value::text::Text;
 use std::alloc::{AllocError, Global};
-use task_step::outcome::Outcome;
 use view::law::View;
 use view::link::{Link, Programming};
 use view::lists::Lines;
@@ -29,18 +28,18 @@ use view::readers::write_link;
 pub fn collect<V: View>(
     alloc: Global,
     view: &mut V,
-    deeds: Deeds,
+    deeds: &mut Deeds,
     connection: i32,
     link: &Link,
     programming: &Programming,
     text: &Text,
-) -> Result<Outcome, AllocError>
+) -> Result<Finish, AllocError>
     requires home { V.holds view.old (V.home view.old) }
-    requires ready { AreReady V.holds V.now view.old deeds }
+    requires ready { AreReady V.holds V.now view.old deeds.old }
     requires link { (w : World) → V.holds view.old w → at (V.now view.old w).links connection ≡ Some link.now }
     ensures lasts { Lasts V.holds V.home V.anchor view.old view.new result }
     ensures played { IfOk result (λ o. Goes V.holds V.now view.old view.new (λ before after.
-        StepsTo (collected (scene_of deeds before foreground_ticks) connection link.now programming.now text.now) after o)) }
+        ComesTo (collected (scene_of deeds.old before foreground_ticks) connection link.now programming.now text.now) after deeds.new o)) }
 {
     let ends = is_end(text);
     if ends {
@@ -62,18 +61,18 @@ fn is_end(text: &Text) -> bool
 fn keep<V: View>(
     alloc: Global,
     view: &mut V,
-    deeds: Deeds,
+    deeds: &mut Deeds,
     connection: i32,
     link: &Link,
     programming: &Programming,
     text: &Text,
-) -> Result<Outcome, AllocError>
+) -> Result<Finish, AllocError>
     requires home { V.holds view.old (V.home view.old) }
-    requires ready { AreReady V.holds V.now view.old deeds }
+    requires ready { AreReady V.holds V.now view.old deeds.old }
     requires link { (w : World) → V.holds view.old w → at (V.now view.old w).links connection ≡ Some link.now }
     ensures lasts { Lasts V.holds V.home V.anchor view.old view.new result }
     ensures played { IfOk result (λ o. Goes V.holds V.now view.old view.new (λ before after.
-        StepsTo (goes_on (scene_of deeds before foreground_ticks) connection link.now programming.now text.now) after o)) }
+        ComesTo (goes_on (scene_of deeds.old before foreground_ticks) connection link.now programming.now text.now) after deeds.new o)) }
 {
     let lines = with_line(alloc, &programming.lines, text)?;
     let verb = programming.verb.clone()?;
@@ -87,7 +86,7 @@ fn keep<V: View>(
         programming: Some(longer),
     };
     write_link(view, connection, Some(collecting))?;
-    let outcome = nothing(alloc, &deeds)?;
+    let outcome = Finish::nothing();
     Ok(outcome)
 }
 

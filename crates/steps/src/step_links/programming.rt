@@ -9,9 +9,10 @@ ghost use Rattle.player_commands.specs.Meanings.{request_of};
 ghost use Rattle.player_commands.specs.Openings.{opened};
 ghost use Rattle.moo_task.specs.Deeds.{scene_of};
 ghost use Rattle.view.specs.Law.{Goes, Lasts};
-ghost use Rattle.steps.specs.StepsPerformed.{StepsTo};
+ghost use Rattle.steps.specs.StepsPerformed.{ComesTo};
 ghost use Rattle.steps.specs.Ready.{AreReady};
 
+use crate::step_tasks::finish::Finish;
 use crate::step_tasks::opening::says;
 use moo_task::deeds::Deeds;
 use moo_value::text::Text;
@@ -20,7 +21,6 @@ use moo_value::write::to_str;
 use player_commands::command_parser::programming::{Opening, open};
 use player_commands::command_parser::request::Request;
 use std::alloc::{AllocError, Global};
-use task_step::outcome::Outcome;
 use view::law::View;
 use view::link::{Link, Programming};
 use view::lists::Lines;
@@ -31,17 +31,17 @@ use view::readers::write_link;
 pub fn request<V: View>(
     alloc: Global,
     view: &mut V,
-    deeds: Deeds,
+    deeds: &mut Deeds,
     connection: i32,
     link: &Link,
     request: Request,
-) -> Result<Outcome, AllocError>
+) -> Result<Finish, AllocError>
     requires home { V.holds view.old (V.home view.old) }
-    requires ready { AreReady V.holds V.now view.old deeds }
+    requires ready { AreReady V.holds V.now view.old deeds.old }
     requires link { (w : World) → V.holds view.old w → at (V.now view.old w).links connection ≡ Some link.now }
     ensures lasts { Lasts V.holds V.home V.anchor view.old view.new result }
     ensures played { IfOk result (λ o. Goes V.holds V.now view.old view.new (λ before after.
-        StepsTo (requested (scene_of deeds before foreground_ticks) connection link.now.person (request_of request)) after o)) }
+        ComesTo (requested (scene_of deeds.old before foreground_ticks) connection link.now.person (request_of request)) after deeds.new o)) }
 {
     let opening = open(alloc, view, link.person, request)?;
     let outcome = answer(alloc, view, deeds, connection, link, opening)?;
@@ -52,17 +52,17 @@ pub fn request<V: View>(
 fn answer<V: View>(
     alloc: Global,
     view: &mut V,
-    deeds: Deeds,
+    deeds: &mut Deeds,
     connection: i32,
     link: &Link,
     opening: Opening,
-) -> Result<Outcome, AllocError>
+) -> Result<Finish, AllocError>
     requires home { V.holds view.old (V.home view.old) }
-    requires ready { AreReady V.holds V.now view.old deeds }
+    requires ready { AreReady V.holds V.now view.old deeds.old }
     requires link { (w : World) → V.holds view.old w → at (V.now view.old w).links connection ≡ Some link.now }
     ensures lasts { Lasts V.holds V.home V.anchor view.old view.new result }
     ensures played { IfOk result (λ o. Goes V.holds V.now view.old view.new (λ before after.
-        StepsTo (opened (scene_of deeds before foreground_ticks) connection link.now.person opening) after o)) }
+        ComesTo (opened (scene_of deeds.old before foreground_ticks) connection link.now.person opening) after deeds.new o)) }
 {
     match opening {
         Opening::OtherForm => {
@@ -88,19 +88,19 @@ fn answer<V: View>(
 fn begin_lines<V: View>(
     alloc: Global,
     view: &mut V,
-    deeds: Deeds,
+    deeds: &mut Deeds,
     connection: i32,
     link: &Link,
     object: i32,
     verb: Text,
     place: usize,
-) -> Result<Outcome, AllocError>
+) -> Result<Finish, AllocError>
     requires home { V.holds view.old (V.home view.old) }
-    requires ready { AreReady V.holds V.now view.old deeds }
+    requires ready { AreReady V.holds V.now view.old deeds.old }
     requires link { (w : World) → V.holds view.old w → at (V.now view.old w).links connection ≡ Some link.now }
     ensures lasts { Lasts V.holds V.home V.anchor view.old view.new result }
     ensures played { IfOk result (λ o. Goes V.holds V.now view.old view.new (λ before after.
-        StepsTo (begins (scene_of deeds before foreground_ticks) connection link.now.person object verb (Some place)) after o)) }
+        ComesTo (begins (scene_of deeds.old before foreground_ticks) connection link.now.person object verb (Some place)) after deeds.new o)) }
 {
     let line = now_programming(alloc, object, &verb)?;
     let programming = Programming {

@@ -8,7 +8,7 @@ ghost use Rattle.moo_code.specs.Machine.{verb};
 ghost use Rattle.moo_code.specs.Stands.{AllWait};
 ghost use Rattle.moo_task.specs.Effects.{waiting_of};
 ghost use Rattle.moo_task.specs.Frames.{kept_of};
-ghost use Rattle.moo_task.specs.Outcomes.{end_of};
+ghost use Rattle.moo_task.specs.Outcomes.{end_of, running_kept};
 ghost use Rattle.moo_task.specs.Keeping.{HasStopped};
 ghost use Rattle.task_step.specs.OutcomeView.{result_of};
 ghost use Rattle.view.specs.Law.{Goes, Lasts};
@@ -19,31 +19,40 @@ use moo_task::deeds::Deeds;
 use moo_task::effect::Waiting;
 use moo_task::frame::Frame;
 use moo_task::moo_machine::leaving::{Failure, Traced};
+use moo_task::moo_machine::verb::State;
 use moo_task::outcome::End;
 use moo_task::outers::Outers;
+use moo_task::room::Room;
+use moo_task::running::Running;
 use moo_task::task::Task;
 use moo_task::task_telling::lines::{failure_lines, out_of_ticks_lines};
 use std::alloc::{AllocError, Global};
+use step_deeds::natives::Natives;
 use step_deeds::queue::enqueue;
 use step_deeds::telling::tell;
 use task_step::outcome::Ending;
 use view::law::View;
 
 /// What the end of a task does: one that waits is put into the queue at its id, if it has one; else its player is told why it stopped.
-pub fn after_stop<V: View>(
+#[inline(always)]
+pub fn after_stop<V: View, N: Natives>(
     alloc: Global,
     view: &mut V,
+    natives: &mut N,
     deeds: &mut Deeds,
     player: i32,
+    task: Running,
     stop: Stop,
 ) -> Result<Ending, AllocError>
     requires home { V.holds view.old (V.home view.old) }
-    requires kept { CanBeKept stop }
+    requires kept { CanBeKept stop (verb (running_kept task) ∷ task.outer) }
     ensures lasts { Lasts V.holds V.home V.anchor view.old view.new result }
-    ensures settles { IfOk result (λ e. Goes V.holds V.now view.old view.new (λ before after. Settles player stop e deeds.old before deeds.new after)) }
+    ensures settles { IfOk result (λ e. Goes V.holds V.now view.old view.new
+        (λ before after. Settles player stop (verb (running_kept task) ∷ task.outer) e deeds.old before deeds.new after)) }
 {
     match stop {
         Stop::Ends(end) => {
+            leave(natives, task);
             let ending = ended(alloc, view, deeds, player, end)?;
             Ok(ending)
         }
@@ -51,11 +60,40 @@ pub fn after_stop<V: View>(
             let ending = ran_out(alloc, view, deeds, player, &verbs)?;
             Ok(ending)
         }
-        Stop::Waits(waiting, frame, outer) => {
+        Stop::Waits(waiting) => {
+            let Running {
+                player: _,
+                frame,
+                outer,
+            } = task;
             let ending = waits(alloc, view, deeds, player, waiting, frame, outer)?;
             Ok(ending)
         }
     }
+}
+
+// A task that has ended leaves its room.
+#[inline(always)]
+fn leave<N: Natives>(natives: &mut N, task: Running) {
+    let Running {
+        player: _,
+        frame,
+        outer: _outer,
+    } = task;
+    let Frame {
+        call: _call,
+        start: _start,
+        program: _program,
+        further: _further,
+        state,
+    } = frame;
+    let State {
+        place: _,
+        operands,
+        slots,
+        ticks: _,
+    } = state;
+    natives.leave_room(Room::left(slots, operands));
 }
 
 // A task that has ended by itself.

@@ -2,18 +2,17 @@
 ghost use Rattle.std.specs.Prelude.{◌≡◌, ◌∷◌, [], ℕ, Some, IfOk, OnOk, IsTrue};
 ghost use Rattle.spec_value.specs.Datum.{is_text};
 ghost use Rattle.spec_world.specs.World.{World};
-ghost use Rattle.spec_moo.specs.Steps.Events.{nothing_runs};
 ghost use Rattle.spec_moo.specs.Steps.Programming.{says as says_to};
 ghost use Rattle.spec_moo.specs.Steps.Running.{told_on};
 ghost use Rattle.moo_task.specs.Deeds.{scene_of};
 ghost use Rattle.steps.specs.Opens.{IsOpening};
+ghost use Rattle.steps.specs.StepsPerformed.{came_to_of};
 
-use crate::step_tasks::outcome::outcome;
+use crate::step_tasks::finish::Finish;
 use moo_task::deeds::Deeds;
 use moo_value::text::Text;
 use std::alloc::{AllocError, Global};
 use step_deeds::telling::tell_on;
-use task_step::outcome::{Ending, Outcome};
 use task_step::step::Step;
 
 /// The ticks of a task that a connection sets going.
@@ -41,25 +40,19 @@ pub fn opening(alloc: Global, step: &Step) -> Deeds
     }
 }
 
-/// Nothing runs.
-#[inline(never)]
-pub fn nothing(alloc: Global, deeds: &Deeds) -> Result<Outcome, AllocError>
-    ensures { IfOk result (λ o. (w : World) (t : ℕ) → nothing_runs (scene_of deeds.now w t) ≡ (w, o)) }
-{
-    let outcome = outcome(alloc, deeds, Ending::Nothing, 0)?;
-    Ok(outcome)
-}
-
 /// A link is told a line, and nothing runs.
 #[inline(never)]
-pub fn says(alloc: Global, deeds: Deeds, connection: i32, line: &str) -> Result<Outcome, AllocError>
+pub fn says(
+    alloc: Global,
+    deeds: &mut Deeds,
+    connection: i32,
+    line: &str,
+) -> Result<Finish, AllocError>
     requires { IsTrue (is_text line.now) }
-    ensures { IfOk result (λ o. (w : World) (t : ℕ) → says_to (scene_of deeds w t) connection line.now ≡ (w, o)) }
+    ensures { IfOk result (λ o. (w : World) (t : ℕ) → says_to (scene_of deeds.old w t) connection line.now ≡ came_to_of w deeds.new o) }
 {
-    let mut deeds = deeds;
-    tell_line(alloc, &mut deeds, connection, line)?;
-    let outcome = outcome(alloc, &deeds, Ending::Nothing, 0)?;
-    Ok(outcome)
+    tell_line(alloc, deeds, connection, line)?;
+    Ok(Finish::nothing())
 }
 
 /// A link is told a line.

@@ -1,30 +1,27 @@
 //! Outcomes of steps.
-ghost use Rattle.std.specs.Prelude.{◌≡◌, ℕ, map, pos, MatchOption, IfOk};
+ghost use Rattle.std.specs.Prelude.{◌≡◌, map, pos, MatchOption, IfOk};
 ghost use Rattle.spec_world.specs.World.{World};
-ghost use Rattle.spec_moo.specs.Steps.Outcomes.{comes_to, idle_with};
-ghost use Rattle.moo_task.specs.Deeds.{scene_of, due_of as due_meant, queued_of as queued_meant, told_of};
+ghost use Rattle.spec_moo.specs.Steps.Outcomes.{idle_with};
+ghost use Rattle.moo_task.specs.Deeds.{due_of as due_meant, queued_of as queued_meant, told_of};
 ghost use Rattle.task_step.specs.OutcomeView.{result_of, lines_of, queued_of, due_of, closed_of};
+ghost use Rattle.steps.specs.StepsPerformed.{came_to_of};
 
+use crate::step_tasks::finish::Finish;
 use moo_task::deeds;
 use moo_task::deeds::{Deeds, Told};
 use std::alloc::{AllocError, Global};
 use task_step::outcome::{Due, Ending, Outcome, OutputLine, Queued};
 
-/// The outcome of a step, by what it has done, how it ended, and the ticks that it used. No connection's number is negative.
-pub fn outcome(
-    alloc: Global,
-    deeds: &Deeds,
-    ending: Ending,
-    ticks: u32,
-) -> Result<Outcome, AllocError>
-    ensures { IfOk result (λ o. (w : World) (t : ℕ) → comes_to (scene_of deeds.now w t) (result_of ending) ticks ≡ (w, o)) }
+/// The outcome of a step, by what it has done and how it finished. No connection's number is negative.
+pub fn outcome(alloc: Global, deeds: &Deeds, finish: Finish) -> Result<Outcome, AllocError>
+    ensures { IfOk result (λ o. (w : World) → came_to_of w deeds.now finish ≡ (w, o)) }
 {
     let output = output_lines(alloc, &deeds.output)?;
     let queued = queued_tasks(alloc, &deeds.queued)?;
     let closed = closed_connections(alloc, &deeds.closed)?;
     Ok(Outcome {
-        result: ending,
-        ticks,
+        result: finish.ending,
+        ticks: finish.ticks,
         output,
         queued,
         closed,

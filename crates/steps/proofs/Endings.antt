@@ -12,14 +12,12 @@ use Rattle.std.specs.declared.vec.Vec.{Vec}
 use Rattle.std.specs.declared.alloc.Global.{Global}
 use Rattle.spec_world.specs.WellFormed.{FramesStand}
 use Rattle.spec_moo.specs.Leaving.{Traced}
-use Rattle.moo_code.specs.Machine.{Outer, verb}
+use Rattle.moo_code.specs.Machine.{Outer}
 use Rattle.moo_code.specs.Stands.{AllWait}
 use Rattle.moo_task.specs.Deeds.{scene_of}
 use Rattle.moo_task.specs.Effects.{waiting_of}
-use Rattle.moo_task.specs.Frames.{kept_of}
 use Rattle.moo_task.specs.Outcomes.{end_of}
 use Rattle.moo_task.specs.declared.effect.Waiting.{Waiting as WaitingOf}
-use Rattle.moo_task.specs.declared.frame.Frame.{Frame}
 use Rattle.moo_task.specs.declared.outcome.End.{End}
 use Rattle.local_code.specs.declared.moo_run.stopped.Stop.{Stop as MachineStop}
 use Rattle.local_code.specs.declared.moo_run.stopped.Stop.TheVariants.{Ends, OutOfTicks, Waits}
@@ -88,18 +86,18 @@ put_there player why es e d f before after i task some same is put t = (
 
 -- ---- what the stop of a machine does
 
-module _ (player : ℤ) (e : Ending) (d f : Deeds) (before after : World) where
-  pub ends_settles : (stop : MachineStop) (end : End) → stop ≡ Ends end → SettlesAs player (end_of end) e d before f after → Settles player stop e d before f after
+module _ (player : ℤ) (ks : List Outer) (e : Ending) (d f : Deeds) (before after : World) where
+  pub ends_settles : (stop : MachineStop) (end : End) → stop ≡ Ends end → SettlesAs player (end_of end) e d before f after → Settles player stop ks e d before f after
   ends_settles stop end is h why s =
-      let same : why ≡ end_of end = subst (StopIs why) is s in subst (λ (x : Stop). SettlesAs player x e d before f after) (sym same) h
+      let same : why ≡ end_of end = subst (λ (x : MachineStop). StopIs why x ks) is s in subst (λ (x : Stop). SettlesAs player x e d before f after) (sym same) h
 
   pub ticks_settle : (stop : MachineStop) (ts : Vec Traced Global) → stop ≡ OutOfTicks ts → SettlesAs player (out_of_ticks ts.items) e d before f after
-      → Settles player stop e d before f after
+      → Settles player stop ks e d before f after
   ticks_settle stop ts is h why s =
-      let same : why ≡ out_of_ticks ts.items = subst (StopIs why) is s in subst (λ (x : Stop). SettlesAs player x e d before f after) (sym same) h
+      let same : why ≡ out_of_ticks ts.items = subst (λ (x : MachineStop). StopIs why x ks) is s in subst (λ (x : Stop). SettlesAs player x e d before f after) (sym same) h
 
-  pub waits_settle : (stop : MachineStop) (u : WaitingOf) (k : Frame) (ks : List Outer) → stop ≡ Waits u k ks
-      → ((es : List Entry) → AllWait es (verb (kept_of k) ∷ ks) → FramesStand es → SettlesAs player (waiting (waiting_of u) es) e d before f after)
-      → Settles player stop e d before f after
-  waits_settle stop u k ks is h why s =
-      let there = subst (StopIs why) is s in subst (λ (x : Stop). SettlesAs player x e d before f after) (sym there.1) (h there.0 there.2 there.3)
+  pub waits_settle : (stop : MachineStop) (u : WaitingOf) → stop ≡ Waits u
+      → ((es : List Entry) → AllWait es ks → FramesStand es → SettlesAs player (waiting (waiting_of u) es) e d before f after) → Settles player stop ks e d before f after
+  waits_settle stop u is h why s =
+      let there = subst (λ (x : MachineStop). StopIs why x ks) is s in
+      subst (λ (x : Stop). SettlesAs player x e d before f after) (sym there.1) (h there.0 there.2 there.3)

@@ -10,20 +10,19 @@ use Rattle.moo_task.specs.Deeds.{scene_of}
 use Rattle.moo_task.specs.declared.deeds.Deeds.{Deeds}
 use Rattle.moo_task.specs.declared.running.Running.{Running}
 use Rattle.view.specs.Law.{Goes}
-use Rattle.steps.specs.StepsPerformed.{StepsTo}
 use Rattle.steps.specs.Tasks.{MayRun}
 use Rattle.steps.proofs.StepsPlaying.{plays_changed}
 
 module _ {V : Type 0} (holds : V → World → Type 0) (now : V → World → World) where
-  pub resumes : (a b c : V) (d : Deeds) (i j : ℤ) (ticks given : ℕ) (o : Outcome) (g : Option Pending) (r : Running) → j ≡ i → given ≡ ticks
+  pub resumes : (a b c : V) (d : Deeds) (i j : ℤ) (ticks given : ℕ) (o : World → World × Outcome) (g : Option Pending) (r : Running) → j ≡ i → given ≡ ticks
       → Goes holds now a b (λ before after. after ≡ apply (new_task i None) before) → (p : Pending) × ((g ≡ Some p) × MayRun r p)
-      → ((p : Pending) → MayRun r p → Goes holds now b c (λ before after. StepsTo (came_to (run (scene_of (record d { task = Some j }) before given) p)) after o))
-      → Goes holds now a c (λ before after. StepsTo (resumed (with_own_task (scene_of d before ticks) i) g) after o)
+      → ((p : Pending) → MayRun r p → Goes holds now b c (λ before after. came_to (run (scene_of (record d { task = Some j }) before given) p) ≡ o after))
+      → Goes holds now a c (λ before after. resumed (with_own_task (scene_of d before ticks) i) g ≡ o after)
   resumes a b c d i j ticks given o g r own same gone m played =
       let p = m.0 in
-      let its : Goes holds now b c (λ before after. StepsTo (came_to (run (scene_of (record d { task = Some i }) before given) p)) after o) =
-      subst (λ (k : ℤ). Goes holds now b c (λ before after. StepsTo (came_to (run (scene_of (record d { task = Some k }) before given) p)) after o)) own (played p m.1.1) in
-      let rest : Goes holds now b c (λ before after. StepsTo (came_to (run (scene_of (record d { task = Some i }) before ticks) p)) after o) =
-      subst (λ (n : ℕ). Goes holds now b c (λ before after. StepsTo (came_to (run (scene_of (record d { task = Some i }) before n) p)) after o)) same its in
+      let its : Goes holds now b c (λ before after. came_to (run (scene_of (record d { task = Some i }) before given) p) ≡ o after) =
+      subst (λ (k : ℤ). Goes holds now b c (λ before after. came_to (run (scene_of (record d { task = Some k }) before given) p) ≡ o after)) own (played p m.1.1) in
+      let rest : Goes holds now b c (λ before after. came_to (run (scene_of (record d { task = Some i }) before ticks) p) ≡ o after) =
+      subst (λ (n : ℕ). Goes holds now b c (λ before after. came_to (run (scene_of (record d { task = Some i }) before n) p) ≡ o after)) same its in
       plays_changed holds now a b c (apply (new_task i None)) (λ w. resumed (with_own_task (scene_of d w ticks) i) g)
       (λ w. came_to (run (scene_of (record d { task = Some i }) w ticks) p)) o gone rest (λ w. ap (resumed (with_own_task (scene_of d w ticks) i)) m.1.0)

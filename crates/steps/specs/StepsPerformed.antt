@@ -15,12 +15,12 @@ abbrev pub StepsTo : World × Outcome → World → Outcome → Type 0
 StepsTo r after o = r ≡ (after, o)
 
 -- what a step comes to that has done this and finished so, in a world; the ticks that are left do not count
-abbrev pub came_to_of : World → Deeds → Finish → World × Outcome
-came_to_of w d f = comes_to (scene_of d w 0) (result_of f.ending) f.ticks
+abbrev pub came_to_of : Deeds → Finish → World → World × Outcome
+came_to_of d f w = comes_to (scene_of d w 0) (result_of f.ending) f.ticks
 
 -- this world, after what the step has done, and how it finished
 abbrev pub ComesTo : World × Outcome → World → Deeds → Finish → Type 0
-ComesTo r after d f = r ≡ came_to_of after d f
+ComesTo r after d f = r ≡ came_to_of d f after
 
 -- how a step ended whose task gave a value
 abbrev pub HasValue : Ending → Type 0

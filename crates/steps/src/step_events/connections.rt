@@ -130,8 +130,7 @@ fn gone<V: View, N: Natives>(
 {
     let nobodys = is_nobodys(connection, person);
     if nobodys {
-        let outcome = Finish::nothing();
-        return Ok(outcome);
+        return Ok(Finish::nothing());
     }
     let outcome = player_gone(alloc, view, natives, deeds, person)?;
     Ok(outcome)
@@ -158,10 +157,7 @@ fn player_gone<V: View, N: Natives>(
             let outcome = play_task(alloc, view, natives, deeds, task)?;
             Ok(outcome)
         }
-        None => {
-            let outcome = Finish::nothing();
-            Ok(outcome)
-        }
+        None => Ok(Finish::nothing()),
     }
 }
 

@@ -50,10 +50,7 @@ pub fn login<V: View, N: Natives>(
             )?;
             Ok(outcome)
         }
-        None => {
-            let outcome = Finish::nothing();
-            Ok(outcome)
-        }
+        None => Ok(Finish::nothing()),
     }
 }
 

@@ -105,10 +105,7 @@ pub fn read_by<V: View, N: Natives>(
             )?;
             Ok(outcome)
         }
-        None => {
-            let outcome = Finish::nothing();
-            Ok(outcome)
-        }
+        None => Ok(Finish::nothing()),
     }
 }
 

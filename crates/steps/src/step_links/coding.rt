@@ -11,7 +11,7 @@ ghost use Rattle.syntax_fault.specs.Meaning.{IsFaultOrMemory};
 ghost use Rattle.moo_task.specs.Deeds.{scene_of};
 ghost use Rattle.view.specs.Law.{Goes, Lasts};
 ghost use Rattle.builtins_view.specs.Programs.{with_program};
-ghost use Rattle.steps.specs.StepsPerformed.{ComesTo};
+ghost use Rattle.steps.specs.StepsPerformed.{ComesTo, came_to_of};
 ghost use Rattle.steps.specs.Ready.{AreReady};
 ghost use Rattle.steps.specs.Codes.{HasVerb, HasVerbAt};
 
@@ -224,7 +224,7 @@ fn tell_fault(
     fault: SyntaxFault,
 ) -> Result<Finish, AllocError>
     ensures { IfOk result (λ o. (p : Parsed) → IsFaultOrMemory fault p → (w : World) (t : ℕ) (object : ℤ) (place : ℕ)
-        → written (scene_of deeds.old w t) connection object place p ≡ (w, o)) }
+        → written (scene_of deeds.old w t) connection object place p ≡ came_to_of deeds.new o w) }
 {
     let line = fault_text(alloc, fault)?;
     line.know();

@@ -86,8 +86,7 @@ fn keep<V: View>(
         programming: Some(longer),
     };
     write_link(view, connection, Some(collecting))?;
-    let outcome = Finish::nothing();
-    Ok(outcome)
+    Ok(Finish::nothing())
 }
 
 // The lines with one more, unless they are too long then, or were before.

@@ -25,7 +25,7 @@ impl Finish {
     /// No task ran, and nothing was done.
     #[inline(always)]
     pub fn idle(ending: Ending) -> Finish
-        ensures { (s : StepOf) (d : Deeds) → IsOpening s d → (w : World) → came_to_of w d result ≡ (w, idle_with (result_of ending)) }
+        ensures { (s : StepOf) (d : Deeds) → IsOpening s d → (w : World) → came_to_of d result w ≡ (w, idle_with (result_of ending)) }
     {
         Finish { ending, ticks: 0 }
     }
@@ -33,7 +33,7 @@ impl Finish {
     /// No task ran.
     #[inline(always)]
     pub fn nothing() -> Finish
-        ensures { (d : Deeds) (w : World) (t : ℕ) → nothing_runs (scene_of d w t) ≡ came_to_of w d result }
+        ensures { (d : Deeds) (w : World) (t : ℕ) → nothing_runs (scene_of d w t) ≡ came_to_of d result w }
     {
         Finish {
             ending: Ending::Nothing,

@@ -49,7 +49,7 @@ pub fn says(
     line: &str,
 ) -> Result<Finish, AllocError>
     requires { IsTrue (is_text line.now) }
-    ensures { IfOk result (λ o. (w : World) (t : ℕ) → says_to (scene_of deeds.old w t) connection line.now ≡ came_to_of w deeds.new o) }
+    ensures { IfOk result (λ o. (w : World) (t : ℕ) → says_to (scene_of deeds.old w t) connection line.now ≡ came_to_of deeds.new o w) }
 {
     tell_line(alloc, deeds, connection, line)?;
     Ok(Finish::nothing())

@@ -14,7 +14,7 @@ use task_step::outcome::{Due, Ending, Outcome, OutputLine, Queued};
 
 /// The outcome of a step, by what it has done and how it finished. No connection's number is negative.
 pub fn outcome(alloc: Global, deeds: &Deeds, finish: Finish) -> Result<Outcome, AllocError>
-    ensures { IfOk result (λ o. (w : World) → came_to_of w deeds.now finish ≡ (w, o)) }
+    ensures { IfOk result (λ o. (w : World) → came_to_of deeds.now finish w ≡ (w, o)) }
 {
     let output = output_lines(alloc, &deeds.output)?;
     let queued = queued_tasks(alloc, &deeds.queued)?;

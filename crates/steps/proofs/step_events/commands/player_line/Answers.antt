@@ -8,6 +8,7 @@ use Rattle.rules.proofs.Tellings.{if_ok_as}
 use Rattle.rules.proofs.InheritStanding.{agreeing_stands}
 use Rattle.moo_task.specs.Deeds.{scene_of}
 use Rattle.steps.proofs.StepsPlaying.{plays_then, ready_told, still}
+use Rattle.steps.specs.StepsPerformed.{came_to_of}
 use Rattle.steps.proofs.step_events.commands.player_line.Goals as goal
 
 pub parse-requires-clause-well_formed : goal.parse-requires-clause-well_formed
@@ -16,7 +17,7 @@ parse-requires-clause-well_formed g c w h = agreeing_stands (g.V.View.now c.args
 pub run_command-requires-clause-ready : goal.run_command-requires-clause-ready
 run_command-requires-clause-ready g c =
     let person : to_z w32 (of_z w32 c.link.inside.person) ≡ c.args.link.now.person = search rules in
-    ready_told g.V.View.holds g.V.View.now c.args.view.now c.parse.new.view (λ w. command_said w c.args.link.now.person c.args.text.now ≡ command_of c.in_ok-command.command) c.args.deeds c.requires.ready
+    ready_told g.V.View.holds g.V.View.now c.args.view.now c.parse.new.view (λ w. command_said w c.args.link.now.person c.args.text.now ≡ command_of c.in_ok-command.command) c.args.deeds.now c.requires.ready
     (rw person at c.in_ok-command.ensures.left)
 
 pub run_command-requires-clause-link : goal.run_command-requires-clause-link
@@ -32,8 +33,8 @@ returns-clause-played g c =
     let person : to_z w32 (of_z w32 c.link.inside.person) ≡ c.args.link.now.person = search rules in
     if_ok_as _ _
     (λ o played. plays_then g.V.View.holds g.V.View.now c.args.view.now c.parse.new.view c.run_command.new.view (λ w. command_said w c.args.link.now.person c.args.text.now ≡ command_of c.in_ok-command.command)
-    (λ w. player_line (scene_of c.args.deeds w foreground_ticks) c.args.connection c.args.link.now.person c.args.text.now)
-    (λ w. command_run (scene_of c.args.deeds w foreground_ticks) c.args.connection c.args.link.now.person (command_of c.in_ok-command.command)) o
+    (λ w. player_line (scene_of c.args.deeds.now w foreground_ticks) c.args.connection c.args.link.now.person c.args.text.now)
+    (λ w. command_run (scene_of c.args.deeds.now w foreground_ticks) c.args.connection c.args.link.now.person (command_of c.in_ok-command.command)) (came_to_of c.run_command.new.deeds o)
     (rw person at c.in_ok-command.ensures.left) played
-    (λ w is. ap (command_run (scene_of c.args.deeds w foreground_ticks) c.args.connection c.args.link.now.person) is))
+    (λ w is. ap (command_run (scene_of c.args.deeds.now w foreground_ticks) c.args.connection c.args.link.now.person) is))
     c.run_command.result (rw connection at c.run_command.ensures.played)

@@ -12,11 +12,12 @@ use Rattle.player_commands.specs.Meanings.{named_of}
 use Rattle.moo_task.specs.Deeds.{scene_of}
 use Rattle.rules.proofs.Tellings.{if_ok_as}
 use Rattle.steps.proofs.StepsPlaying.{plays_then, ready_told}
+use Rattle.steps.specs.StepsPerformed.{came_to_of}
 use Rattle.steps.proofs.step_events.commands.run_huh.Goals as goal
 
 pub play_task-requires-clause-ready : goal.play_task-requires-clause-ready
 play_task-requires-clause-ready g c =
-    ready_told g.V.View.holds g.V.View.now c.args.view.now c.location.new.view (λ w. location_of (object_at w c.args.player) ≡ c.in_ok-room.room) c.args.deeds c.requires.ready
+    ready_told g.V.View.holds g.V.View.now c.args.view.now c.location.new.view (λ w. location_of (object_at w c.args.player) ≡ c.in_ok-room.room) c.args.deeds.now c.requires.ready
     (rw (to_z-of_z w32 c.args.player c.ranges.player) at c.in_ok-room.ensures.left)
 
 pub play_task-requires-clause-runs : goal.play_task-requires-clause-runs
@@ -39,8 +40,8 @@ returns-clause-played g c =
     let task = λ (room : ℤ). begun c.args.player (command_call c.args.player room (codes "huh") f) p.verb (command_start p (named_of c.args.said)) (of_list (as_texts p.args)) (f.verb).program in
     if_ok_as _ _
     (λ o played n. plays_then view.holds view.now c.args.view.now c.location.new.view c.play_task.new.view (λ w. location_of (object_at w c.args.player) ≡ c.in_ok-room.room)
-    (λ w. command_run (scene_of c.args.deeds w foreground_ticks) n c.args.player (calls_huh p (named_of c.args.said) f))
-    (λ w. came_to (run (scene_of c.args.deeds w foreground_ticks) (task c.in_ok-room.room))) o (rw player at c.in_ok-room.ensures.left)
+    (λ w. command_run (scene_of c.args.deeds.now w foreground_ticks) n c.args.player (calls_huh p (named_of c.args.said) f))
+    (λ w. came_to (run (scene_of c.args.deeds.now w foreground_ticks) (task c.in_ok-room.room))) (came_to_of c.play_task.new.deeds o) (rw player at c.in_ok-room.ensures.left)
     (rw c.in_ok-task.ensures.ticks at (played (task c.in_ok-room.room) (rw (player, call, c.in_ok-program.ensures) at c.in_ok-task.ensures.runs)))
-    (λ w is. ap (λ (room : ℤ). came_to (run (scene_of c.args.deeds w foreground_ticks) (task room))) is))
+    (λ w is. ap (λ (room : ℤ). came_to (run (scene_of c.args.deeds.now w foreground_ticks) (task room))) is))
     c.play_task.result c.play_task.ensures.played

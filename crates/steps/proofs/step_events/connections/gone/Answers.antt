@@ -13,8 +13,8 @@ returns-then-nobodys-clause-played g c w h =
     let v = g.V.View.now c.args.view.now w in
     let nobody : int_eq c.args.person (connection_object c.args.connection) ≡ true = sym (rw (to_z-of_z w32 c.args.person c.ranges.person, to_z-of_z w32 c.args.connection c.ranges.connection) at c.is_nobodys-nobodys.ensures) ∙ c.if-nobodys.true in (
       h,
-      ap (λ b. if b then nothing_runs (scene_of c.args.deeds v foreground_ticks) else told_gone (scene_of c.args.deeds v foreground_ticks) c.args.person (find_verb v system (codes "user_disconnected"))) nobody
-          ∙ c.in_ok-outcome.ensures v foreground_ticks,
+      ap (λ b. if b then nothing_runs (scene_of c.args.deeds.now v foreground_ticks) else told_gone (scene_of c.args.deeds.now v foreground_ticks) c.args.person (find_verb v system (codes "user_disconnected"))) nobody
+          ∙ c.nothing.ensures c.args.deeds.now v foreground_ticks,
     )
 
 pub returns-clause-played : goal.returns-clause-played
@@ -22,5 +22,5 @@ returns-clause-played g c w h =
     let view = g.V.View in
     let v = view.now c.args.view.now w in
     let somebody : int_eq c.args.person (connection_object c.args.connection) ≡ false = sym (rw (to_z-of_z w32 c.args.person c.ranges.person, to_z-of_z w32 c.args.connection c.ranges.connection) at c.is_nobodys-nobodys.ensures) ∙ c.if-nobodys.false in
-    let r = (rw (to_z-of_z w32 c.args.person c.ranges.person) at c.in_ok-outcome-2.ensures.played) w h in
-    (r.0, ap (λ b. if b then nothing_runs (scene_of c.args.deeds v foreground_ticks) else told_gone (scene_of c.args.deeds v foreground_ticks) c.args.person (find_verb v system (codes "user_disconnected"))) somebody ∙ r.1)
+    let r = (rw (to_z-of_z w32 c.args.person c.ranges.person) at c.in_ok-outcome.ensures.played) w h in
+    (r.0, ap (λ b. if b then nothing_runs (scene_of c.args.deeds.now v foreground_ticks) else told_gone (scene_of c.args.deeds.now v foreground_ticks) c.args.person (find_verb v system (codes "user_disconnected"))) somebody ∙ r.1)

@@ -23,8 +23,8 @@ returns-then-nobodys-clause-played g c =
     let v = g.V.View.now c.args.view.now w in
     let r = played (words_value t) c.in_ok-arguments.ensures w h in (
       r.0,
-      ap (λ b. if b then login (scene_of c.args.deeds v foreground_ticks) c.args.connection t (words_value t) else player_line (scene_of c.args.deeds v foreground_ticks) c.args.connection c.args.link.now.person t) nobody
-          ∙ ap (λ (x : Text). login (scene_of c.args.deeds v foreground_ticks) c.args.connection x (words_value t)) (sym argstr) ∙ r.1,
+      ap (λ b. if b then login (scene_of c.args.deeds.now v foreground_ticks) c.args.connection t (words_value t) else player_line (scene_of c.args.deeds.now v foreground_ticks) c.args.connection c.args.link.now.person t) nobody
+          ∙ ap (λ (x : Text). login (scene_of c.args.deeds.now v foreground_ticks) c.args.connection x (words_value t)) (sym argstr) ∙ r.1,
     ))
     c.login.result (rw connection at c.login.ensures.played)
 
@@ -39,6 +39,6 @@ returns-clause-played g c =
     let v = g.V.View.now c.args.view.now w in
     let r = played w h in (
       r.0,
-      ap (λ b. if b then login (scene_of c.args.deeds v foreground_ticks) c.args.connection t (words_value t) else player_line (scene_of c.args.deeds v foreground_ticks) c.args.connection c.args.link.now.person t) somebody ∙ r.1,
+      ap (λ b. if b then login (scene_of c.args.deeds.now v foreground_ticks) c.args.connection t (words_value t) else player_line (scene_of c.args.deeds.now v foreground_ticks) c.args.connection c.args.link.now.person t) somebody ∙ r.1,
     ))
     c.player_line.result (rw connection at c.player_line.ensures.played)

@@ -13,7 +13,7 @@ returns-in-Some-clause-played g c =
     let is : c.args.link.now.programming ≡ Some c.in-Some.programming = search rules in
     if_ok_as _ _
     (λ o played. plays_as g.V.View.holds g.V.View.now c.args.view.now c.collect.new.view
-    (λ (p : Option Programming) (w : World). line_taken (scene_of c.args.deeds w foreground_ticks) c.args.connection c.args.link.now c.args.text.now p) c.args.link.now.programming (Some c.in-Some.programming)
+    (λ (p : Option Programming) (w : World). line_taken (scene_of c.args.deeds.now w foreground_ticks) c.args.connection c.args.link.now c.args.text.now p) c.args.link.now.programming (Some c.in-Some.programming)
     o is played)
     c.collect.result (rw (to_z-of_z w32 c.args.connection c.ranges.connection) at c.collect.ensures.played)
 
@@ -22,6 +22,6 @@ returns-in-None-clause-played g c =
     let is : c.args.link.now.programming ≡ None = search rules in
     if_ok_as _ _
     (λ o played. plays_as g.V.View.holds g.V.View.now c.args.view.now c.read_line.new.view
-    (λ (p : Option Programming) (w : World). line_taken (scene_of c.args.deeds w foreground_ticks) c.args.connection c.args.link.now c.args.text.now p) c.args.link.now.programming None
+    (λ (p : Option Programming) (w : World). line_taken (scene_of c.args.deeds.now w foreground_ticks) c.args.connection c.args.link.now c.args.text.now p) c.args.link.now.programming None
     o is played)
     c.read_line.result (rw (to_z-of_z w32 c.args.connection c.ranges.connection) at c.read_line.ensures.played)

@@ -31,6 +31,6 @@ returns-clause-played g c args is w h =
     let may = rw (object, made) at (c.in_ok-task.ensures.runs args is) in
     let r = (rw c.in_ok-task.ensures.ticks at (c.in_ok-ran.ensures.ran p may)) w t.0 in (
       r.0,
-      login_taken (scene_of c.args.deeds (view.now c.args.view.now w) foreground_ticks) c.args.connection p (view.now c.run_task.new.view w) (view.now c.accept.new.view w) c.in_ok-ran.ran c.accept.new.deeds
-          c.in_ok-outcome.outcome r.1 t.1 c.in_ok-outcome.ensures,
+      login_taken (scene_of c.args.deeds.now (view.now c.args.view.now w) foreground_ticks) c.args.connection p (view.now c.run_task.new.view w) (view.now c.accept.new.view w) c.run_task.new.deeds c.accept.new.deeds
+          c.in_ok-ran.ran r.1 t.1,
     )

@@ -8,6 +8,7 @@ use Rattle.spec_moo.specs.Steps.Programming.{written}
 use Rattle.moo_task.specs.Deeds.{scene_of}
 use Rattle.builtins_view.specs.Programs.{with_program}
 use Rattle.steps.proofs.StepsPlaying.{plays_last}
+use Rattle.steps.specs.StepsPerformed.{came_to_of}
 use Rattle.steps.proofs.step_links.coding.put_tree.Goals as goal
 
 pub replace_program-requires-clause-there : goal.replace_program-requires-clause-there
@@ -19,6 +20,6 @@ returns-clause-played g c =
     let connection = to_z-of_z w32 c.args.connection c.ranges.connection in
     let change = λ (w : World). verb_changed w c.args.object c.args.place (with_program c.args.tree) in
     plays_last g.V.View.holds g.V.View.now c.args.view.now c.replace_program.new.view change
-    (λ (w : World). written (scene_of c.args.deeds w foreground_ticks) c.args.connection c.args.object c.args.place (program c.args.tree)) c.in_ok-outcome.outcome
+    (λ (w : World). written (scene_of c.args.deeds.now w foreground_ticks) c.args.connection c.args.object c.args.place (program c.args.tree)) (came_to_of c.says.new.deeds c.in_ok-outcome.outcome)
     (rw (object, c.in_ok-program.ensures) at c.in_ok-replace_program.ensures.left)
     (λ w. (rw connection at c.in_ok-outcome.ensures) (change w) foreground_ticks)

@@ -7,7 +7,7 @@ use Rattle.steps.proofs.step_links.coding.tell_fault.Goals as goal
 
 pub returns : goal.returns
 returns c p is w t object place =
-    let s = scene_of c.args.deeds w t in
+    let s = scene_of c.args.deeds.now w t in
     fault_written s c.args.connection object place p c.in_ok-line.line (c.in_ok-line.ensures p is)
     ∙ ap (says s c.args.connection) (sym c.as_str.ensures)
     ∙ (rw (to_z-of_z w32 c.args.connection c.ranges.connection) at c.in_ok-outcome.ensures) w t

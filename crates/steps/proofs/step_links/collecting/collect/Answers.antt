@@ -8,7 +8,7 @@ use Rattle.steps.proofs.step_links.collecting.collect.Goals as goal
 
 pub returns-then-ends-clause-played : goal.returns-then-ends-clause-played
 returns-then-ends-clause-played g c w h =
-    let s = scene_of c.args.deeds (g.V.View.now c.args.view.now w) foreground_ticks in
+    let s = scene_of c.args.deeds.now (g.V.View.now c.args.view.now w) foreground_ticks in
     let k = c.args.link.now in
     let p = c.args.programming.now in
     let r = (rw (to_z-of_z w32 c.args.connection c.ranges.connection) at c.in_ok-outcome.ensures.played) w h in
@@ -16,7 +16,7 @@ returns-then-ends-clause-played g c w h =
 
 pub returns-clause-played : goal.returns-clause-played
 returns-clause-played g c w h =
-    let s = scene_of c.args.deeds (g.V.View.now c.args.view.now w) foreground_ticks in
+    let s = scene_of c.args.deeds.now (g.V.View.now c.args.view.now w) foreground_ticks in
     let k = c.args.link.now in
     let p = c.args.programming.now in
     let r = (rw (to_z-of_z w32 c.args.connection c.ranges.connection) at c.in_ok-outcome-2.ensures.played) w h in

@@ -7,6 +7,7 @@ use Rattle.spec_moo.specs.Steps.Programming.{goes_on, with_line}
 use Rattle.moo_task.specs.Deeds.{scene_of}
 use Rattle.steps.proofs.StepsPlaying.{plays_last}
 use Rattle.steps.proofs.Relinks.{link_ranged, written_goes}
+use Rattle.steps.specs.StepsPerformed.{came_to_of}
 use Rattle.steps.proofs.step_links.collecting.keep.Goals as goal
 
 pub returns-clause-played : goal.returns-clause-played
@@ -14,11 +15,11 @@ returns-clause-played g c =
     let view = g.V.View in
     let home = view.home c.args.view.now in
     let connection = to_z-of_z w32 c.args.connection c.ranges.connection in
-    let ranged = link_ranged (scene_of c.args.deeds (view.now c.args.view.now home) foreground_ticks) c.args.connection c.args.link.now (c.requires.ready home c.requires.home foreground_ticks) (c.requires.link home c.requires.home) in
+    let ranged = link_ranged (scene_of c.args.deeds.now (view.now c.args.view.now home) foreground_ticks) c.args.connection c.args.link.now (c.requires.ready home c.requires.home foreground_ticks) (c.requires.link home c.requires.home) in
     let p = c.args.programming.now in
     let k : Link = record { person = c.args.link.now.person; programming = Some (record { object = p.object; verb = p.verb; lines = with_line p.lines c.args.text.now }) } in
     let made = rw connection at c.in_ok-write_link.ensures.left in
     plays_last view.holds view.now c.args.view.now c.write_link.new.view (λ w. open_link w c.args.connection k)
-    (λ w. goes_on (scene_of c.args.deeds w foreground_ticks) c.args.connection c.args.link.now p c.args.text.now) c.in_ok-outcome.outcome
+    (λ w. goes_on (scene_of c.args.deeds.now w foreground_ticks) c.args.connection c.args.link.now p c.args.text.now) (came_to_of c.args.deeds.now c.nothing.result)
     (written_goes view.holds view.now c.args.view.now c.write_link.new.view c.args.connection _ k ranged (search rules) made)
-    (λ w. c.in_ok-outcome.ensures (open_link w c.args.connection k) foreground_ticks)
+    (λ w. c.nothing.ensures c.args.deeds.now (open_link w c.args.connection k) foreground_ticks)

@@ -153,6 +153,7 @@ fn run_huh<V: View, N: Natives>(
 }
 
 // Who runs a verb that a command names.
+#[inline(always)]
 fn command_call(player: i32, this: i32, word: Text, found: &FoundVerb) -> Call
     ensures { result ≡ command_call_of player this word found.now }
 {
@@ -169,6 +170,7 @@ fn command_call(player: i32, this: i32, word: Text, found: &FoundVerb) -> Call
 }
 
 // A task that begins with a verb for a command, in this room, whose first word its variable `verb` has.
+#[inline(always)]
 fn command_task(
     alloc: Global,
     room: Room,

@@ -6,7 +6,9 @@ ghost use Rattle.moo_task.specs.Outcomes.{ticks_of};
 ghost use Rattle.steps.specs.Tasks.{MayRun, called_as as called_as_of};
 
 use moo_program::program::Program;
+use moo_task::begin::begin as begin_verb;
 use moo_task::moo_machine::call::{Call, Start};
+use moo_task::outers::Outers;
 use moo_task::room::Room;
 use moo_task::running::Running;
 use moo_task::start::SharedStart;
@@ -16,6 +18,7 @@ use rules::inherit::verb::FoundVerb;
 use std::alloc::{AllocError, Global};
 
 /// A task that begins with a verb, in this room, whose variable `verb` holds a word.
+#[inline(always)]
 pub fn begin(
     alloc: Global,
     room: Room,
@@ -32,14 +35,17 @@ pub fn begin(
 {
     let called = called_as(&call, word);
     let start = SharedStart::new(alloc, start)?;
-    let mut task = Running::start(
-        alloc, room, player, start, called, program, arguments, ticks,
-    )?;
-    task.frame.call = call;
-    Ok(task)
+    let mut frame = begin_verb(room, player, start, called, program, arguments, ticks)?;
+    frame.call = call;
+    Ok(Running {
+        player,
+        frame,
+        outer: Outers::new(alloc),
+    })
 }
 
 // Who runs the verb, by another name.
+#[inline(always)]
 fn called_as(call: &Call, word: Text) -> Call
     ensures { result ≡ called_as_of call.now word }
 {

@@ -22,6 +22,7 @@ pub const FOREGROUND_TICKS: u32 = 30_000;
 pub const QUEUED_TICKS: u32 = 15_000;
 
 /// What a step has done before any task of it runs.
+#[inline(always)]
 pub fn opening(alloc: Global, step: &Step) -> Deeds
     ensures { IsOpening step.now result }
 {

@@ -29,8 +29,9 @@ use std::alloc::{AllocError, Global};
 use std::collections::VecDeque;
 
 // Takes what was begun last.
-fn pop(begun: &mut VecDeque<Frame>) -> Option<Frame>
-    ensures { Pops begun.old.items result begun.new.items }
+#[inline(always)]
+fn pop(begun: &mut Box<VecDeque<Frame>>) -> Option<Frame>
+    ensures { Pops begun.old.value.items result begun.new.value.items }
 {
     begun.pop_front()
 }

@@ -85,16 +85,16 @@ fn is_at_end(left: &Left) -> bool
     left.rest.tokens.is_empty() && left.rest.fault.is_none()
 }
 
-fn begins_block(begun: &VecDeque<Frame>) -> bool
-    ensures { result ≡ begins_block begun.now.items }
+fn begins_block(begun: &Box<VecDeque<Frame>>) -> bool
+    ensures { result ≡ begins_block begun.now.value.items }
 {
     matches!(begun.front(), Some(Frame::Block(_)))
 }
 
 // Whether a block that is found is the whole text.
 #[tactic(auto, using(crate::proofs::EndsTell::whole_by_frame))]
-fn is_whole(begun: &VecDeque<Frame>) -> bool
-    ensures { result ≡ is_whole (all_begun begun.now.items a_block) }
+fn is_whole(begun: &Box<VecDeque<Frame>>) -> bool
+    ensures { result ≡ is_whole (all_begun begun.now.value.items a_block) }
 {
     !begins_block(begun)
 }
@@ -153,8 +153,8 @@ fn block_in(next: Next) -> Option<Block>
 
 // The block of the whole text, if that was found.
 #[tactic(auto, using(crate::proofs::EndsTell::text_whole, crate::proofs::EndsTell::text_not_whole))]
-fn whole_block(next: Next, begun: &VecDeque<Frame>) -> Option<Block>
-    ensures { (ts : List Meant) → come_out (next_of next begun.now.items) ts ≡ got_or_stuck (block_if result) ts }
+fn whole_block(next: Next, begun: &Box<VecDeque<Frame>>) -> Option<Block>
+    ensures { (ts : List Meant) → come_out (next_of next begun.now.value.items) ts ≡ got_or_stuck (block_if result) ts }
 {
     if is_whole(begun) {
         block_in(next)

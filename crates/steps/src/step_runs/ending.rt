@@ -97,6 +97,7 @@ fn leave<N: Natives>(natives: &mut N, task: Running) {
 }
 
 // A task that has ended by itself.
+#[inline(always)]
 fn ended<V: View>(
     alloc: Global,
     view: &mut V,

@@ -29,9 +29,8 @@ use std::alloc::{AllocError, Global};
 use std::collections::VecDeque;
 
 // Takes what was begun last.
-#[inline(always)]
-fn pop(begun: &mut Box<VecDeque<Frame>>) -> Option<Frame>
-    ensures { Pops begun.old.value.items result begun.new.value.items }
+fn pop(begun: &mut VecDeque<Frame>) -> Option<Frame>
+    ensures { Pops begun.old.items result begun.new.items }
 {
     begun.pop_front()
 }

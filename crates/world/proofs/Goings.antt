@@ -117,3 +117,9 @@ goes_by_verbs (Err e) old new o sound told now = tt
 -- a start that answers as home does is left
 pub stays : (old new : Trace) (q : Question) (w : World) → IsTold old new q → IsStart old w → ask w q ≡ ask old.home q → IsStart new w
 stays old new q w told is alike = (is.0, (told.agreeing w).1 (is.1, alike))
+
+-- the same where a question came to an end
+pub stays_if_told : {A E : Type 0} (result : Result A E) (old new : Trace) (q : Question) → OnOk result (IsTold old new q)
+    → OnOk result ((w : World) → IsStart old w → ask w q ≡ ask old.home q → ask (world_now old w) q ≡ ask (world_now old old.home) q → IsStart new w)
+stays_if_told (Ok a) old new q told = λ w is alike _. stays old new q w told is alike
+stays_if_told (Err e) old new q told = tt

@@ -7,8 +7,8 @@ use Rattle.world.proofs.Found.{held_by_one, held_by_some}
 use Rattle.world.proofs.Goings.{agrees_longer, kept_told, on_either, on_good}
 use Rattle.world.proofs.tracked.Tracked.keep.Goals as goal
 
-pub invariant_of-self : goal.invariant_of-self
-invariant_of-self c =
+pub invariant_of-self-2 : goal.invariant_of-self-2
+invariant_of-self-2 c =
     let home = c.self.inside.overlay.home in (
       c.self.invariant.0,
       on_either c.push.result c.push.ensures.ok c.push.ensures.err

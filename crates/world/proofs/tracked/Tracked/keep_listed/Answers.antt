@@ -7,8 +7,8 @@ use Rattle.world.proofs.Found.{held_by_one, held_by_some}
 use Rattle.world.proofs.Goings.{agrees_longer, kept_told, on_either, on_good}
 use Rattle.world.proofs.tracked.Tracked.keep_listed.Goals as goal
 
-pub invariant_of-self : goal.invariant_of-self
-invariant_of-self c =
+pub invariant_of-self-2 : goal.invariant_of-self-2
+invariant_of-self-2 c =
     let home = c.self.inside.overlay.home in
     let named : question_of c.in_ok-question.question ≡ question_of c.args.question.now = ap question_of c.in_ok-question.ensures.cases in
     let answered : answer_of c.in_ok-boxed.boxed.value ≡ ask home (question_of c.args.question.now) =

@@ -9,7 +9,7 @@ use Rattle.std.proofs.Crossing.{crosses}
 use Rattle.due_table.proofs.Crossing.{due_send, due_sync}
 use Rattle.moo_task.proofs.Crossing.{task_send, task_sync}
 use Rattle.moo_task.specs.contracts.task.Task as task
-use Rattle.view.proofs.PartsCrossing.{object_send, object_sync, link_send, link_sync, question_send, answer_send}
+use Rattle.view.proofs.PartsCrossing.{object_send, object_sync, link_send, link_sync, answer_send}
 use Rattle.view.specs.contracts.link.Link as link
 use Rattle.view.specs.contracts.object.Object as object
 use Rattle.world_table.proofs.Crossing.{table_send, table_sync}
@@ -74,7 +74,7 @@ pub shared_send : IsSend shared.the_row
 shared_send = search (sendable, crosses, snapshot_send, snapshot_sync) depth 60
 
 noted_send : IsSend noted.the_row
-noted_send = search (sendable, crosses, question_send, answer_send) depth 60
+noted_send = search (sendable, crosses, answer_send) depth 60
 
 pub seen_send : IsSend seen.the_row
 seen_send = search (sendable, crosses, shared_send, noted_send) depth 60

@@ -1,5 +1,4 @@
-use Rattle.std.proofs.Common.{◌≡◌, ◌∙◌, true, rules, sym, ap, subst, w32, to_z, of_z, Some, Option}
-use Rattle.spec_world.specs.World.{Slot}
+use Rattle.std.proofs.Common.{◌≡◌, ◌∙◌, true, rules, sym, subst, w32, to_z, of_z, Some}
 use Rattle.spec_world.specs.Inherit.{slot_at}
 use Rattle.spec_world.specs.Permissions.{owns_or}
 use Rattle.view.specs.Writing.{IsWrittenBy}

@@ -1,4 +1,4 @@
-use Rattle.std.proofs.Common.{◌≡◌, ◌∙◌, Option, option_map, sym, ap, w32}
+use Rattle.std.proofs.Common.{◌∙◌, Option, option_map, sym, ap, w32}
 use Rattle.std.proofs.lemmas.Int.{to_z-of_z}
 use Rattle.spec_value.specs.Datum.{Datum}
 use Rattle.spec_world.specs.Inherit.{slot_at}

@@ -1,4 +1,4 @@
-use Rattle.std.proofs.Common.{◌≡◌, map, sym, ap, subst, refl}
+use Rattle.std.proofs.Common.{map, sym, ap, subst, refl}
 use Rattle.spec_world.specs.Questions.{Agrees, ask}
 use Rattle.world.specs.Seen.{read_on}
 use Rattle.world.specs.Sought.{sought_of}

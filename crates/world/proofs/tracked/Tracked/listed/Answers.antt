@@ -1,5 +1,5 @@
-use Rattle.std.proofs.Common.{◌≡◌, map, sym, subst}
-use Rattle.spec_world.specs.Questions.{Read, ask, apply_all}
+use Rattle.std.proofs.Common.{map, sym, subst}
+use Rattle.spec_world.specs.Questions.{Read}
 use Rattle.view.specs.Meanings.{question_of, answer_of}
 use Rattle.world.specs.Seen.{read_on}
 use Rattle.world.specs.Trace.{Trace, IsTold}

@@ -1,4 +1,4 @@
-use Rattle.std.proofs.Common.{◌≡◌, map, subst}
+use Rattle.std.proofs.Common.{map, subst}
 use Rattle.world.specs.Seen.{read_on}
 use Rattle.world.specs.Sought.{sought_of}
 use Rattle.world.specs.Trace.{Trace, IsTold}

@@ -1,4 +1,4 @@
-use Rattle.view.specs.Meanings.{question_of, answer_of}
+use Rattle.view.specs.Meanings.{answer_of}
 use Rattle.world.proofs.Goings.{goes_if_told}
 use Rattle.world.proofs.tracked.TrackedView.get.Goals as goal
 

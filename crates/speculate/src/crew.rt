@@ -20,6 +20,7 @@ use std::alloc::Global;
 use std::sync::Wait;
 use std::thread;
 use std::thread::{Builder, Threads};
+use task_run::rooms::Rooms;
 use task_step::partial::{Partial, Refusal};
 use task_step::stack::STACK_SIZE;
 use task_step::step::Step;
@@ -121,11 +122,14 @@ fn work<J: Run, G: Gate, R: Wait>(
     requires range { AllInRange steps.now }
     requires seat { seat.offer ≡ claims.now }
 {
+    let mut rooms = Rooms::new(alloc);
     let mut sight = shared.look(rt, alloc, ahead);
     'claim: while let Some(ticket) = claims.claim(&mut seat) {
         let first = ticket.position().saturating_mul(size).min(steps.len());
         let end = first.saturating_add(size).min(steps.len());
-        sight = play_batch(rt, alloc, gate, shared, steps, first, end, ahead, sight);
+        sight = play_batch(
+            rt, alloc, gate, &mut rooms, shared, steps, first, end, ahead, sight,
+        );
     }
 }
 
@@ -135,6 +139,7 @@ fn play_batch<J: Run, G: Gate, R: Wait>(
     rt: &R,
     alloc: Global,
     gate: &G,
+    rooms: &mut Rooms,
     shared: &SharedBoard<J>,
     steps: &[Step],
     first: usize,
@@ -152,12 +157,16 @@ fn play_batch<J: Run, G: Gate, R: Wait>(
         let Some((from, to)) = next_up(&sight, first, end) else {
             break;
         };
-        sight = guess_and_hand_in(rt, alloc, gate, shared, steps, from, to, ahead, sight);
+        sight = guess_and_hand_in(
+            rt, alloc, gate, rooms, shared, steps, from, to, ahead, sight,
+        );
     }
     if is_done(&sight, end) {
         return sight;
     }
-    guess_and_hand_in(rt, alloc, gate, shared, steps, first, end, ahead, sight)
+    guess_and_hand_in(
+        rt, alloc, gate, rooms, shared, steps, first, end, ahead, sight,
+    )
 }
 
 // As many positions as from the first one up to the end, which are to be committed next, where the first one is too far ahead of them.
@@ -190,6 +199,7 @@ fn guess_and_hand_in<J: Run, G: Gate, R: Wait>(
     rt: &R,
     alloc: Global,
     gate: &G,
+    rooms: &mut Rooms,
     shared: &SharedBoard<J>,
     steps: &[Step],
     first: usize,
@@ -203,7 +213,7 @@ fn guess_and_hand_in<J: Run, G: Gate, R: Wait>(
     ensures { IfSome result (λ s. s.snapshot ≡ world_after J.base.plain J.steps s.count) }
 {
     let mut found = room(alloc, end.saturating_sub(first));
-    let seen = guess_on(alloc, gate, sight, steps, first, end, &mut found);
+    let seen = guess_on(alloc, gate, rooms, sight, steps, first, end, &mut found);
     shared.hand_in(rt, alloc, first, end, found, seen, ahead)
 }
 
@@ -221,6 +231,7 @@ fn room(alloc: Global, count: usize) -> Vec<(usize, Guess)>
 fn guess_on<G: Gate>(
     alloc: Global,
     gate: &G,
+    rooms: &mut Rooms,
     sight: Option<Sight>,
     steps: &[Step],
     first: usize,
@@ -234,7 +245,16 @@ fn guess_on<G: Gate>(
 {
     match sight {
         Some(sight) => {
-            guess_batch(alloc, gate, &sight.snapshot, steps, first, end, found);
+            guess_batch(
+                alloc,
+                gate,
+                rooms,
+                &sight.snapshot,
+                steps,
+                first,
+                end,
+                found,
+            );
             sight.count
         }
         None => 0,
@@ -245,6 +265,7 @@ fn guess_on<G: Gate>(
 fn guess_batch<G: Gate>(
     alloc: Global,
     gate: &G,
+    rooms: &mut Rooms,
     snapshot: &SharedSnapshot,
     steps: &[Step],
     first: usize,
@@ -257,7 +278,7 @@ fn guess_batch<G: Gate>(
     ensures { All (λ f. f.1.before ≡ snapshot.now) found.new.items }
 {
     'at: for at in first..end {
-        if let Some(guess) = guess_at(alloc, gate, snapshot, steps, at) {
+        if let Some(guess) = guess_at(alloc, gate, rooms, snapshot, steps, at) {
             note(found, at, guess);
         }
     }

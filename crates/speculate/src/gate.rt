@@ -3,8 +3,9 @@ ghost use Rattle.std.specs.Prelude.{◌≡◌, ◌<◌, IsTrue, IfOk, IfSome, le
 ghost use Rattle.spec_world.specs.Step.{AllInRange, in_range};
 
 use crate::guesses::Guess;
-use crate::guessing::guess;
+use crate::guessing::{guess, guess_in};
 use std::alloc::{AllocError, Global};
+use task_run::rooms::Rooms;
 use task_step::step::Step;
 use world::shared::SharedSnapshot;
 
@@ -51,10 +52,11 @@ impl Gate for Free {
     }
 }
 
-/// The gate's guess for the step at a position, if it gives one.
+/// The gate's guess for the step at a position, if it gives one. Where it does nothing but guess, the guess is made in the room of an earlier one.
 pub(crate) fn guess_at<G: Gate>(
     alloc: Global,
     gate: &G,
+    rooms: &mut Rooms,
     snapshot: &SharedSnapshot,
     steps: &[Step],
     at: usize,
@@ -63,5 +65,8 @@ pub(crate) fn guess_at<G: Gate>(
     requires at { at < length steps.now }
     ensures { IfSome result (λ g. g.before ≡ snapshot.now) }
 {
+    if gate.is_free() {
+        return guess_in(alloc, rooms, snapshot, &steps[at]).ok();
+    }
     gate.guess(alloc, at, snapshot, &steps[at]).ok()
 }

@@ -21,9 +21,25 @@ pub fn guess(alloc: Global, snapshot: &SharedSnapshot, step: &Step) -> Result<Gu
     ensures agrees { IfOk result (λ g. Agrees snapshot.now g.reads) }
     ensures before { IfOk result (λ g. g.before ≡ snapshot.now) }
 {
-    let mut view = Tracked::over(alloc, snapshot);
     let mut rooms = Rooms::new(alloc);
-    let outcome = run_step(alloc, &mut view, &mut rooms, step)?;
+    guess_in(alloc, &mut rooms, snapshot, step)
+}
+
+/// The same in the room of an earlier step.
+pub(crate) fn guess_in(
+    alloc: Global,
+    rooms: &mut Rooms,
+    snapshot: &SharedSnapshot,
+    step: &Step,
+) -> Result<Guess, AllocError>
+    requires { IsTrue (in_range step.now) }
+    ensures step { IfOk result (λ g. g.step ≡ step.now) }
+    ensures right { IfOk result (λ g. IsRight g) }
+    ensures agrees { IfOk result (λ g. Agrees snapshot.now g.reads) }
+    ensures before { IfOk result (λ g. g.before ≡ snapshot.now) }
+{
+    let mut view = Tracked::over(alloc, snapshot);
+    let outcome = run_step(alloc, &mut view, rooms, step)?;
     let (reads, changes) = view.finish();
     Ok(Guess {
         step: step.clone()?,

@@ -1,6 +1,6 @@
 use Rattle.std.proofs.Common.{◌≡◌}
 use Rattle.speculate.proofs.Recorded.{right_at, same_home, home_agrees}
-use Rattle.speculate.proofs.guessing.guess.Goals as goal
+use Rattle.speculate.proofs.guessing.guess_in.Goals as goal
 
 pub invariant_of-result : goal.invariant_of-result
 invariant_of-result c =

@@ -127,4 +127,4 @@ module _ (d e : Deeds) (w u : World) (task q : Running) (p : pending.Pending) (x
         let end = segment (ticks_of task) s p in
         let given = value_result r.ending value in
         let is : end.stop ≡ done given.0 = no_value_else end.stop given.0 (has_run.result ∙ given.1) in
-        ticks_aside (scene_of f v (ticks_of q)) t (subst IsReady has_run.scene (values_leave_ready s p given.0 ready may.keeps is))
+        ticks_aside (scene_of f v has_run.left) t (subst IsReady has_run.scene (values_leave_ready s p given.0 ready may.keeps is))

@@ -19,13 +19,13 @@ pub returns-in_ok-outcome-in-NotSeen-clause-played : goal.returns-in_ok-outcome-
 returns-in_ok-outcome-in-NotSeen-clause-played g c =
     let connection = to_z-of_z w32 c.args.connection c.ranges.connection in
     plays_here_as g.V.View.holds g.V.View.now c.args.view.now (λ (k : Opening) (w : World). opened (scene_of c.args.deeds.now w foreground_ticks) c.args.connection c.args.link.now.person k) c.args.opening _
-    (came_to_of c.says-2.new.deeds c.in_ok-outcome-in-NotSeen.outcome) c.in-NotSeen.is (λ w. (rw connection at c.in_ok-outcome-in-NotSeen.ensures) w foreground_ticks)
+    (came_to_of c.says-in-NotSeen.new.deeds c.in_ok-outcome-in-NotSeen.outcome) c.in-NotSeen.is (λ w. (rw connection at c.in_ok-outcome-in-NotSeen.ensures) w foreground_ticks)
 
 pub returns-in_ok-outcome-in-NotAllowed-clause-played : goal.returns-in_ok-outcome-in-NotAllowed-clause-played
 returns-in_ok-outcome-in-NotAllowed-clause-played g c =
     let connection = to_z-of_z w32 c.args.connection c.ranges.connection in
     plays_here_as g.V.View.holds g.V.View.now c.args.view.now (λ (k : Opening) (w : World). opened (scene_of c.args.deeds.now w foreground_ticks) c.args.connection c.args.link.now.person k) c.args.opening _
-    (came_to_of c.says-3.new.deeds c.in_ok-outcome-in-NotAllowed.outcome) c.in-NotAllowed.is (λ w. (rw connection at c.in_ok-outcome-in-NotAllowed.ensures) w foreground_ticks)
+    (came_to_of c.says-in-NotAllowed.new.deeds c.in_ok-outcome-in-NotAllowed.outcome) c.in-NotAllowed.is (λ w. (rw connection at c.in_ok-outcome-in-NotAllowed.ensures) w foreground_ticks)
 
 pub returns-in_ok-outcome-in-Collects-clause-played : goal.returns-in_ok-outcome-in-Collects-clause-played
 returns-in_ok-outcome-in-Collects-clause-played g c =

@@ -6,6 +6,7 @@ use Rattle.spec_moo.specs.Steps.Events.{line_taken, foreground_ticks}
 use Rattle.moo_task.specs.Deeds.{scene_of}
 use Rattle.rules.proofs.Tellings.{if_ok_as}
 use Rattle.steps.proofs.StepsPlaying.{plays_as}
+use Rattle.steps.specs.StepsPerformed.{came_to_of}
 use Rattle.steps.proofs.step_events.lines.take_line.Goals as goal
 
 pub returns-in-Some-clause-played : goal.returns-in-Some-clause-played
@@ -14,7 +15,7 @@ returns-in-Some-clause-played g c =
     if_ok_as _ _
     (λ o played. plays_as g.V.View.holds g.V.View.now c.args.view.now c.collect.new.view
     (λ (p : Option Programming) (w : World). line_taken (scene_of c.args.deeds.now w foreground_ticks) c.args.connection c.args.link.now c.args.text.now p) c.args.link.now.programming (Some c.in-Some.programming)
-    o is played)
+    (came_to_of c.collect.new.deeds o) is played)
     c.collect.result (rw (to_z-of_z w32 c.args.connection c.ranges.connection) at c.collect.ensures.played)
 
 pub returns-in-None-clause-played : goal.returns-in-None-clause-played
@@ -23,5 +24,5 @@ returns-in-None-clause-played g c =
     if_ok_as _ _
     (λ o played. plays_as g.V.View.holds g.V.View.now c.args.view.now c.read_line.new.view
     (λ (p : Option Programming) (w : World). line_taken (scene_of c.args.deeds.now w foreground_ticks) c.args.connection c.args.link.now c.args.text.now p) c.args.link.now.programming None
-    o is played)
+    (came_to_of c.read_line.new.deeds o) is played)
     c.read_line.result (rw (to_z-of_z w32 c.args.connection c.ranges.connection) at c.read_line.ensures.played)

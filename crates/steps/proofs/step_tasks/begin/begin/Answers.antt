@@ -14,4 +14,4 @@ returns-clause-runs c args is =
     c.in_ok-frame.ensures.frame args is ∙ ap (λ (k : Call). begun (to_z w32 (of_z w32 c.args.player)) c.in_ok-start.start k c.args.program args) c.called_as-called.ensures
     ∙ ap (λ (z : ℤ). begun z c.in_ok-start.start called c.args.program args) player
     ∙ ap (λ (s : Start). begun c.args.player s called c.args.program args) c.in_ok-start.ensures in
-    may_begin c.args.player c.args.call c.args.word c.args.start args c.args.program _ (kept_of c.in_ok-frame.frame) started refl refl c.new-2.ensures
+    may_begin c.args.player c.args.call c.args.word c.args.start args c.args.program _ (kept_of c.in_ok-frame.frame) started refl player c.new-2.ensures

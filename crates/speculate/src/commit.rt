@@ -10,9 +10,9 @@ ghost use Rattle.speculate.specs.Verbs.{SameVerbs, IsWithin, KnowsVerbs};
 
 use crate::guesses::{Guess, Spent, leave_verbs};
 use crate::held::{Held, Mark};
+use crate::room::Room;
 use crate::trying::try_on;
 use std::alloc::{AllocError, Global};
-use task_run::rooms::Rooms;
 use task_step::outcome::Outcome;
 use task_step::step::Step;
 use view::changes::Changes;
@@ -108,8 +108,8 @@ fn run(
     ensures verbs { IfOk result (λ d. IsTrue d.leaves_verbs → SameVerbs world.old.plain world.new.plain) }
     ensures err { IfErr result (λ h. (h ≡ held) × IsUndone world.old undone.old world.new undone.new) }
 {
-    let mut rooms = Rooms::new(alloc);
-    let Ok((outcome, changes, after)) = try_on(alloc, world, &mut rooms, step) else {
+    let mut room = Room::new(alloc);
+    let Ok((outcome, changes, after)) = try_on(alloc, world, &mut room, step) else {
         return Err(held);
     };
     if put_through(world, &changes, after).is_err() {

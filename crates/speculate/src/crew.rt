@@ -122,7 +122,7 @@ fn work<J: Run, G: Gate, R: Wait>(
     requires range { AllInRange steps.now }
     requires seat { seat.offer ≡ claims.now }
 {
-    let mut rooms = Rooms::new(alloc);
+    let mut rooms = Rooms::new();
     let mut sight = shared.look(rt, alloc, ahead);
     'claim: while let Some(ticket) = claims.claim(&mut seat) {
         let first = ticket.position().saturating_mul(size).min(steps.len());

@@ -21,7 +21,7 @@ pub fn guess(alloc: Global, snapshot: &SharedSnapshot, step: &Step) -> Result<Gu
     ensures agrees { IfOk result (λ g. Agrees snapshot.now g.reads) }
     ensures before { IfOk result (λ g. g.before ≡ snapshot.now) }
 {
-    let mut rooms = Rooms::new(alloc);
+    let mut rooms = Rooms::new();
     guess_in(alloc, &mut rooms, snapshot, step)
 }
 

@@ -10,11 +10,11 @@ use crate::gate::Gate;
 use crate::guesses::Guess;
 use crate::held::Mark;
 use crate::report::Report;
+use crate::room::Room;
 use crate::sight::shared;
 use crate::trying::try_on;
 use std::alloc::{AllocError, Global};
 use task_run::list::play_step;
-use task_run::rooms::Rooms;
 use task_step::outcome::Outcome;
 use task_step::partial::{Partial, Refusal, refused};
 use task_step::step::Step;
@@ -40,9 +40,9 @@ pub(crate) fn play_here<G: Gate>(
         Ok(places) => places,
         Err(_) => return Err(refused(alloc, Refusal::Memory, world)),
     };
-    let mut rooms = Rooms::new(alloc);
+    let mut room = Room::new(alloc);
     for (at, step) in steps.iter().enumerate() {
-        match step_here(alloc, gate, &mut world, &mut rooms, step, at) {
+        match step_here(alloc, gate, &mut world, &mut room, step, at) {
             Ok((outcome, mark)) => {
                 outcomes.push_reserved(outcome);
                 marks.push_reserved(mark);
@@ -82,7 +82,7 @@ fn step_here<G: Gate>(
     alloc: Global,
     gate: &G,
     world: &mut World,
-    rooms: &mut Rooms,
+    room: &mut Room,
     step: &Step,
     at: usize,
 ) -> Result<(Outcome, Mark), AllocError>
@@ -91,7 +91,7 @@ fn step_here<G: Gate>(
     ensures err { OnErr result (world.new.plain ≡ world.old.plain) }
     ensures views { IfOk result (λ r. world.new.opened ≡ world.old.opened + runs (r.1 ∷ [])) }
 {
-    match keep_here(alloc, gate, world, rooms, step, at) {
+    match keep_here(alloc, gate, world, room, step, at) {
         Some(outcome) => Ok((outcome, Mark::Kept)),
         None => run_here(alloc, world, step),
     }
@@ -103,7 +103,7 @@ fn keep_here<G: Gate>(
     alloc: Global,
     gate: &G,
     world: &mut World,
-    rooms: &mut Rooms,
+    room: &mut Room,
     step: &Step,
     at: usize,
 ) -> Option<Outcome>
@@ -111,7 +111,7 @@ fn keep_here<G: Gate>(
     ensures { MatchOption result (world.new ≡ world.old) (λ o. (play1 world.old.plain step.now ≡ (world.new.plain, o)) × (world.new.opened ≡ world.old.opened)) }
 {
     if gate.is_free() {
-        return keep_tried(alloc, world, rooms, step);
+        return keep_tried(alloc, world, room, step);
     }
     keep_guessed(alloc, gate, world, step, at)
 }
@@ -161,15 +161,15 @@ fn guess_here<G: Gate>(
 
 // The same by the step itself, without a guess. It leaves its room.
 #[inline(always)]
-fn keep_tried(alloc: Global, world: &mut World, rooms: &mut Rooms, step: &Step) -> Option<Outcome>
+fn keep_tried(alloc: Global, world: &mut World, room: &mut Room, step: &Step) -> Option<Outcome>
     requires { IsTrue (in_range step.now) }
     ensures { MatchOption result (world.new ≡ world.old) (λ o. (play1 world.old.plain step.now ≡ (world.new.plain, o)) × (world.new.opened ≡ world.old.opened)) }
 {
-    let Ok((outcome, changes, after)) = try_on(alloc, world, rooms, step) else {
+    let Ok((outcome, changes, after)) = try_on(alloc, world, room, step) else {
         return None;
     };
     let done = take_over(world, &changes, after);
-    rooms.changes = changes;
+    room.changes = changes;
     match done {
         Ok(()) => Some(outcome),
         Err(_) => None,

@@ -13,6 +13,7 @@ mod here;
 pub mod list;
 mod pace;
 pub mod report;
+mod room;
 pub mod schedules;
 mod several;
 pub mod shared;

@@ -5,9 +5,9 @@ ghost use Rattle.spec_world.specs.Step.{in_range};
 ghost use Rattle.spec_moo.specs.Steps.{play1};
 ghost use Rattle.view.specs.Sound.{IsSound};
 
+use crate::room::Room;
 use std::alloc::{AllocError, Global};
 use std::mem;
-use task_run::rooms::Rooms;
 use task_run::step::run_step;
 use task_step::outcome::Outcome;
 use task_step::step::Step;
@@ -22,7 +22,7 @@ use world::worlds::World;
 pub(crate) fn try_on(
     alloc: Global,
     world: &World,
-    rooms: &mut Rooms,
+    room: &mut Room,
     step: &Step,
 ) -> Result<(Outcome, Changes, Option<Draft>), AllocError>
     requires { IsTrue (in_range step.now) }
@@ -30,9 +30,9 @@ pub(crate) fn try_on(
     ensures sound { IfOk result (λ r. IsSound (apply_all r.1 world.now.plain)) }
     ensures after { IfOk result (λ r. IfSome r.2 (λ d. d ≡ apply_all r.1 world.now.plain)) }
 {
-    let room = mem::replace(&mut rooms.changes, Changes::new(alloc));
-    let mut view = Alone::over(alloc, world, room);
-    let outcome = run_step(alloc, &mut view, rooms, step)?;
+    let changes = mem::replace(&mut room.changes, Changes::new(alloc));
+    let mut view = Alone::over(alloc, world, changes);
+    let outcome = run_step(alloc, &mut view, &mut room.task, step)?;
     let (changes, after) = view.finish();
     Ok((outcome, changes, after))
 }

@@ -59,7 +59,7 @@ pub fn play_step(alloc: Global, world: &mut World, step: &Step) -> Result<Outcom
 {
     world.know();
     let mut live = Live::open(world);
-    let mut rooms = Rooms::new(alloc);
+    let mut rooms = Rooms::new();
     let outcome = run_step(alloc, &mut live, &mut rooms, step)?;
     live.keep();
     Ok(outcome)

@@ -60,7 +60,7 @@ impl<'s> Tracked<'s> {
     {
         snapshot.know();
         Tracked {
-            overlay: Overlay::over(alloc, snapshot.records()),
+            overlay: Overlay::over(alloc, snapshot.records(), Changes::new(alloc)),
             asked: Asked::new(alloc),
             snapshot,
             own: None,

@@ -3,6 +3,7 @@ pub mod Changing
 pub mod Puts
 pub mod Scattering
 pub mod Sharing
+pub mod Wanting
 pub mod MooStoresStoring
 pub mod Offering
 pub mod Around

@@ -1,5 +1,6 @@
 pub mod Targets
 pub mod Giving
+pub mod Wanting
 pub mod Putting
 pub mod Taking
 pub mod Offers

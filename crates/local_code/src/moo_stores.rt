@@ -4,3 +4,4 @@ pub mod perform;
 pub mod scatter;
 mod shares;
 mod slots;
+mod wanted;

@@ -15,6 +15,7 @@ pub mod Gathered
 pub mod Lists
 pub mod Opens
 pub mod Scattered
+pub mod Placed
 pub mod Slots
 pub mod Walked
 pub mod Whole

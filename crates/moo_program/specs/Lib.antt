@@ -4,6 +4,7 @@ pub mod Drafting
 pub mod Expressions
 pub mod Handling
 pub mod Compiled
+pub mod Counts
 pub mod Drafted
 pub mod Gathering
 pub mod Meaning

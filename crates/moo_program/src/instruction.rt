@@ -1,4 +1,9 @@
 //! Instructions as they run: slots stand for variables, and places for the parts to which they lead.
+ghost use Rattle.std.specs.Prelude.{◌≡◌, map, true};
+ghost use Rattle.std.proofs.Props.{props};
+ghost use Rattle.spec_value.specs.Scatter.{required_count};
+ghost use Rattle.moo_program.specs.Counts.{kind_meant, optional_before, are_placed};
+
 use crate::moo_bytecode::operation::{KnownCodes, Unraised, Way};
 use moo_value::operator::{BinaryOperator, UnaryOperator};
 use moo_value::text::Text;
@@ -119,6 +124,13 @@ pub enum Bracket {
 pub struct Scatter {
     pub items: Vec<Slot>,
     pub defaults: Vec<Part>,
+    /// How many items are required.
+    pub required: usize,
+    /// For each item, how many optional ones stand before it.
+    pub before: Vec<u32>,
+    pub ghost required_is: { required ≡ required_count (map kind_meant items.items) },
+    pub ghost before_is: { before.items ≡ optional_before 0 (map kind_meant items.items) } by { Prim.hlevel props },
+    pub ghost placed_is: { are_placed defaults.items ≡ true },
 }
 
 /// An item, by its variable.

@@ -5,6 +5,7 @@ mod assembly;
 mod compile;
 mod compiled;
 pub mod copies;
+mod counts;
 mod emit;
 mod gather;
 pub mod handlers;

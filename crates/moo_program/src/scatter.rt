@@ -9,6 +9,7 @@ ghost use Rattle.moo_program.specs.Meaning.{slot_meant, part_meant};
 ghost use Rattle.moo_program.specs.Names.{known};
 ghost use Rattle.moo_program.specs.Opens.{open_of};
 
+use crate::counts::counted;
 use crate::emit::{narrow, place, slot};
 use crate::instruction::{Part, Scatter, Slot};
 use crate::moo_bytecode::around::next;
@@ -138,10 +139,7 @@ fn scatter(
         put_slot(&mut slots, names, item)?;
         put_default(&mut defaults, here, next(i)?, item)?;
     }
-    Ok(Scatter {
-        items: slots,
-        defaults,
-    })
+    counted(alloc, slots, defaults)
 }
 
 // The variable of an item.

@@ -21,8 +21,6 @@ use crate::moo_machine::raising::raised;
 use crate::native::Native;
 use crate::outcome::{End, Outcome};
 use crate::outers::Outers;
-use crate::room::Room;
-use crate::start::SharedStart;
 use moo_program::program::Program;
 use moo_value::answer::{Answer, limited};
 use moo_value::error::MooError;
@@ -42,30 +40,6 @@ pub struct Running {
 }
 
 impl Running {
-    /// A task that begins with a verb, in this room, with these arguments and so many ticks.
-    pub fn start(
-        alloc: Global,
-        room: Room,
-        player: i32,
-        start: SharedStart,
-        call: Call,
-        program: Program,
-        arguments: Value,
-        ticks: u32,
-    ) -> Result<Running, AllocError>
-        ensures kept { IfOk result (λ r. (args : Data) → arguments ≡ list args → running_kept r ≡ begun player start call program args) }
-        ensures player { IfOk result (λ r. r.player ≡ player) }
-        ensures alone { IfOk result (λ r. r.outer ≡ []) }
-        ensures ticks { IfOk result (λ r. ticks_of r ≡ ticks) }
-    {
-        let frame = begin(room, player, start, call, program, arguments, ticks)?;
-        Ok(Running {
-            player,
-            frame,
-            outer: Outers::new(alloc),
-        })
-    }
-
     /// A task that waited at a call goes on behind it, with a value there and so many ticks.
     pub fn go_on(
         player: i32,

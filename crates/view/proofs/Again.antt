@@ -1,19 +1,18 @@
 -- A slot that gets a value twice: the first one plays no part.
-use Rattle.std.proofs.Common.{◌≡◌, ◌∙◌, ℕ, zero, suc, ◌-◌, ◌<◌, ℤ, Bool, true, false, cond, List, [], ◌∷◌, map, length, Option, Some, None, refl, sym, ap, subst, arith, get_or}
+use Rattle.std.proofs.Common.{◌≡◌, ◌∙◌, ℕ, zero, suc, ◌-◌, ℤ, Bool, true, List, [], ◌∷◌, map, length, Option, Some, None, refl, sym, ap, subst, arith, get_or}
 use Rattle.std.proofs.Math.ListN.{set}
-use Rattle.std.specs.Prelude.{option_map, Result, Ok, Err, IfOk}
-use Rattle.std.specs.Ordering.{int_cmp, int_eq, nat_cmp, is_eq}
+use Rattle.std.specs.Prelude.{Result, Ok, Err, IfOk}
 use Rattle.std.specs.declared.cmp.Ordering.{Ordering}
 use Rattle.std.specs.declared.cmp.Ordering.TheVariants.{Less, Equal, Greater}
 use Rattle.std.specs.Cmp.{int_cmp_total, IsTotalOrder, tied_itself}
-use Rattle.std.specs.Cmp.Lexicographic.{slice_cmp, nat_list_cmp_total}
-use Rattle.std.specs.FinMap.{find, put}
+use Rattle.std.specs.Cmp.Lexicographic.{nat_list_cmp_total}
+use Rattle.std.specs.FinMap.{put}
 use Rattle.std.specs.FinMap.Entries.{by_order}
 use Rattle.spec_value.specs.Datum.{Datum, Text, fold_case}
-use Rattle.spec_value.specs.Table.{at, with, named, with_name}
+use Rattle.spec_value.specs.Table.{named, with_name}
 use Rattle.spec_world.specs.World.{World, Object, Slot, object_at, with_object}
-use Rattle.spec_world.specs.Inherit.{slot_of, slot_at, put_slot, with_slot}
-use Rattle.spec_world.specs.Questions.{Change, apply, apply_all, new_value, put_value}
+use Rattle.spec_world.specs.Inherit.{slot_of, put_slot, with_slot}
+use Rattle.spec_world.specs.Questions.{Change, apply, new_value, put_value}
 use Rattle.spec_world.proofs.SlotChanges.{find-put_same}
 use Rattle.view.specs.Writing.{Gives, GoesFurther, IsRenewed}
 

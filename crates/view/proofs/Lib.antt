@@ -1,3 +1,4 @@
+pub mod Facets
 pub mod StaysSound
 pub mod SlotsTold
 pub mod PartsCrossing

@@ -1,3 +1,4 @@
+pub mod Facets
 pub mod Law
 pub mod Meanings
 pub mod Parts

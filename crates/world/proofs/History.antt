@@ -2,13 +2,20 @@
 use Rattle.std.proofs.Common.{◌≡◌, ℕ, List, [], ◌∷◌, ◌++◌, refl, sym, ap, ◌∙◌}
 use Rattle.spec_world.specs.World.{World}
 use Rattle.spec_world.specs.Questions.{Question, Answer, ask, Read, Agrees, Change, apply, apply_all, new_next, about_header, about_children, about_contents, about_defines, about_slot, about_verbs, about_task, about_waiting, about_link, about_readers, about_connections, about_connected, about_greatest, about_ending}
+use Rattle.view.specs.Facets.{DoesLast}
 use Rattle.view.specs.Sound.{IsSound}
+use Rattle.view.proofs.Facets.{pushed_last}
+use Rattle.world.specs.Amended.{Amended, amended_now}
 use Rattle.world.specs.Trace.{AnswersAlike}
 use Rattle.world.proofs.Local.{InOrder, alike_after}
 
-pub apply_all_last : (cs : List Change) (c : Change) (w : World) → apply_all (cs ++ c ∷ []) w ≡ apply c (apply_all cs w)
-apply_all_last [] c w = refl
-apply_all_last (d ∷ cs) c w = apply_all_last cs c (apply d w)
+-- one change more
+pub pushed_on : (c : Change) (cs ds : List Change) → ds ≡ cs ++ c ∷ [] → DoesLast c cs ds
+pushed_on c cs ds is w = ap (λ (es : List Change). apply_all es w) is ∙ pushed_last c cs w
+
+-- a world that has one change more
+pub amended_last : (c : Change) (old new : Amended) → new.home ≡ old.home → DoesLast c old.changes new.changes → amended_now new ≡ apply c (amended_now old)
+amended_last c old new stays last = ap (apply_all new.changes) stays ∙ last old.home
 
 -- the number of the next step is no answer
 pub next_unseen : (n : ℕ) (w : World) → AnswersAlike (apply (new_next n) w) w
@@ -28,8 +35,8 @@ next_unseen n w about_greatest = refl
 next_unseen n w about_ending = refl
 
 -- one change more that is not seen
-pub unseen_last : (cs : List Change) (c : Change) (w : World) → AnswersAlike (apply_all cs w) w → ((v : World) → AnswersAlike (apply c v) v) → AnswersAlike (apply_all (cs ++ c ∷ []) w) w
-unseen_last cs c w before more q = ap (λ v. ask v q) (apply_all_last cs c w) ∙ more (apply_all cs w) q ∙ before q
+pub unseen_last : (cs ds : List Change) (c : Change) (w : World) → DoesLast c cs ds → AnswersAlike (apply_all cs w) w → ((v : World) → AnswersAlike (apply c v) v) → AnswersAlike (apply_all ds w) w
+unseen_last cs ds c w last before more q = ap (λ v. ask v q) (last w) ∙ more (apply_all cs w) q ∙ before q
 
 pub agrees_more : (w : World) (rs : List Read) (r : Read) → Agrees w rs → ask w r.question ≡ r.answer → Agrees w (rs ++ r ∷ [])
 agrees_more w [] r h e = (e, tt)

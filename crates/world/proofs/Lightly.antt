@@ -1,5 +1,5 @@
 -- What is asked after light changes.
-use Rattle.std.proofs.Common.{◌≡◌, ℕ, zero, suc, ◌+◌, ◌<◌, ◌≤◌, ℤ, Bool, true, false, ◌&&◌, List, [], ◌∷◌, ◌++◌, map, length, take, get_or, Option, Some, None, option_map, IsTrue, Result, Ok, Err, IfOk, refl, sym, ◌∙◌, ap, add-one, arith}
+use Rattle.std.proofs.Common.{◌≡◌, ℕ, zero, suc, ◌+◌, ◌<◌, ◌≤◌, ℤ, Bool, true, false, ◌&&◌, List, [], ◌∷◌, ◌++◌, map, length, take, get_or, Option, Some, None, option_map, IsTrue, Result, Ok, Err, IfOk, refl, sym, subst, ◌∙◌, ap, add-one, arith}
 use Rattle.std.specs.Ordering.{nat_cmp, int_cmp, ordering_reverse}
 use Rattle.std.specs.Cmp.{int_cmp_total, Equal-is, IsTotalOrder}
 use Rattle.std.specs.Cmp.Lexicographic.{slice_cmp, nat_list_cmp_total}
@@ -21,6 +21,9 @@ use Rattle.world.proofs.Local.{same_number, same_name, number_is, name_is, both_
 pub light_last : (cs : List Change) (c : Change) → AllLight cs → IsTrue (is_light c) → AllLight (cs ++ c ∷ [])
 light_last [] c all one = (one, tt)
 light_last (d ∷ cs) c all one = (all.0, light_last cs c all.1 one)
+
+pub light_pushed : (c : Change) (cs ds : List Change) → ds ≡ cs ++ c ∷ [] → AllLight cs → IsTrue (is_light c) → AllLight ds
+light_pushed c cs ds is all one = subst AllLight (sym is) (light_last cs c all one)
 
 pub light_at : (cs : List shown.Change) (i : ℕ) (c : shown.Change) → i < length cs → c ≡ get_or cs i c → AllLight (map change_of cs) → IsTrue (is_light (change_of c))
 light_at [] i c lt is all = absurd (omega arith)

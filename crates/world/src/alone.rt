@@ -146,7 +146,7 @@ impl<'w> View for Alone<'w> {
         self.overlay.verbs(object).cloned()
     }
 
-    #[tactic(auto, using(crate::proofs::History::apply_all_last))]
+    #[tactic(auto, using(crate::proofs::History::amended_last))]
     #[inline(always)]
     fn put(&mut self, change: Change) -> Result<(), AllocError> {
         self.overlay.put(change)

@@ -1,9 +1,10 @@
 //! Changes over records that stay as they are.
-ghost use Rattle.std.specs.Prelude.{◌≡◌, ◌++◌, ◌∷◌, [], true, false, None, option_map, IsTrue, IfOk, OnOk, OnErr};
+ghost use Rattle.std.specs.Prelude.{◌≡◌, [], true, false, None, option_map, IsTrue, IfOk, OnOk, OnErr};
 ghost use Rattle.std.specs.Option.{unwrap_or};
 ghost use Rattle.spec_world.specs.World.{World as Plain};
 ghost use Rattle.spec_world.specs.Inherit.{slot_at};
 ghost use Rattle.spec_world.specs.Questions.{ask, apply, apply_all, header_at, verbs_at};
+ghost use Rattle.view.specs.Facets.{DoesLast};
 ghost use Rattle.view.specs.Meanings.{question_of, answer_of, change_of};
 ghost use Rattle.view.specs.Writing.{MayWrite, GoesFurther};
 ghost use Rattle.world.specs.Late.{is_light as is_light_change, AllLight, with_later};
@@ -218,20 +219,34 @@ impl<'h> Overlay<'h> {
 
     /// A change. After an `Err` nothing is known of the changes.
     #[inline(always)]
-    #[tactic(auto, using(crate::proofs::History::apply_all_last, crate::proofs::History::unseen_last))]
+    #[tactic(auto, using(crate::proofs::History::unseen_last))]
     pub(crate) fn put(&mut self, change: Change) -> Result<(), AllocError>
         ensures home { self.new.home ≡ self.old.home }
-        ensures changes { OnOk result (self.new.changes ≡ self.old.changes ++ change_of change ∷ []) }
+        ensures changes { OnOk result (DoesLast (change_of change) self.old.changes self.new.changes) }
     {
         put_on(self.home, &mut self.fork, &self.changes, &change)?;
         let seen = self.seen || is_seen(&change);
-        if self.changes.push(change).is_err() {
+        let is_forked = self.fork.is_some();
+        if add(&mut self.changes, change, is_forked).is_err() {
             forget(&mut self.fork, &mut self.changes, self.alloc);
             return Err(AllocError);
         }
         self.seen = seen;
         Ok(())
     }
+}
+
+// One change more. Where records are made of the changes, it may take the place of an earlier one.
+#[inline(always)]
+#[tactic(auto, using(crate::proofs::History::pushed_on, crate::proofs::Lightly::light_pushed))]
+fn add(changes: &mut Changes, change: Change, is_forked: bool) -> Result<(), AllocError>
+    ensures last { OnOk result (DoesLast (change_of change) changes.old changes.new) }
+    ensures light { OnOk result (is_forked ≡ false → AllLight changes.old → IsTrue (is_light_change (change_of change)) → AllLight changes.new) }
+{
+    if is_forked {
+        return changes.put(change);
+    }
+    changes.push(change)
 }
 
 // Whether a question may see a change.
@@ -259,9 +274,8 @@ fn remember(
     push_value(changes, object, name, value)
 }
 
-// The same by one change more.
+// The same by another change.
 #[inline(never)]
-#[tactic(auto, using(crate::proofs::Written::pushed))]
 fn push_value(
     changes: &mut Changes,
     object: i32,
@@ -272,7 +286,7 @@ fn push_value(
 {
     let name = name.clone()?;
     let value = value.clone()?;
-    changes.push(Change::Value(object, name, value))
+    changes.put(Change::Value(object, name, value))
 }
 
 // One change more of a fork of a home, where there is one or it takes one.

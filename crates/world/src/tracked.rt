@@ -253,7 +253,6 @@ impl<'s> View for Tracked<'s> {
         self.verbs_now(object)
     }
 
-    #[tactic(auto, using(crate::proofs::History::apply_all_last))]
     fn put(&mut self, change: Change) -> Result<(), AllocError> {
         self.overlay.put(change)
     }

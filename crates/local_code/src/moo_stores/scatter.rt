@@ -8,6 +8,7 @@ ghost use Rattle.moo_task.specs.Shown.{Around, shown, performs_of};
 ghost use Rattle.local_code.specs.Giving.{AreWithin};
 
 use crate::moo_stores::shares::{give, next_default, shares};
+use crate::moo_stores::wanted::next_wanted;
 use moo_program::instruction::{Part, Scatter};
 use moo_task::moo_machine::call::Call;
 use moo_task::moo_machine::verb::{Did, State};
@@ -97,6 +98,11 @@ pub fn scatter_on(
     let Some(list) = state.operands.pop() else {
         return Ok(Did::LacksOperand);
     };
+    if let Some(place) = next_wanted(scatter, number, &list) {
+        state.operands.push(list)?;
+        state.place = place;
+        return Ok(Did::Went);
+    }
     let items = scatter.items.as_slice();
     let defaults = scatter.defaults.as_slice();
     let behind = state.place + 1;

@@ -5,8 +5,9 @@ ghost use Rattle.spec_value.specs.Datum.{Text as TextOf};
 ghost use Rattle.spec_value.specs.Scatter.{scattered};
 ghost use Rattle.spec_moo.specs.Effects.Scatter.{missing};
 ghost use Rattle.moo_arith.specs.Targets.{kind_of, scattering_of};
+ghost use Rattle.moo_program.specs.Counts.{kind_meant};
 ghost use Rattle.moo_program.specs.Within.{slot_number as number_of};
-ghost use Rattle.local_code.specs.Giving.{items_meant, kind_meant, AreWithin, given_slot, given_slots, lacks_value as lacks_value_of, next_part};
+ghost use Rattle.local_code.specs.Giving.{items_meant, AreWithin, given_slot, given_slots, lacks_value as lacks_value_of, next_part};
 
 use crate::moo_stores::slots::fill;
 use moo_arith::scatter::{TargetKind, scatter};

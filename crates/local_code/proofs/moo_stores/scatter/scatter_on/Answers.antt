@@ -6,6 +6,8 @@ use Rattle.moo_arith.specs.Targets.{scattering_of}
 use Rattle.moo_code.specs.Machine.{place_for}
 use Rattle.moo_code.specs.Names.{names_of}
 use Rattle.moo_program.specs.Meaning.{part_meant}
+use Rattle.moo_task.specs.Shown.{shown}
+use Rattle.moo_task.specs.declared.moo_machine.verb.Did.TheVariants.{Went}
 use Rattle.moo_task.proofs.Next.{next_place}
 use Rattle.local_code.specs.Giving.{items_meant, next_part}
 use Rattle.local_code.proofs.Scattering.{scatter_goes_on, scatter_on_refuses}
@@ -34,3 +36,13 @@ returns-in_ok-did-in-Err c a =
     c.in-Some.list c.pop.new.self c.in-Some.ensures c.args.number (code_of c.in-Err.error)
     (sym c.in_ok-shares.ensures ∙ ap (λ r. scattering_of r) c.in-Err.is)
     ∙ c.in_ok-did-in-Err.ensures a)
+
+pub returns-in-Some-next_wanted : goal.returns-in-Some-next_wanted
+returns-in-Some-next_wanted c a =
+    let s = c.args.state.now in
+    let items = c.args.scatter.now.items.items in
+    let ps = (0, c.args.end) ∷ map part_meant c.args.scatter.now.defaults.items in
+    let w = c.in-Some-next_wanted.ensures in
+    rw c.in_ok-push.ensures.ok
+    (scatter_goes_on a c.args.call.now s items ps c.in-Some.list c.pop.new.self c.in-Some.ensures c.args.number w.shares w.got
+    ∙ ap (λ p. shown a c.args.call.now Went (record s { operands = c.in-Some.list ∷ c.pop.new.self; place = p })) (w.next (names_of a.program) (suc s.place) c.args.end))

@@ -1,6 +1,6 @@
 use Rattle.std.proofs.Common.{◌≡◌, take, map}
 use Rattle.moo_arith.specs.Targets.{kind_of}
-use Rattle.local_code.specs.Giving.{kind_meant}
+use Rattle.moo_program.specs.Counts.{kind_meant}
 use Rattle.local_code.proofs.moo_stores.shares.kinds.Given as goal
 
 abbrev pub invariant-loop-item : goal.invariant-loop-item

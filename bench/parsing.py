@@ -1,12 +1,12 @@
-"""What programs cost to read and to spell: ordinary code, texts of 60,000 characters that are long, deep or wrong at their end, and worlds with a program of
-10 MB."""
-from runs import PLAY, Failure, Figure, beyond, folder, least, play, run, script, sized
+"""What programs cost to read and to spell: ordinary code, texts of 60,000 characters that are long, deep or wrong at their end, and texts of 10 MB, parsed
+alone and as programs of a world."""
+from runs import PARSE, PLAY, Failure, Figure, beyond, folder, least, play, run, script, sized
 from worlds import World
 
 CALLS = sized(20, 1)
 CALLS_OF_HOSTILE = sized(5, 1)
 LENGTH = sized(60000, 2000)
-LENGTH_IN_WORLDS = sized(10_000_000, 2000)
+LENGTH_OF_LONG = sized(10_000_000, 2000)
 # Ordinary code, in lines as the server spells them.
 ORDINARY = [
     'if (typeof(args[1]) != str || length(args) < 2)',
@@ -68,8 +68,8 @@ HOSTILE = [
     ("forks", "fork (0) ", "", " endfork"),
     ("leavings of no loop", "break;", "", ""),
 ]
-# Programs that a world's text holds: what stands again and again, and the middle.
-IN_WORLDS = [("open parentheses", "("), ("a sum without an end", "1+"), ("open braces", "{"), ("one text", "x"), ("empty statements", ";")]
+# Texts of 10 MB: what stands again and again.
+LONG = [("open parentheses", "("), ("a sum without an end", "1+"), ("open braces", "{"), ("one text", "x"), ("empty statements", ";")]
 SET = ['return set_verb_code(#3, "given", this.text);']
 PEEK = ["return length(this.text);"]
 SPELL = ['return length(verb_code(#3, "given"));']
@@ -143,6 +143,14 @@ def in_world(lines, status):
     return characters(lines) / least(lambda: run(PLAY, path, idle, status=status)).processor
 
 
+def parsed(lines):
+    """Characters a second of a text that is parsed and nothing else, with what the program takes to begin and to read it."""
+    path = folder.file("text")
+    with open(path, "w") as file:
+        file.write("\n".join(lines))
+    return characters(lines) / least(lambda: run(PARSE, given=path)).processor
+
+
 def cut(peers, lines):
     """Characters a second of the same program where plain Rust cuts its tokens."""
     path = folder.file("program")
@@ -152,20 +160,30 @@ def cut(peers, lines):
     return {} if taken is None else {"Rust": characters(lines) / taken}
 
 
-def figures_in_worlds(peers):
-    text = ordinary(LENGTH_IN_WORLDS)
-    usual = in_world(text, 0)
-    yield Figure("ordinary code, a world with a program of 10 MB", "MB/s", usual, cut(peers, text))
-    for name, part in IN_WORLDS:
-        text = [part * (LENGTH_IN_WORLDS // len(part))]
+def long_ones():
+    """Texts of 10 MB: what each is, its lines, and whether it is as a world's text spells a program."""
+    for name, part in LONG:
+        text = part * (LENGTH_OF_LONG // len(part))
         is_text = name == "one text"
-        if is_text:
-            text = [f'"{text[0]}";']
-        yield Figure(f"{name}, a world with 10 MB", "MB/s", in_world(text, 0 if is_text else 2), {"ordinary": usual, **cut(peers, text)})
+        yield name, [f'"{text}";' if is_text else text], is_text
+
+
+def figures_of_long(peers):
+    text = ordinary(LENGTH_OF_LONG)
+    peer = cut(peers, text)
+    alone = parsed(text)
+    yield Figure("ordinary code of 10 MB, parsed alone", "MB/s", alone, peer)
+    in_worlds = in_world(text, 0)
+    yield Figure("ordinary code, a world with a program of 10 MB", "MB/s", in_worlds, peer)
+    for name, text, _ in long_ones():
+        peer = cut(peers, text)
+        yield Figure(f"{name}, 10 MB parsed alone", "MB/s", parsed(text), {"ordinary": alone, **peer})
+    for name, text, is_spelled in long_ones():
+        yield Figure(f"{name}, a world with 10 MB", "MB/s", in_world(text, 0 if is_spelled else 2), {"ordinary": in_worlds, **cut(peers, text)})
 
 
 def figures(peers):
-    yield from figures_in_worlds(peers)
+    yield from figures_of_long(peers)
     text = ordinary()
     yield Figure("ordinary code, set_verb_code", "MB/s", by_call(text, CALLS))
     yield Figure("ordinary code, .program and its lines", "MB/s", by_line(text, CALLS))

@@ -9,6 +9,7 @@ from typing import NamedTuple
 ROOT = os.path.dirname(os.path.dirname(os.path.abspath(__file__)))
 PLAY = f"{ROOT}/crates/moo_play/out/moo_play"
 SERVER = f"{ROOT}/crates/moo_daemon/out/moo_daemon"
+PARSE = f"{ROOT}/crates/moo_parse/out/moo_parse"
 
 # A short run tries everything with small counts; its figures mean nothing.
 IS_SHORT = os.environ.get("BENCH_SHORT") == "1"
@@ -62,11 +63,11 @@ class Folder:
 folder = Folder()
 
 
-def run(*words, status=0):
-    """Runs a program to its end, which must be a good one, or one with another status where that is asked for."""
-    with open(folder.file("output"), "w+b") as output, open(folder.file("errors"), "w+b") as errors:
+def run(*words, status=0, given=os.devnull):
+    """Runs a program to its end, which must be a good one, or one with another status where that is asked for. Its standard input is a file."""
+    with open(given, "rb") as source, open(folder.file("output"), "w+b") as output, open(folder.file("errors"), "w+b") as errors:
         start = time.monotonic()
-        process = subprocess.Popen(words, stdin=subprocess.DEVNULL, stdout=output, stderr=errors)
+        process = subprocess.Popen(words, stdin=source, stdout=output, stderr=errors)
         _, ended, usage = os.wait4(process.pid, 0)
         seconds = time.monotonic() - start
         process.returncode = os.waitstatus_to_exitcode(ended)

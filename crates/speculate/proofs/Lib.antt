@@ -7,5 +7,6 @@ pub mod Plays
 pub mod Recorded
 pub mod Rests
 pub mod Seen
+pub mod Stamped
 pub mod Stays
 pub mod Verbs

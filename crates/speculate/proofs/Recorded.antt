@@ -8,7 +8,9 @@ use Rattle.spec_moo.specs.Steps.{play1}
 use Rattle.view.specs.Law.{Goes}
 use Rattle.world.specs.Trace.{Trace, IsStart, world_now}
 use Rattle.task_run.specs.Performed.{StepsTo}
+use Rattle.speculate.specs.Fresh.{Covers}
 use Rattle.speculate.specs.Right.{IsRight}
+use Rattle.speculate.specs.declared.slots_read.SlotsRead.{SlotsRead}
 
 abbrev pub nothing_yet : World → Trace
 nothing_yet home = record { home = home; reads = []; changes = [] }
@@ -37,3 +39,7 @@ same_home now before old new empty home is = is ∙ sym (home ∙ ap (λ (t : Tr
 -- which agrees with what was read
 pub home_agrees : (before : World) (t : Trace) (rs : List Read) → before ≡ t.home → rs ≡ t.reads → Agrees t.home t.reads → Agrees before rs
 home_agrees before t rs home reads agrees = rw (home, reads) agrees
+
+-- and with which agrees what answers alike all that may have been asked
+pub home_covers : (before : World) (t : Trace) (rs : List Read) (s : SlotsRead) → before ≡ t.home → rs ≡ t.reads → Covers t.home t.reads s → Covers before rs s
+home_covers before t rs s home reads covers = rw (home, reads) covers

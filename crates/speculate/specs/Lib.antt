@@ -1,6 +1,8 @@
 pub mod BoardCode
 pub mod BoardState
 pub mod Events
+pub mod Fresh
+pub mod Known
 pub mod Parts
 pub mod Progress
 pub mod Right

@@ -5,10 +5,14 @@ ghost use Rattle.speculate.specs.BoardState.{IsHonest, IsFree, opened_on, with_h
 ghost use Rattle.speculate.specs.Progress.{Commits, Advances, AdvancesInPart, IsNextHeld, StaysPut, SameRun, ready, rest, AllHeld};
 
 use crate::commit::{Done, commit};
-use crate::guesses::{Guess, Spent};
+use crate::desk::Desk;
+use crate::guesses::{Guess, Remains, Spent};
 use crate::held::{Held, Mark, put_back, take_out};
+use crate::list::MOST_WORKERS;
+use crate::luck::Luck;
 use crate::report::Report;
 use crate::sight::{Sight, shared};
+use crate::stamps::Stamps;
 use std::alloc::{AllocError, Global};
 use std::marker::Model;
 use std::mem;
@@ -17,11 +21,10 @@ use task_step::list::may_play;
 use task_step::outcome::Outcome;
 use task_step::partial::Refusal;
 use task_step::step::Step;
+use view::changes::Changes;
 use world::count::Count;
 use world::worlds::{Snapshot, World};
 
-// How many of the last steps tell whether guesses hold.
-const RECENT: usize = 128;
 // How many steps are guessed first, whatever comes of it.
 const TRIED: usize = 4096;
 // How many steps are run at once without guesses where these seldom hold.
@@ -38,15 +41,21 @@ pub struct Board {
     undone: Count,
     // No verb has changed since so many steps were committed.
     since: usize,
-    // What is left of the guesses that were committed, until it is handed out.
-    spent: Vec<Spent>,
+    // What is left of the guesses of each worker that were committed, until it is handed out.
+    remains: Vec<Vec<Remains>>,
     // How far ahead of what is committed a guess may be made, as far as is known.
     reach: usize,
+    // Since when answers are what they are.
+    stamps: Stamps,
+    // Whether guesses hold, as far as is known.
+    luck: Luck,
 }
 
 impl Model for Board {
+    ghost use Rattle.std.specs.Prelude.{length};
     ghost use Rattle.speculate.specs.BoardState.{BoardState, IsHonest};
     ghost use Rattle.speculate.specs.BoardCode.{board_code};
+    ghost use Rattle.speculate.specs.Known.{AreStamped};
 
     ghost Value = { BoardState };
 
@@ -72,7 +81,7 @@ impl Model for Board {
       held = b.held.items;
       undone = b.undone;
       since = b.since;
-    } };
+    } × AreStamped b.base.value.plain b.steps.items (length b.outcomes.items) b.world.plain b.stamps };
 }
 
 /// Why a guess or a loss was refused.
@@ -110,8 +119,10 @@ impl Board {
                 held,
                 undone: Count::zero(),
                 since: 0,
-                spent: Vec::new(alloc),
+                remains: none_left(alloc),
                 reach: 0,
+                stamps: Stamps::new(alloc),
+                luck: Luck::new(),
             }),
             Err(_) => Err((Refusal::Memory, world)),
         }
@@ -227,6 +238,7 @@ impl Board {
             alloc,
             &mut self.world,
             &mut self.undone,
+            &self.stamps,
             held,
             &self.steps[at],
             self.since,
@@ -237,13 +249,16 @@ impl Board {
                     outcome,
                     mark,
                     leaves_verbs,
+                    changes,
                     spent,
                 } = done;
                 self.outcomes.push_reserved(outcome);
                 self.marks.push_reserved(mark);
                 self.since = since_after(leaves_verbs, self.since, at);
-                keep_spent(&mut self.spent, spent);
+                self.stamps.stamp(changes.as_slice(), at + 1);
+                keep_remains(&mut self.remains, changes, spent);
                 self.reach = reach_after(self.reach, mark, distance);
+                self.luck.see(mark);
                 Ok(())
             }
             Err(held) => {
@@ -318,15 +333,16 @@ impl Board {
 
     /// Posts guesses, each with its position, and the number of steps that were committed when they were made; from the first position up to the end it
     /// loses what holds nothing then. Then it commits as far as each position holds something, and where guesses seldom hold a stretch of what follows, without
-    /// guesses. Want of memory is no answer, since what is left is committed at the end. It hands out what is left of the guesses.
+    /// guesses. Want of memory is no answer, since what is left is committed at the end. It hands out what is left of the worker's guesses.
     pub(crate) fn hand_in_all(
         &mut self,
         alloc: Global,
+        desk: &mut Desk,
         first: usize,
         end: usize,
         found: Vec<(usize, Guess)>,
         seen: usize,
-    ) -> Vec<Spent>
+    )
         requires { All (λ f. f.1.before ≡ world_after self.old.base.plain self.old.steps seen) found.items }
         ensures { (self.new.base ≡ self.old.base) × (self.new.steps ≡ self.old.steps) }
     {
@@ -336,7 +352,16 @@ impl Board {
         if !self.is_hopeful() {
             self.play_stretch(alloc);
         }
-        mem::replace(&mut self.spent, Vec::new(alloc))
+        self.hand_out(desk);
+    }
+
+    // A worker has what is left of its guesses, in place of an empty list.
+    fn hand_out(&mut self, desk: &mut Desk)
+        ensures { self.new ≡ self.old }
+    {
+        if desk.who < self.remains.len() {
+            mem::swap(&mut self.remains[desk.who], &mut desk.remains);
+        }
     }
 
     // Loses what holds nothing of a stretch of positions that are not committed yet, and commits it.
@@ -347,6 +372,7 @@ impl Board {
         let end = from.saturating_add(STRETCH).min(self.steps.len());
         self.lose_free(from, end);
         let _ = self.advance(alloc);
+        self.luck = Luck::new();
     }
 
     /// What a worker sees that is to go so far ahead of what is committed, and farther where guesses held so far ahead. None after want of memory.
@@ -365,22 +391,9 @@ impl Board {
         })
     }
 
-    // Whether guesses are worth their while: the list is young, or of the guesses among the last steps not less than every fourth was kept.
+    // Whether guesses are worth their while: the list is young, or of the last guesses not less than every fourth was kept.
     fn is_hopeful(&self) -> bool {
-        if self.marks.len() < TRIED {
-            return true;
-        }
-        let from = self.marks.len().saturating_sub(RECENT);
-        let mut kept = 0usize;
-        let mut rerun = 0usize;
-        for mark in &self.marks[from..] {
-            match mark {
-                Mark::Kept => kept = kept.saturating_add(1),
-                Mark::Rerun => rerun = rerun.saturating_add(1),
-                Mark::Lost => {}
-            }
-        }
-        rerun <= kept.saturating_mul(3)
+        self.marks.len() < TRIED || self.luck.is_good()
     }
 
     /// Loses each position that is not committed yet and holds nothing.
@@ -423,8 +436,10 @@ impl Board {
             held: _,
             undone: _,
             since: _,
-            spent: _,
+            remains: _,
             reach: _,
+            stamps: _,
+            luck: _,
         } = self;
         Report {
             world,
@@ -444,13 +459,27 @@ fn reach_after(reach: usize, mark: Mark, distance: usize) -> usize {
     }
 }
 
-// Keeps what is left of a guess, if there is memory for it.
-fn keep_spent(all: &mut Vec<Spent>, spent: Option<Spent>) {
+// Keeps what is left of a guess for its maker, if there is memory for it.
+fn keep_remains(all: &mut Vec<Vec<Remains>>, changes: Changes, spent: Option<Spent>) {
     if let Some(spent) = spent
-        && all.reserve(1).is_ok()
+        && spent.maker < all.len()
     {
-        all.push_reserved(spent);
+        let own = &mut all[spent.maker];
+        if own.reserve(1).is_ok() {
+            own.push_reserved(spent.with(changes));
+        }
     }
+}
+
+// Nothing is left of the guesses of any worker. After want of memory nothing is kept.
+fn none_left(alloc: Global) -> Vec<Vec<Remains>> {
+    let mut all = Vec::new(alloc);
+    for _ in 0..MOST_WORKERS {
+        if all.reserve(1).is_ok() {
+            all.push_reserved(Vec::new(alloc));
+        }
+    }
+    all
 }
 
 // Room for the outcomes and the marks, and the positions, which hold nothing.

@@ -9,6 +9,7 @@ ghost use Rattle.speculate.specs.BoardState.{runs, world_after};
 ghost use denote.Param.Send.{IsSend, IsSync};
 
 use crate::board::Board;
+use crate::desk::Desk;
 use crate::finish::conclude;
 use crate::gate::{Gate, guess_at};
 use crate::guesses::Guess;
@@ -20,7 +21,6 @@ use std::alloc::Global;
 use std::sync::Wait;
 use std::thread;
 use std::thread::{Builder, Threads};
-use task_run::rooms::Rooms;
 use task_step::partial::{Partial, Refusal};
 use task_step::stack::STACK_SIZE;
 use task_step::step::Step;
@@ -75,6 +75,7 @@ fn crew<J: Run, G: Gate, R: Threads + Wait + Sync>(
     let Some(own) = next_seat(claims, &mut seats) else {
         return;
     };
+    let last = seats.len();
     thread::scope(
         thread::scope_env(),
         rt,
@@ -84,14 +85,21 @@ fn crew<J: Run, G: Gate, R: Threads + Wait + Sync>(
         {
             let mut seats = seats;
             'seat: while let Some(seat) = next_seat(claims, &mut seats) {
+                let who = seats.len();
                 let job = move ||
                     requires { AllInRange steps.now × (seat ≡ fresh_seat claims.now) }
-                { work(rt, alloc, gate, shared, claims, seat, steps, size, ahead) };
+                {
+                    work(
+                        rt, alloc, gate, shared, claims, seat, steps, size, ahead, who,
+                    )
+                };
                 let _ = Builder::new()
                     .stack_size(STACK_SIZE)
                     .spawn_scoped(scope, job);
             }
-            work(rt, alloc, gate, shared, claims, own, steps, size, ahead);
+            work(
+                rt, alloc, gate, shared, claims, own, steps, size, ahead, last,
+            );
         },
     );
 }
@@ -107,7 +115,7 @@ fn next_seat(claims: &Claims, seats: &mut Vec<ClaimSeat>) -> Option<ClaimSeat>
     seats.pop()
 }
 
-// One worker: it claims until nothing is left. A ticket stands for as many positions as a batch has.
+// One worker of this number: it claims until nothing is left. A ticket stands for as many positions as a batch has.
 fn work<J: Run, G: Gate, R: Wait>(
     rt: &R,
     alloc: Global,
@@ -118,17 +126,18 @@ fn work<J: Run, G: Gate, R: Wait>(
     steps: &[Step],
     size: usize,
     ahead: usize,
+    who: usize,
 )
     requires range { AllInRange steps.now }
     requires seat { seat.offer ≡ claims.now }
 {
-    let mut rooms = Rooms::new();
+    let mut desk = Desk::new(alloc, who);
     let mut sight = shared.look(rt, alloc, ahead);
     'claim: while let Some(ticket) = claims.claim(&mut seat) {
         let first = ticket.position().saturating_mul(size).min(steps.len());
         let end = first.saturating_add(size).min(steps.len());
         sight = play_batch(
-            rt, alloc, gate, &mut rooms, shared, steps, first, end, ahead, sight,
+            rt, alloc, gate, &mut desk, shared, steps, first, end, ahead, sight,
         );
     }
 }
@@ -139,7 +148,7 @@ fn play_batch<J: Run, G: Gate, R: Wait>(
     rt: &R,
     alloc: Global,
     gate: &G,
-    rooms: &mut Rooms,
+    desk: &mut Desk,
     shared: &SharedBoard<J>,
     steps: &[Step],
     first: usize,
@@ -157,15 +166,13 @@ fn play_batch<J: Run, G: Gate, R: Wait>(
         let Some((from, to)) = next_up(&sight, first, end) else {
             break;
         };
-        sight = guess_and_hand_in(
-            rt, alloc, gate, rooms, shared, steps, from, to, ahead, sight,
-        );
+        sight = guess_and_hand_in(rt, alloc, gate, desk, shared, steps, from, to, ahead, sight);
     }
     if is_done(&sight, end) {
         return sight;
     }
     guess_and_hand_in(
-        rt, alloc, gate, rooms, shared, steps, first, end, ahead, sight,
+        rt, alloc, gate, desk, shared, steps, first, end, ahead, sight,
     )
 }
 
@@ -199,7 +206,7 @@ fn guess_and_hand_in<J: Run, G: Gate, R: Wait>(
     rt: &R,
     alloc: Global,
     gate: &G,
-    rooms: &mut Rooms,
+    desk: &mut Desk,
     shared: &SharedBoard<J>,
     steps: &[Step],
     first: usize,
@@ -213,8 +220,8 @@ fn guess_and_hand_in<J: Run, G: Gate, R: Wait>(
     ensures { IfSome result (λ s. s.snapshot ≡ world_after J.base.plain J.steps s.count) }
 {
     let mut found = room(alloc, end.saturating_sub(first));
-    let seen = guess_on(alloc, gate, rooms, sight, steps, first, end, &mut found);
-    shared.hand_in(rt, alloc, first, end, found, seen, ahead)
+    let seen = guess_on(alloc, gate, desk, sight, steps, first, end, &mut found);
+    shared.hand_in(rt, alloc, desk, first, end, found, seen, ahead)
 }
 
 // Room for so many guesses, or for none.
@@ -231,7 +238,7 @@ fn room(alloc: Global, count: usize) -> Vec<(usize, Guess)>
 fn guess_on<G: Gate>(
     alloc: Global,
     gate: &G,
-    rooms: &mut Rooms,
+    desk: &mut Desk,
     sight: Option<Sight>,
     steps: &[Step],
     first: usize,
@@ -245,16 +252,7 @@ fn guess_on<G: Gate>(
 {
     match sight {
         Some(sight) => {
-            guess_batch(
-                alloc,
-                gate,
-                rooms,
-                &sight.snapshot,
-                steps,
-                first,
-                end,
-                found,
-            );
+            guess_batch(alloc, gate, desk, &sight.snapshot, steps, first, end, found);
             sight.count
         }
         None => 0,
@@ -265,7 +263,7 @@ fn guess_on<G: Gate>(
 fn guess_batch<G: Gate>(
     alloc: Global,
     gate: &G,
-    rooms: &mut Rooms,
+    desk: &mut Desk,
     snapshot: &SharedSnapshot,
     steps: &[Step],
     first: usize,
@@ -278,7 +276,7 @@ fn guess_batch<G: Gate>(
     ensures { All (λ f. f.1.before ≡ snapshot.now) found.new.items }
 {
     'at: for at in first..end {
-        if let Some(guess) = guess_at(alloc, gate, rooms, snapshot, steps, at) {
+        if let Some(guess) = guess_at(alloc, gate, desk, snapshot, steps, at) {
             note(found, at, guess);
         }
     }

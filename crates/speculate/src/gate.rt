@@ -2,10 +2,10 @@
 ghost use Rattle.std.specs.Prelude.{◌≡◌, ◌<◌, IsTrue, IfOk, IfSome, length};
 ghost use Rattle.spec_world.specs.Step.{AllInRange, in_range};
 
+use crate::desk::Desk;
 use crate::guesses::Guess;
 use crate::guessing::{guess, guess_in};
 use std::alloc::{AllocError, Global};
-use task_run::rooms::Rooms;
 use task_step::step::Step;
 use world::shared::SharedSnapshot;
 
@@ -56,7 +56,7 @@ impl Gate for Free {
 pub(crate) fn guess_at<G: Gate>(
     alloc: Global,
     gate: &G,
-    rooms: &mut Rooms,
+    desk: &mut Desk,
     snapshot: &SharedSnapshot,
     steps: &[Step],
     at: usize,
@@ -66,7 +66,7 @@ pub(crate) fn guess_at<G: Gate>(
     ensures { IfSome result (λ g. g.before ≡ snapshot.now) }
 {
     if gate.is_free() {
-        return guess_in(alloc, rooms, snapshot, &steps[at]).ok();
+        return guess_in(alloc, &mut desk.rooms, snapshot, &steps[at], desk.who).ok();
     }
     gate.guess(alloc, at, snapshot, &steps[at]).ok()
 }

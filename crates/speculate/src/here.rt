@@ -137,7 +137,7 @@ fn keep_guessed<G: Gate>(
     }
     guess.know();
     match guess.keep(world) {
-        Ok((outcome, _spent)) => Some(outcome),
+        Ok((outcome, _changes, _spent)) => Some(outcome),
         Err(_) => None,
     }
 }

@@ -10,15 +10,15 @@ pub returns-then-position-len-clause-after : goal.returns-then-position-len-clau
 returns-then-position-len-clause-after c = λ free.
     let P : BoardState → Type 0 = λ v. slice_get v.held c.args.position ≡ Some Empty in
     let h : slice_get c.self.inside.held.items c.args.position ≡ Some Empty = subst P (sym c.self.view_is) free.1 in
-    past_end_not_free c.self.inside.steps.items c.self.inside.held.items c.args.position c.self.invariant.held (omega arith) h
+    past_end_not_free c.self.inside.steps.items c.self.inside.held.items c.args.position c.self.invariant.0.held (omega arith) h
 
 pub index_mut-requires : goal.index_mut-requires
 index_mut-requires c =
-    let e = fits_length c.self.inside.steps.items c.self.inside.held.items c.self.invariant.held in
+    let e = fits_length c.self.inside.steps.items c.self.inside.held.items c.self.invariant.0.held in
     omega arith
 
 pub invariant_of-self : goal.invariant_of-self
-invariant_of-self c = lose_keeps (seen c.self.inside) c.args.position c.self.invariant
+invariant_of-self c = (lose_keeps (seen c.self.inside) c.args.position c.self.invariant.0, c.self.invariant.1)
 
 pub returns-clause-after : goal.returns-clause-after
 returns-clause-after c = λ free. set_not_empty c.self.inside.held.items c.args.position free.1

@@ -9,6 +9,8 @@ pub invariant_of-self : goal.invariant_of-self
 invariant_of-self c =
     let at : slice_get c.args.self.now.steps c.args.position ≡ Some c.args.guess.step = c.if-not-is_for.ensures.0 refl in
     let P : BoardState → Type 0 = λ v. slice_get v.steps c.args.position ≡ Some c.args.guess.step in
-    let Q : BoardState → Type 0 = λ v. c.args.guess.before ≡ world_after v.base.plain v.steps c.args.seen in
-    holding_keeps (seen c.self.inside) c.args.position c.args.guess.step (Holds c.args.guess (Some c.args.seen)) c.self.invariant
-    (subst P (sym c.self.view_is) at) (refl, c.know.ensures.right) (subst Q (sym c.self.view_is) c.requires)
+    let Q : BoardState → Type 0 = λ v. c.args.guess.before ≡ world_after v.base.plain v.steps c.args.seen in (
+      holding_keeps (seen c.self.inside) c.args.position c.args.guess.step (Holds c.args.guess (Some c.args.seen)) c.self.invariant.0
+          (subst P (sym c.self.view_is) at) (refl, c.know.ensures.right) (subst Q (sym c.self.view_is) c.requires),
+      c.self.invariant.1,
+    )

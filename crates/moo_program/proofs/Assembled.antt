@@ -84,7 +84,7 @@ taken_front xs ys n e = ap (λ m. take m (xs ++ ys)) (sym e) ∙ all_taken xs ys
     all_taken (x ∷ xs) ys = ap (λ ts. x ∷ ts) (all_taken xs ys)
 
 -- a part is opened with its own places
-part_opened : (k : Link) (a l : Layout) (ds : List Draught) (b : ℕ)
+pub part_opened : (k : Link) (a l : Layout) (ds : List Draught) (b : ℕ)
     → opened (b + front k) (take (count a) ((items_in a ++ close_of k.reception k.caught ∷ items_in l) ++ ds)) (size a) ≡ opened (b + front k) (items_in a) (size a)
 part_opened k a l ds b =
     ap (λ ts. opened (b + front k) ts (size a))
@@ -157,7 +157,7 @@ handlers_whole l =
     ap (handlers_in (whole l ∷ []) 0) (sym (append-nil (items_in l))) ∙ handlers_laid l (whole l) [] 0 [] ∙ append-nil (handlers (place_of (whole l)) 0 l)
     ∙ handlers_same (place_of (whole l)) (λ n. 0 + entry n l) (zero_places l) 0 l
 
-drafted : (l : Layout) → (over l ([], 0)).0 ≡ items_in l
+pub drafted : (l : Layout) → (over l ([], 0)).0 ≡ items_in l
 drafted l = items_over l ([], 0) ∙ append-nil (items_in l)
 
 pub assembles_code : AssemblesCode

@@ -13,10 +13,13 @@ pub mod Emitted
 pub mod GatherSteps
 pub mod Gathered
 pub mod Lists
+pub mod OnePlan
 pub mod Opens
 pub mod Scattered
 pub mod Placed
+pub mod Planned
 pub mod Slots
 pub mod Walked
 pub mod Whole
 pub mod Starting
+pub mod Steady

@@ -1,13 +1,11 @@
 -- Where names stand in joined lists, and a map of their places.
-use Rattle.std.proofs.Common.{◌≡◌, ◌≢◌, ℕ, suc, ◌+◌, ◌-◌, get_or, ◌<◌, ◌≤◌, ◌||◌, Bool, true, false, cond, List, [], ◌∷◌, ◌++◌, length, refl, ap, sym, subst, ◌∙◌, arith, length-append, Option, Some, None, Bor, ⊎_elim}
+use Rattle.std.proofs.Common.{◌≡◌, ◌≢◌, ℕ, suc, ◌+◌, ◌-◌, ◌<◌, ◌≤◌, ◌||◌, Bool, true, false, cond, List, [], ◌∷◌, ◌++◌, length, refl, ap, sym, subst, ◌∙◌, arith, length-append, Option, Some, None, Bor, ⊎_elim}
 use Rattle.std.specs.BTreeMap.{BTreeMap, UpdatesBy, get_by}
 use Rattle.std.specs.Cmp.Lexicographic.{slice_cmp}
 use Rattle.std.specs.Ordering.{nat_cmp}
 use Rattle.std.specs.Bool.{nat_lt}
 use Rattle.std.specs.Str.{bytes_eq}
-use Rattle.std.specs.Prelude.{slice_get}
-use Rattle.std.proofs.lemmas.List.{append_assoc, get_or-append-add}
-use Rattle.std.proofs.lemmas.Option.{get_or_from_slice_get, slice_get-get_or}
+use Rattle.std.proofs.lemmas.List.{append_assoc}
 use Rattle.std.proofs.lemmas.Map.Text.{btree_map_updates_str}
 use Rattle.std.proofs.lemmas.Slice.Eq.{bytes_eq-Decides}
 use Rattle.std.proofs.lemmas.Bool.{lt-ltb, le-ltb, ltb-true, ltb-false, cases_lt}
@@ -79,17 +77,6 @@ found_name (y ∷ ys) x h = by_test (same_text x y) refl (found_name ys x)
 
 pub slot_named : (own : List Text) (x : Text) (i : ℕ) → i ≡ slot_of (known own) x → i < 17 + length own → name_at (known own) i ≡ x
 slot_named own x i e h = ap (name_at (known own)) e ∙ found_name (known own) x (omega (arith, e, h, known_count own))
-
--- ---- the name of a slot
-
-pub text_at : (names : List Text) (i : ℕ) (y x : Text) → i < length names → y ≡ get_or names i y → y ≡ x → slice_get names i ≡ Some x
-text_at names i y x h is e = slice_get-get_or names i y h ∙ ap Some (sym is ∙ e)
-
-pub name_own : (own : List Text) (x : Text) (i : ℕ) → 17 ≤ i → slice_get own (i - 17) ≡ Some x → name_at (known own) i ≡ x
-unfolding known
-name_own own x i h e =
-    let at : i ≡ length starting_names + (i - 17) = omega (arith, h, starting_count) in
-    ap (λ n. get_or (starting_names ++ own) n []) at ∙ get_or-append-add starting_names own (i - 17) [] ∙ get_or_from_slice_get own (i - 17) x [] e
 
 -- ---- a name that is mentioned
 

@@ -57,12 +57,14 @@ pub gap_adds : (w : Walk) (ds : List Draught) → Adds w gap_of ds w
 gap_adds w ds = gap_in w ds
 
 -- of a part as many items as there are
+pub taken : (n k : ℕ) (after : List Item) → k ≡ min n (length after) → map item_of (take k after) ≡ take n (map item_of after)
+taken n k after count = ap (map item_of) (ap (λ k. take k after) count ∙ take_min n after) ∙ sym (take-map item_of n after)
+
 pub part_adds : (w : Walk) (o : Bool) (n m k : ℕ) (after : List Item) (v : Walk) → k ≡ min n (length after)
     → v ≡ with_part o m (map item_of (take k after)) w → Adds w (part_of o n m) (map item_of after) v
 part_adds w o n m k after v count e =
-    let is : map item_of (take k after) ≡ take n (map item_of after) =
-    ap (map item_of) (ap (λ k. take k after) count ∙ take_min n after) ∙ sym (take-map item_of n after) in
-    as_is w v (with_part o m (take n (map item_of after)) w) (part_of o n m) (map item_of after) (e ∙ ap (λ ds. with_part o m ds w) is) (part_in o n m w (map item_of after))
+    as_is w v (with_part o m (take n (map item_of after)) w) (part_of o n m) (map item_of after) (e ∙ ap (λ ds. with_part o m ds w) (taken n k after count))
+    (part_in o n m w (map item_of after))
 
 pub at_item : (w : Walk) (x y : Item) (ds : List Draught) (v : Walk) → x ≡ y → Adds w (item_of y) ds v → Adds w (item_of x) ds v
 at_item w x y ds v e a = subst (λ z. Adds w (item_of z) ds v) (sym e) a
@@ -109,8 +111,8 @@ walk c h o n = record { code = c; handlers = h; opens = o; place = n }
 walks_same : (c d : List Instruction) (h k : List Handler) (o p : List assembling.Open) (m n : ℕ) → c ≡ d → h ≡ k → o ≡ p → m ≡ n → walk c h o m ≡ walk d k p n
 walks_same c d h k o p m n e f g i = ap (λ c. walk c h o m) e ∙ ap (λ h. walk d h o m) f ∙ ap (λ o. walk d k o m) g ∙ ap (λ n. walk d k p n) i
 
-popped : (old new : List Open) (o : Open) → old ≡ new ++ o ∷ [] → map open_of (reverse old) ≡ open_of o ∷ map open_of (reverse new)
-popped old new o e = ap (λ os. map open_of (reverse os)) e ∙ ap (map open_of) (reverse-append new (o ∷ []))
+pub popped : {X : Type 0} (f : Open → X) (old new : List Open) (o : Open) → old ≡ new ++ o ∷ [] → map f (reverse old) ≡ f o ∷ map f (reverse new)
+popped f old new o e = ap (λ os. map f (reverse os)) e ∙ ap (map f) (reverse-append new (o ∷ []))
 
 pub closed : (t : Tables) (old : Assembly) (is : List Made) (hs : List Catcher) (around : List Open) (to : ℕ) (o : Open) (r : Reception) (c : Option Caught)
     → old.around.items ≡ around ++ o ∷ []
@@ -118,7 +120,7 @@ pub closed : (t : Tables) (old : Assembly) (is : List Made) (hs : List Catcher) 
     → map (meant_in t) is ≡ map (meant_in t) old.assembled.code.items ++ receiving (open_of o).end r → to ≡ old.place + reception_size r
     → walk (map (meant_in t) is) (map (handler_in t) hs) (open_of o ∷ map open_of (reverse around)) to ≡ with_close r c (walk_of t old)
 closed t old is hs around to o r c pop caught received place =
-    let os : map open_of (reverse old.around.items) ≡ open_of o ∷ map open_of (reverse around) = popped old.around.items around o pop in
+    let os : map open_of (reverse old.around.items) ≡ open_of o ∷ map open_of (reverse around) = popped open_of old.around.items around o pop in
     walks_same (map (meant_in t) is) (map (meant_in t) old.assembled.code.items ++ receiving (innermost (map open_of (reverse old.around.items))).end r)
     (map (handler_in t) hs)
     (map (handler_in t) old.assembled.handlers.items ++ handler (place_of (innermost (map open_of (reverse old.around.items)))) old.here.first old.place c)

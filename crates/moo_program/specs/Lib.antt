@@ -11,6 +11,7 @@ pub mod Meaning
 pub mod Names
 pub mod Opens
 pub mod Outline
+pub mod Scattering
 pub mod Tables
 pub mod Walking
 pub mod Within

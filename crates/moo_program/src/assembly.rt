@@ -1,5 +1,6 @@
 //! Code and handlers, assembled from a draft's first item to the last.
-ghost use Rattle.std.specs.Prelude.{◌≡◌, ◌+◌, ◌∷◌, ◌++◌, [], map, min, IfOk, OnOk};
+ghost use Rattle.std.specs.Prelude.{◌≡◌, ◌+◌, ◌∷◌, ◌++◌, [], ℕ, length, map, min, true, IfOk, None, OnOk};
+ghost use Rattle.std.specs.List.{list_all};
 ghost use Rattle.moo_program.specs.Drafting.{item_of, operation_of, parts_of, reception_of, caught_of, row_of};
 ghost use Rattle.moo_program.specs.Assembling.{place_of, code_in, handlers_in, innermost, opened};
 ghost use Rattle.moo_code.specs.Instruction.{perform, placed, handler_parts};
@@ -7,9 +8,11 @@ ghost use Rattle.moo_code.specs.Layout.{handler as handler_of, receiving, recept
 ghost use Rattle.moo_program.specs.Meaning.{arm_meant, arm_place, handler_meant};
 ghost use Rattle.moo_program.specs.Names.{known};
 ghost use Rattle.moo_program.specs.Opens.{open_of};
+ghost use Rattle.moo_program.specs.Scattering.{Agrees, Steady, IsSteady, plan_in, learned, first_plan, outer_plans, plans_of, all_in};
 ghost use Rattle.moo_program.specs.Tables.{meant_in, handler_in};
 ghost use Rattle.moo_program.specs.declared.tables.Tables.{Tables as TablesRecord};
 ghost use Rattle.moo_program.specs.Walking.{walk_of, with_own, with_part, with_close, start_of, caught_in, Adds};
+ghost use Rattle.moo_program.specs.Within.{slots_in};
 
 use crate::emit::{instruction, narrow, place, some_slot};
 use crate::instruction::{Catch, CatchArm, Handler, Instruction, Part};
@@ -21,6 +24,7 @@ use crate::open::Open;
 use crate::room::put;
 use crate::scatter::shared;
 use crate::tables::Tables;
+use crate::within::is_within;
 use std::alloc::{AllocError, Global};
 
 /// What has been assembled.
@@ -50,6 +54,8 @@ pub fn assemble(
     items: &[Item],
     size: usize,
 ) -> Result<Assembled, AllocError>
+    requires { Steady (opened 0 (map item_of items.now) size ∷ []) (None ∷ []) 0 (map item_of items.now) }
+    ensures within { IfOk result (λ a. list_all (slots_in (length (known tables.now.names))) a.code.items ≡ true) }
     ensures code { IfOk result (λ a. map (meant_in tables.now) a.code.items ≡ code_in (opened 0 (map item_of items.now) size ∷ []) 0 (map item_of items.now)) }
     ensures handlers { IfOk result (λ a. map (handler_in tables.now) a.handlers.items ≡ handlers_in (opened 0 (map item_of items.now) size ∷ []) 0 (map item_of items.now)) }
 {
@@ -62,7 +68,9 @@ pub fn assemble(
 
 impl Assembly {
     fn new(alloc: Global, items: &[Item], size: usize) -> Result<Assembly, AllocError>
-        ensures { IfOk result (λ a. (t : TablesRecord) → walk_of t a ≡ start_of (map item_of items.now) size) }
+        ensures walk { IfOk result (λ a. (t : TablesRecord) → walk_of t a ≡ start_of (map item_of items.now) size) }
+        ensures plans { IfOk result (λ a. (t : TablesRecord) → plans_of t a ≡ None ∷ []) }
+        ensures none { IfOk result (λ a. a.assembled.code.items ≡ []) }
     {
         let here = Open::new(Vec::new(alloc), items, 0, size)?;
         let code = Vec::with_capacity(alloc, size)?;
@@ -87,7 +95,10 @@ impl Assembly {
         item: &Item<'_>,
         after: &[Item<'_>],
     ) -> Result<(), AllocError>
-        ensures { OnOk result (Adds (walk_of tables.now self.old) (item_of item.now) (map item_of after.now) (walk_of tables.now self.new)) }
+        requires { IsSteady tables.now self.old (item_of item.now ∷ map item_of after.now) }
+        ensures adds { OnOk result (Adds (walk_of tables.now self.old) (item_of item.now) (map item_of after.now) (walk_of tables.now self.new)) }
+        ensures steady { OnOk result (IsSteady tables.now self.new (map item_of after.now)) }
+        ensures within { OnOk result (all_in tables.now self.old ≡ true → all_in tables.now self.new ≡ true) }
     {
         match item {
             Item::Own(operation) => self.own(alloc, tables, operation)?,
@@ -104,14 +115,17 @@ impl Assembly {
     }
 
     // An operation.
-    #[tactic(auto, using(crate::proofs::Walked::own_put))]
+    #[tactic(auto, using(crate::proofs::Walked::own_put, crate::proofs::Planned::plans_put, crate::proofs::Planned::put_within))]
     fn own(
         &mut self,
         alloc: Global,
         tables: &Tables<'_>,
         operation: &Operation<'_>,
     ) -> Result<(), AllocError>
-        ensures { OnOk result (walk_of tables.now self.new ≡ with_own (operation_of operation.now) (parts_of operation.now) (walk_of tables.now self.old)) }
+        requires { Agrees (first_plan (plans_of tables.now self.old)) (plan_in (operation_of operation.now) (placed (place_of (innermost (walk_of tables.now self.old).opens)) (parts_of operation.now))) }
+        ensures walk { OnOk result (walk_of tables.now self.new ≡ with_own (operation_of operation.now) (parts_of operation.now) (walk_of tables.now self.old)) }
+        ensures plans { OnOk result (plans_of tables.now self.new ≡ learned (first_plan (plans_of tables.now self.old)) (plan_in (operation_of operation.now) (placed (place_of (innermost (walk_of tables.now self.old).opens)) (parts_of operation.now))) ∷ outer_plans (plans_of tables.now self.old)) }
+        ensures within { OnOk result (all_in tables.now self.old ≡ true → all_in tables.now self.new ≡ true) }
     {
         let instruction = self.instruction(alloc, tables, operation)?;
         if let Instruction::StartFork(_, _) = &instruction {
@@ -131,8 +145,12 @@ impl Assembly {
         tables: &Tables<'_>,
         operation: &Operation<'_>,
     ) -> Result<Instruction, AllocError>
+        requires { Agrees (first_plan (plans_of tables.now self.old)) (plan_in (operation_of operation.now) (placed (place_of (innermost (walk_of tables.now self.old).opens)) (parts_of operation.now))) }
         ensures meant { IfOk result (λ i. meant_in tables.now i ≡ perform (operation_of operation.now) (placed (place_of (innermost (walk_of tables.now self.old).opens)) (parts_of operation.now))) }
+        ensures slots { IfOk result (λ i. slots_in (length (known tables.now.names)) i ≡ true) }
         ensures walk { OnOk result (walk_of tables.now self.new ≡ walk_of tables.now self.old) }
+        ensures plans { OnOk result (plans_of tables.now self.new ≡ learned (first_plan (plans_of tables.now self.old)) (plan_in (operation_of operation.now) (placed (place_of (innermost (walk_of tables.now self.old).opens)) (parts_of operation.now))) ∷ outer_plans (plans_of tables.now self.old)) }
+        ensures code { OnOk result (self.new.assembled ≡ self.old.assembled) }
     {
         match operation {
             Operation::Scatter(items) => {
@@ -147,7 +165,7 @@ impl Assembly {
                     end: place(&self.here, 0)?,
                 })
             }
-            _ => instruction(alloc, tables, &self.here, self.forks, operation),
+            _ => plain(alloc, tables, &self.here, self.forks, operation),
         }
     }
 
@@ -160,7 +178,9 @@ impl Assembly {
         size: usize,
         items: &[Item],
     ) -> Result<(), AllocError>
-        ensures { OnOk result (walk_of tables.now self.new ≡ with_part opens size (map item_of items.now) (walk_of tables.now self.old)) }
+        ensures walk { OnOk result (walk_of tables.now self.new ≡ with_part opens size (map item_of items.now) (walk_of tables.now self.old)) }
+        ensures plans { OnOk result (plans_of tables.now self.new ≡ None ∷ plans_of tables.now self.old) }
+        ensures within { OnOk result (all_in tables.now self.old ≡ true → all_in tables.now self.new ≡ true) }
     {
         if opens {
             let place = next(self.place)?;
@@ -182,7 +202,9 @@ impl Assembly {
         reception: Reception,
         caught: Option<&Caught<'_>>,
     ) -> Result<(), AllocError>
-        ensures { OnOk result (walk_of tables.now self.new ≡ with_close (reception_of reception) (caught_in caught.entry) (walk_of tables.now self.old)) }
+        ensures walk { OnOk result (walk_of tables.now self.new ≡ with_close (reception_of reception) (caught_in caught.entry) (walk_of tables.now self.old)) }
+        ensures plans { OnOk result (plans_of tables.now self.new ≡ outer_plans (plans_of tables.now self.old)) }
+        ensures within { OnOk result (all_in tables.now self.old ≡ true → all_in tables.now self.new ≡ true) }
     {
         let Some(around) = self.around.pop() else {
             return Err(AllocError);
@@ -204,6 +226,25 @@ impl Assembly {
         put(&mut self.spares, spare)?;
         self.here = around;
         Ok(())
+    }
+}
+
+// The instruction of an operation that is of no scattering assignment, with so many forks before it.
+fn plain(
+    alloc: Global,
+    tables: &Tables<'_>,
+    here: &Open,
+    forks: usize,
+    operation: &Operation<'_>,
+) -> Result<Instruction, AllocError>
+    ensures meant { IfOk result (λ i. meant_in tables.now i ≡ perform (operation_of operation.now) (placed (place_of (open_of here.now)) (parts_of operation.now))) }
+    ensures slots { IfOk result (λ i. slots_in (length (known tables.now.names)) i ≡ true) }
+{
+    let instruction = instruction(alloc, tables, here, forks, operation)?;
+    if is_within(&instruction, tables.names.count()) {
+        Ok(instruction)
+    } else {
+        Err(AllocError)
     }
 }
 
@@ -244,6 +285,7 @@ fn receive(
 ) -> Result<usize, AllocError>
     ensures place { IfOk result (λ p. p ≡ from + reception_size (reception_of reception)) }
     ensures code { OnOk result (map (meant_in tables.now) code.new.items ≡ map (meant_in tables.now) code.old.items ++ receiving (open_of around.now).end (reception_of reception)) }
+    ensures within { OnOk result ((n : ℕ) → list_all (slots_in n) code.old.items ≡ true → list_all (slots_in n) code.new.items ≡ true) }
 {
     match reception {
         Reception::Straight => Ok(from),

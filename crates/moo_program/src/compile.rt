@@ -8,7 +8,7 @@ ghost use Rattle.moo_program.specs.Drafted.{IsDraft};
 ghost use Rattle.moo_program.specs.Gathering.{forks_in};
 ghost use Rattle.moo_program.specs.Names.{known};
 ghost use Rattle.moo_program.specs.Tables.{bodies_of};
-ghost use Rattle.moo_program.specs.Within.{slots_in, handler_slots_in};
+ghost use Rattle.moo_program.specs.Within.{handler_slots_in};
 
 use crate::assembly::{Assembled, assemble};
 use crate::copies::Copies;
@@ -17,7 +17,7 @@ use crate::moo_bytecode::around::{Around, Bracketed};
 use crate::moo_bytecode::draft::{Draft, Item};
 use crate::names::count_slots;
 use crate::outline::{Step, outline};
-use crate::within::{handlers_within, instructions_within};
+use crate::within::handlers_within;
 use moo_tree::statement::{Statement, Tree};
 use moo_value::text::Text;
 use std::alloc::{AllocError, Global};
@@ -62,15 +62,11 @@ pub fn compile<C: Copies>(alloc: Global, copier: &C, tree: &Tree) -> Result<Part
     })
 }
 
-// That all slots are those of names, of which these come behind the first ones.
+// That all slots of handlers are those of names, of which these come behind the first ones.
 fn check_slots(assembled: &Assembled, own: &[Text]) -> Result<(), AllocError>
-    ensures code { OnOk result (list_all (slots_in (length (known own.now))) assembled.now.code.items ≡ true) }
-    ensures handlers { OnOk result (list_all (handler_slots_in (length (known own.now))) assembled.now.handlers.items ≡ true) }
+    ensures { OnOk result (list_all (handler_slots_in (length (known own.now))) assembled.now.handlers.items ≡ true) }
 {
-    let count = count_slots(own);
-    if instructions_within(assembled.code.as_slice(), count)
-        && handlers_within(assembled.handlers.as_slice(), count)
-    {
+    if handlers_within(assembled.handlers.as_slice(), count_slots(own)) {
         Ok(())
     } else {
         Err(AllocError)

@@ -1,5 +1,5 @@
 //! The names of a program's variables, and their slots.
-ghost use Rattle.std.specs.Prelude.{◌≡◌, ℕ, List, [], ◌∷◌, length, map, slice_get, IfSome, IsTrue, OnOk, Some};
+ghost use Rattle.std.specs.Prelude.{◌≡◌, ℕ, List, [], ◌∷◌, length, map, IfSome, OnOk};
 ghost use Rattle.std.specs.Borrow.{Bor};
 ghost use Rattle.spec_world.specs.WellFormed.{has_name};
 ghost use Rattle.moo_code.specs.Names.{with_names, starting_names};
@@ -74,26 +74,6 @@ impl<'a> Names<'a> {
         }
     }
 
-    fn has_slot(&self, slot: usize, name: &Text) -> bool
-        ensures { IsTrue result → name_at (known self.now) slot ≡ name.now }
-    {
-        match self.slot(name) {
-            Some(found) => found == slot,
-            None => false,
-        }
-    }
-
-    /// Whether a slot is that of a variable.
-    pub fn is_slot_of(&self, slot: usize, name: &Text) -> bool
-        ensures { IsTrue result → name_at (known self.now) slot ≡ name.now }
-    {
-        if slot < STARTING_NAMES.len() {
-            return self.has_slot(slot, name);
-        }
-        let own = self.list.as_slice();
-        is_named(own, slot - STARTING_NAMES.len(), name)
-    }
-
     /// Adds a name, unless it has a slot.
     pub fn mention(&mut self, name: &'a Text) -> Result<(), AllocError>
         ensures { OnOk result (known self.new ≡ with_names (known self.old) (name.now ∷ [])) }
@@ -111,6 +91,13 @@ impl<'a> Names<'a> {
                 Err(AllocError::from(error))
             }
         }
+    }
+
+    /// How many slots there are.
+    pub(crate) fn count(&self) -> usize
+        ensures { result ≡ length (known self.now) }
+    {
+        STARTING_NAMES.len() + self.list.len()
     }
 
     /// The names behind the first ones.
@@ -159,12 +146,6 @@ fn own_place(names: &[Text], name: &str) -> usize
         }
     }
     names.len()
-}
-
-fn is_named(names: &[Text], place: usize, name: &Text) -> bool
-    ensures { IsTrue result → slice_get names.now place ≡ Some name.now }
-{
-    place < names.len() && names[place].as_str() == name.as_str()
 }
 
 // The place among the first names.

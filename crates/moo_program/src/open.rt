@@ -1,5 +1,5 @@
 //! Constructs under way while code is assembled.
-ghost use Rattle.std.specs.Prelude.{◌≡◌, ◌++◌, ◌∷◌, List, map, IfOk};
+ghost use Rattle.std.specs.Prelude.{◌≡◌, ◌++◌, ◌∷◌, List, map, IfOk, None};
 ghost use Rattle.moo_program.specs.Drafting.{Draught, item_of};
 ghost use Rattle.moo_program.specs.Assembling.{place_of, scan, opened as opened_of};
 ghost use Rattle.moo_program.specs.Opens.{open_of};
@@ -30,7 +30,8 @@ impl Open {
         first: usize,
         size: usize,
     ) -> Result<Open, AllocError>
-        ensures { IfOk result (λ o. open_of o ≡ opened_of first (map item_of items.now) size) }
+        ensures open { IfOk result (λ o. open_of o ≡ opened_of first (map item_of items.now) size) }
+        ensures scatter { IfOk result (λ o. o.scatter ≡ None) }
     {
         let end = plus(first, size)?;
         let starts = starts(spare, items, first)?;

@@ -1,16 +1,10 @@
 //! Whether slots are those of names.
-ghost use Rattle.std.specs.Prelude.{◌≡◌, nat_lt};
+ghost use Rattle.std.specs.Prelude.{◌≡◌};
 ghost use Rattle.std.specs.List.{list_all};
+ghost use Rattle.moo_program.specs.Scattering.{are_in};
 ghost use Rattle.moo_program.specs.Within.{slots_in, handler_slots_in, some_in, slot_number as number_of};
 
 use crate::instruction::{Catch, CatchArm, Handler, Instruction, Slot};
-
-/// Whether all slots of these instructions are within so many.
-pub fn instructions_within(code: &[Instruction], count: usize) -> bool
-    ensures { result ≡ list_all (slots_in count) code.now }
-{
-    code.iter().all(|instruction| is_within(instruction, count))
-}
 
 /// Whether all slots of these handlers are within so many.
 pub fn handlers_within(handlers: &[Handler], count: usize) -> bool
@@ -21,7 +15,8 @@ pub fn handlers_within(handlers: &[Handler], count: usize) -> bool
         .all(|handler| is_handler_within(handler, count))
 }
 
-fn is_within(instruction: &Instruction, count: usize) -> bool
+/// Whether all slots of an instruction are within so many.
+pub fn is_within(instruction: &Instruction, count: usize) -> bool
     ensures { result ≡ slots_in count instruction.now }
 {
     match instruction {
@@ -43,8 +38,9 @@ fn is_within(instruction: &Instruction, count: usize) -> bool
     }
 }
 
-fn are_within(slots: &[Slot], count: usize) -> bool
-    ensures { result ≡ list_all (λ i. nat_lt (number_of i) count) slots.now }
+/// Whether the slots of items are within so many.
+pub fn are_within(slots: &[Slot], count: usize) -> bool
+    ensures { result ≡ are_in count slots.now }
 {
     slots.iter().all(|slot| slot_number(*slot) < count)
 }

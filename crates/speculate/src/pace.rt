@@ -3,8 +3,8 @@ ghost use Rattle.std.specs.Prelude.{◌≤◌, ◌<◌};
 
 use std::time::Instant;
 
-// Several workers play so many steps in each try; as long as they are the quicker they then play so many, and twice as many each time up to the
-// most.
+// Several workers play so many steps in the first try, and twice as many in each further one up to the second number; as long as they are the quicker they
+// then play so many, and twice as many each time up to the most.
 const FIRST: usize = 512;
 
 const TOGETHER: usize = 4096;
@@ -147,13 +147,14 @@ impl Pace {
         }
     }
 
-    // Several took so long for a step, and one less: one goes on for a while, and the next try is a short one.
+    // Several took so long for a step, and one less: one goes on for a while. The next try is longer than the last one, so that what it takes to start
+    // threads counts less in it.
     fn begin_rest(&mut self, together: u64, alone: u64) {
         let lost = together.saturating_sub(alone).saturating_mul(FIRST as u64) / alone.max(1);
         let rest = usize::try_from(lost.saturating_mul(REST)).unwrap_or(MOST_REST);
         self.rest = rest.clamp(LEAST_REST, MOST_REST).saturating_mul(self.times);
         self.times = self.times.saturating_mul(2).min(MOST_TIMES);
-        self.next_together = FIRST;
+        self.next_together = FIRST.saturating_mul(self.times).min(TOGETHER);
     }
 
     // So many steps of that while are over. At its end several are tried again.

@@ -13,6 +13,7 @@ pub mod Spelled
 pub mod Beginning
 pub mod Entering
 pub mod Finding
+pub mod LookedUp
 pub mod Performing
 pub mod Waiting
 pub mod Crossing

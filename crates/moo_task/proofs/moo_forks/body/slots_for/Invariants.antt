@@ -6,5 +6,5 @@ use Rattle.moo_task.proofs.moo_forks.body.slots_for.Given as goal
 
 abbrev pub invariant-loop-name : goal.invariant-loop-name
 invariant-loop-name l =
-    let value = named (kept_of l.frame).variables in
+    let value = named (kept_of l.variables.frame.now).variables in
     l.slots.items ≡ map value starting_names ++ map value (take l.name-index l.own)

@@ -14,11 +14,11 @@ use moo_reader::found::{Arguments, Found, FoundCodes};
 use moo_reader::start::function_call;
 use moo_token::token::Sign;
 use moo_tree::expression::Codes;
+use reader_frames::begun::Begun;
 use reader_frames::frame::{ArgumentsFrame, Frame};
 use reader_frames::left::Left;
 use reader_frames::state::{Next, Part, State, begin, past_sign};
 use std::alloc::{AllocError, Global};
-use std::collections::VecDeque;
 
 /// Behind an argument, spliced or not: another one behind a comma.
 pub fn behind_argument(
@@ -26,10 +26,10 @@ pub fn behind_argument(
     brackets: bool,
     spliced: bool,
     argument: Found,
-    begun: Box<VecDeque<Frame>>,
+    begun: Box<Begun>,
     mut left: Left,
 ) -> Result<State, AllocError>
-    ensures { IfOk result (λ s. state_of s ≡ behind (f.behind_argument brackets spliced) (all_begun begun.value.items some_arguments_read) (found_of argument)
+    ensures { IfOk result (λ s. state_of s ≡ behind (f.behind_argument brackets spliced) (all_begun begun.value some_arguments_read) (found_of argument)
         (left_of left)) }
 {
     if left.take_sign(Sign::Comma) {
@@ -59,10 +59,10 @@ pub fn behind_arguments(
     alloc: Global,
     frame: ArgumentsFrame,
     arguments: Arguments,
-    begun: Box<VecDeque<Frame>>,
+    begun: Box<Begun>,
     left: Left,
 ) -> Result<State, AllocError>
-    ensures { IfOk result (λ s. state_of s ≡ found_by (arguments_begun frame (all_begun begun.value.items)) (arguments_found arguments) (left_of left)) }
+    ensures { IfOk result (λ s. state_of s ≡ found_by (arguments_begun frame (all_begun begun.value)) (arguments_found arguments) (left_of left)) }
 {
     match frame {
         ArgumentsFrame::Behind { spliced, argument } => {

@@ -11,11 +11,11 @@ ghost use Rattle.reader_frames.specs.StateView.{state_of};
 use moo_reader::build::caught;
 use moo_reader::found::{Found, FoundCodes};
 use moo_token::token::Sign;
+use reader_frames::begun::Begun;
 use reader_frames::frame::{BlockFrame, CodesFrame, ExpressionFrame, Frame, WithinOperand};
 use reader_frames::left::Left;
 use reader_frames::state::{Next, Part, State, begin, past_sign};
 use std::alloc::{AllocError, Global};
-use std::collections::VecDeque;
 
 // Behind the codes of a caught expression: a value that stands in its place, or none.
 fn caught_codes(
@@ -24,10 +24,10 @@ fn caught_codes(
     line: u64,
     found: Found,
     codes: FoundCodes,
-    begun: Box<VecDeque<Frame>>,
+    begun: Box<Begun>,
     mut left: Left,
 ) -> Result<State, AllocError>
-    ensures { IfOk result (λ s. state_of s ≡ codes_read brackets line (found_of found) (all_begun begun.value.items an_operand) (codes_found codes)
+    ensures { IfOk result (λ s. state_of s ≡ codes_read brackets line (found_of found) (all_begun begun.value an_operand) (codes_found codes)
         (left_of left)) }
 {
     if left.take_sign(Sign::Arrow) {
@@ -51,10 +51,10 @@ pub fn behind_codes(
     alloc: Global,
     frame: CodesFrame,
     codes: FoundCodes,
-    begun: Box<VecDeque<Frame>>,
+    begun: Box<Begun>,
     left: Left,
 ) -> Result<State, AllocError>
-    ensures { IfOk result (λ s. state_of s ≡ found_by (codes_begun frame (all_begun begun.value.items)) (codes_found codes) (left_of left)) }
+    ensures { IfOk result (λ s. state_of s ≡ found_by (codes_begun frame (all_begun begun.value)) (codes_found codes) (left_of left)) }
 {
     match frame {
         CodesFrame::Caught {

@@ -12,15 +12,15 @@ ghost use Rattle.reader_frames.specs.StateView.{state_of};
 use moo_reader::build::{assignment, conditional, joined, scatter};
 use moo_reader::found::{Found, Join, Scattering};
 use moo_token::token::Sign;
+use reader_frames::begun::Begun;
 use reader_frames::frame::{ExpressionFrame, Frame, WithinExpression};
 use reader_frames::left::Left;
 use reader_frames::state::{BeforeOperators, Next, Part, State, begin, past_sign};
 use std::alloc::{AllocError, Global};
-use std::collections::VecDeque;
 
 // Behind the closing parenthesis; the line is that of the opening one.
-fn in_parentheses(line: u64, found: Found, begun: Box<VecDeque<Frame>>, left: Left) -> State
-    ensures { state_of result ≡ behind (f.in_parentheses line) (all_begun begun.value.items an_expression) (found_of found) (left_of left) }
+fn in_parentheses(line: u64, found: Found, begun: Box<Begun>, left: Left) -> State
+    ensures { state_of result ≡ behind (f.in_parentheses line) (all_begun begun.value an_expression) (found_of found) (left_of left) }
 {
     let Found { mut whole } = found;
     whole.line = line;
@@ -36,10 +36,10 @@ fn right_of(
     one: Found,
     join: Join,
     other: Found,
-    begun: Box<VecDeque<Frame>>,
+    begun: Box<Begun>,
     left: Left,
 ) -> Result<State, AllocError>
-    ensures { IfOk result (λ s. state_of s ≡ behind (f.right_of brackets level (found_of one) (join_of join)) (all_begun begun.value.items an_expression)
+    ensures { IfOk result (λ s. state_of s ≡ behind (f.right_of brackets level (found_of one) (join_of join)) (all_begun begun.value an_expression)
         (found_of other) (left_of left)) }
 {
     let found = joined(alloc, join, one, other)?;
@@ -57,10 +57,10 @@ fn chosen_first(
     level: u8,
     condition: Found,
     first: Found,
-    begun: Box<VecDeque<Frame>>,
+    begun: Box<Begun>,
     left: Left,
 ) -> Result<State, AllocError>
-    ensures { IfOk result (λ s. state_of s ≡ behind (f.chosen_first brackets level (found_of condition)) (all_begun begun.value.items an_expression)
+    ensures { IfOk result (λ s. state_of s ≡ behind (f.chosen_first brackets level (found_of condition)) (all_begun begun.value an_expression)
         (found_of first) (left_of left)) }
 {
     let within = WithinExpression::ChosenSecond {
@@ -85,11 +85,11 @@ fn chosen_second(
     condition: Found,
     first: Found,
     second: Found,
-    begun: Box<VecDeque<Frame>>,
+    begun: Box<Begun>,
     left: Left,
 ) -> Result<State, AllocError>
     ensures { IfOk result (λ s. state_of s ≡ behind (f.chosen_second brackets level (found_of condition) (found_of first))
-        (all_begun begun.value.items an_expression) (found_of second) (left_of left)) }
+        (all_begun begun.value an_expression) (found_of second) (left_of left)) }
 {
     let found = conditional(alloc, condition, first, second)?;
     let next = Next::Operators(BeforeOperators {
@@ -106,10 +106,10 @@ pub fn behind_within_expression(
     alloc: Global,
     within: WithinExpression,
     found: Found,
-    begun: Box<VecDeque<Frame>>,
+    begun: Box<Begun>,
     left: Left,
 ) -> Result<State, AllocError>
-    ensures { IfOk result (λ s. state_of s ≡ behind (within_expression within) (all_begun begun.value.items an_expression) (found_of found) (left_of left)) }
+    ensures { IfOk result (λ s. state_of s ≡ behind (within_expression within) (all_begun begun.value an_expression) (found_of found) (left_of left)) }
 {
     match within {
         WithinExpression::Parentheses { line } => Ok(in_parentheses(line, found, begun, left)),

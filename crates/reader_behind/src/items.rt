@@ -11,22 +11,22 @@ ghost use Rattle.reader_frames.specs.StateView.{state_of};
 use moo_reader::found::{BracedItem, Found, Items};
 use moo_reader::items::{braces_found, with_item};
 use reader_frames::allowed::{list_alone, scatter_alone};
+use reader_frames::begun::Begun;
 use reader_frames::ends::items_on;
-use reader_frames::frame::{Frame, ItemsFrame, WithinItems};
+use reader_frames::frame::{ItemsFrame, WithinItems};
 use reader_frames::left::Left;
 use reader_frames::state::{Next, Part, State};
 use std::alloc::{AllocError, Global};
-use std::collections::VecDeque;
 
 /// Behind an expression that is a part of an item.
 pub fn behind_within_items(
     alloc: Global,
     within: WithinItems,
     found: Found,
-    begun: Box<VecDeque<Frame>>,
+    begun: Box<Begun>,
     left: Left,
 ) -> Result<State, AllocError>
-    ensures { IfOk result (λ s. state_of s ≡ behind (within_items within) (all_begun begun.value.items some_items_read) (found_of found) (left_of left)) }
+    ensures { IfOk result (λ s. state_of s ≡ behind (within_items within) (all_begun begun.value some_items_read) (found_of found) (left_of left)) }
 {
     match within {
         WithinItems::Value {
@@ -53,10 +53,10 @@ pub fn behind_items(
     alloc: Global,
     frame: ItemsFrame,
     items: Items,
-    begun: Box<VecDeque<Frame>>,
+    begun: Box<Begun>,
     left: Left,
 ) -> Result<State, AllocError>
-    ensures { IfOk result (λ s. state_of s ≡ found_by (items_begun frame (all_begun begun.value.items)) (items_found items) (left_of left)) }
+    ensures { IfOk result (λ s. state_of s ≡ found_by (items_begun frame (all_begun begun.value)) (items_found items) (left_of left)) }
 {
     match frame {
         ItemsFrame::Behind(item) => {

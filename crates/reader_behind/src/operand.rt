@@ -14,6 +14,7 @@ use moo_reader::build::{caught_instead, index_of, property_of, range_of, unary, 
 use moo_reader::found::{Found, FoundCodes, Operand};
 use moo_token::token::Sign;
 use moo_value::operator::UnaryOperator;
+use reader_frames::begun::Begun;
 use reader_frames::ends::{arguments_to, codes_begin};
 use reader_frames::frame::{
     ArgumentsFrame, CodesFrame, ExpressionFrame, Frame, OperandFrame, WithinOperand,
@@ -21,7 +22,6 @@ use reader_frames::frame::{
 use reader_frames::left::Left;
 use reader_frames::state::{BeforeSteps, Next, Part, State, begin, past_sign, stuck};
 use std::alloc::{AllocError, Global};
-use std::collections::VecDeque;
 
 // Behind the operand of a sign.
 fn unary_read(
@@ -29,10 +29,10 @@ fn unary_read(
     operator: UnaryOperator,
     line: u64,
     found: Found,
-    begun: Box<VecDeque<Frame>>,
+    begun: Box<Begun>,
     left: Left,
 ) -> Result<State, AllocError>
-    ensures { IfOk result (λ s. state_of s ≡ behind (f.behind_sign (unary_of operator) line) (all_begun begun.value.items an_operand) (found_of found)
+    ensures { IfOk result (λ s. state_of s ≡ behind (f.behind_sign (unary_of operator) line) (all_begun begun.value an_operand) (found_of found)
         (left_of left)) }
 {
     let found = unary(alloc, operator, line, found)?;
@@ -46,10 +46,10 @@ fn property_named(
     brackets: bool,
     object: Operand,
     name: Found,
-    begun: Box<VecDeque<Frame>>,
+    begun: Box<Begun>,
     left: Left,
 ) -> Result<State, AllocError>
-    ensures { IfOk result (λ s. state_of s ≡ behind (f.property_name brackets (operand_of object)) (all_begun begun.value.items an_operand) (found_of name)
+    ensures { IfOk result (λ s. state_of s ≡ behind (f.property_name brackets (operand_of object)) (all_begun begun.value an_operand) (found_of name)
         (left_of left)) }
 {
     let found = Found {
@@ -66,10 +66,10 @@ fn verb_named(
     brackets: bool,
     object: Operand,
     name: Found,
-    begun: Box<VecDeque<Frame>>,
+    begun: Box<Begun>,
     mut left: Left,
 ) -> Result<State, AllocError>
-    ensures { IfOk result (λ s. state_of s ≡ behind (f.verb_name brackets (operand_of object)) (all_begun begun.value.items an_operand) (found_of name)
+    ensures { IfOk result (λ s. state_of s ≡ behind (f.verb_name brackets (operand_of object)) (all_begun begun.value an_operand) (found_of name)
         (left_of left)) }
 {
     if !left.take_sign(Sign::OpenParenthesis) {
@@ -93,10 +93,10 @@ fn index_read(
     brackets: bool,
     list: Operand,
     index: Found,
-    begun: Box<VecDeque<Frame>>,
+    begun: Box<Begun>,
     mut left: Left,
 ) -> Result<State, AllocError>
-    ensures { IfOk result (λ s. state_of s ≡ behind (f.index_in brackets (operand_of list)) (all_begun begun.value.items an_operand) (found_of index)
+    ensures { IfOk result (λ s. state_of s ≡ behind (f.index_in brackets (operand_of list)) (all_begun begun.value an_operand) (found_of index)
         (left_of left)) }
 {
     if left.take_sign(Sign::DoubleDot) {
@@ -124,10 +124,10 @@ fn range_read(
     list: Operand,
     first: Found,
     last: Found,
-    begun: Box<VecDeque<Frame>>,
+    begun: Box<Begun>,
     left: Left,
 ) -> Result<State, AllocError>
-    ensures { IfOk result (λ s. state_of s ≡ behind (f.range_in brackets (operand_of list) (found_of first)) (all_begun begun.value.items an_operand)
+    ensures { IfOk result (λ s. state_of s ≡ behind (f.range_in brackets (operand_of list) (found_of first)) (all_begun begun.value an_operand)
         (found_of last) (left_of left)) }
 {
     let operand = range_of(alloc, list, first, last)?;
@@ -141,10 +141,10 @@ fn caught_read(
     brackets: bool,
     line: u64,
     caught: Found,
-    begun: Box<VecDeque<Frame>>,
+    begun: Box<Begun>,
     mut left: Left,
 ) -> Result<State, AllocError>
-    ensures { IfOk result (λ s. state_of s ≡ behind (f.caught_in brackets line) (all_begun begun.value.items an_operand) (found_of caught) (left_of left)) }
+    ensures { IfOk result (λ s. state_of s ≡ behind (f.caught_in brackets line) (all_begun begun.value an_operand) (found_of caught) (left_of left)) }
 {
     if !left.take_sign(Sign::Not) {
         return Ok(stuck(begun, left));
@@ -165,10 +165,10 @@ fn instead_read(
     caught: Found,
     codes: FoundCodes,
     value: Found,
-    begun: Box<VecDeque<Frame>>,
+    begun: Box<Begun>,
     left: Left,
 ) -> Result<State, AllocError>
-    ensures { IfOk result (λ s. state_of s ≡ behind (f.caught_instead line (found_of caught) (codes_found codes)) (all_begun begun.value.items an_operand)
+    ensures { IfOk result (λ s. state_of s ≡ behind (f.caught_instead line (found_of caught) (codes_found codes)) (all_begun begun.value an_operand)
         (found_of value) (left_of left)) }
 {
     let operand = caught_instead(alloc, line, caught, codes, value)?;
@@ -182,10 +182,10 @@ pub fn behind_within_operand(
     alloc: Global,
     within: WithinOperand,
     found: Found,
-    begun: Box<VecDeque<Frame>>,
+    begun: Box<Begun>,
     left: Left,
 ) -> Result<State, AllocError>
-    ensures { IfOk result (λ s. state_of s ≡ behind (within_operand within) (all_begun begun.value.items an_operand) (found_of found) (left_of left)) }
+    ensures { IfOk result (λ s. state_of s ≡ behind (within_operand within) (all_begun begun.value an_operand) (found_of found) (left_of left)) }
 {
     match within {
         WithinOperand::Whole => {

@@ -21,11 +21,11 @@ use moo_reader::found::{Braces, Found, Operand, Parts, Scattering, out_of_box};
 use moo_reader::node::Nodes;
 use moo_token::token::Sign;
 use moo_tree::expression::Target;
+use reader_frames::begun::Begun;
 use reader_frames::frame::{ExpressionFrame, Frame, OperandFrame, WithinExpression};
 use reader_frames::left::Left;
 use reader_frames::state::{BeforeOperators, BeforeSteps, Next, State, begin, past_sign, stuck};
 use std::alloc::{AllocError, Global};
-use std::collections::VecDeque;
 use std::mem::replace;
 
 // Whether any expression may stand at this level.
@@ -44,14 +44,8 @@ fn is_assigned(level: u8, left: &Left) -> bool
 }
 
 // The operators behind an expression.
-fn operators(
-    brackets: bool,
-    level: u8,
-    found: Found,
-    begun: Box<VecDeque<Frame>>,
-    left: Left,
-) -> State
-    ensures { state_of result ≡ goes (reads_operators brackets level (found_of found) (all_begun begun.value.items an_expression)) (left_of left) }
+fn operators(brackets: bool, level: u8, found: Found, begun: Box<Begun>, left: Left) -> State
+    ensures { state_of result ≡ goes (reads_operators brackets level (found_of found) (all_begun begun.value an_expression)) (left_of left) }
 {
     let next = Next::Operators(BeforeOperators {
         brackets,
@@ -68,11 +62,11 @@ fn assigned(
     target: Target,
     line: u64,
     nodes: Nodes,
-    begun: Box<VecDeque<Frame>>,
+    begun: Box<Begun>,
     left: Left,
 ) -> Result<State, AllocError>
     ensures { IfOk result (λ s. state_of s ≡ ends.past_sign t.assign (reads_expression brackets 0
-        (push (f.assigned_to (record { tree = own_length; line = line; nodes = nodes }) target) (all_begun begun.value.items an_expression)))
+        (push (f.assigned_to (record { tree = own_length; line = line; nodes = nodes }) target) (all_begun begun.value an_expression)))
         (left_of left)) }
 {
     let target = Box::new(alloc, target)?;
@@ -95,11 +89,11 @@ fn scattered(
     brackets: bool,
     line: u64,
     scattering: Box<Scattering>,
-    begun: Box<VecDeque<Frame>>,
+    begun: Box<Begun>,
     left: Left,
 ) -> Result<State, AllocError>
     ensures { IfOk result (λ s. state_of s ≡ ends.past_sign t.assign (reads_expression brackets 0
-        (push (f.scattered_to line (items_of scattering.value.items.items) scattering.value.nodes) (all_begun begun.value.items an_expression)))
+        (push (f.scattered_to line (items_of scattering.value.items.items) scattering.value.nodes) (all_begun begun.value an_expression)))
         (left_of left)) }
 {
     let within = WithinExpression::ScatteredTo { line, scattering };
@@ -119,11 +113,11 @@ fn behind_target(
     level: u8,
     found: Found,
     is_target: bool,
-    begun: Box<VecDeque<Frame>>,
+    begun: Box<Begun>,
     left: Left,
 ) -> Result<State, AllocError>
     ensures { IfOk result (λ s. state_of s ≡ target_read brackets level (found_of found) (target_if is_target (found_of found).tree)
-        (all_begun begun.value.items an_expression) (left_of left)) }
+        (all_begun begun.value an_expression) (left_of left)) }
 {
     let is_read = is_target && is_assigned(level, &left);
     if !is_read {
@@ -143,11 +137,11 @@ fn behind_perhaps(
     level: u8,
     found: Found,
     scattering: Box<Scattering>,
-    begun: Box<VecDeque<Frame>>,
+    begun: Box<Begun>,
     left: Left,
 ) -> Result<State, AllocError>
     ensures { IfOk result (λ s. state_of s ≡ braces_read brackets level (by.whole (found_of found))
-        (by.perhaps_scatter (items_of scattering.value.items.items) scattering.value.nodes) (all_begun begun.value.items an_expression) (left_of left)) }
+        (by.perhaps_scatter (items_of scattering.value.items.items) scattering.value.nodes) (all_begun begun.value an_expression) (left_of left)) }
 {
     if is_assigned(level, &left) {
         return scattered(brackets, found.whole.line, scattering, begun, left);
@@ -161,11 +155,11 @@ fn behind_surely(
     level: u8,
     line: u64,
     scattering: Box<Scattering>,
-    begun: Box<VecDeque<Frame>>,
+    begun: Box<Begun>,
     left: Left,
 ) -> Result<State, AllocError>
     ensures { IfOk result (λ s. state_of s ≡ scattered_or_stuck (reads_expression brackets 0
-        (push (f.scattered_to line (items_of scattering.value.items.items) scattering.value.nodes) (all_begun begun.value.items an_expression)))
+        (push (f.scattered_to line (items_of scattering.value.items.items) scattering.value.nodes) (all_begun begun.value an_expression)))
         (is_any_level level) (left_of left)) }
 {
     if is_any_level(level) {
@@ -179,11 +173,11 @@ fn behind_value(
     brackets: bool,
     level: u8,
     operand: Operand,
-    begun: Box<VecDeque<Frame>>,
+    begun: Box<Begun>,
     left: Left,
 ) -> Result<State, AllocError>
     ensures { IfOk result (λ s. state_of s ≡ braces_read brackets level (operand_of operand) (operand_of operand).braces
-        (all_begun begun.value.items an_expression) (left_of left)) }
+        (all_begun begun.value an_expression) (left_of left)) }
 {
     let Operand { mut whole } = operand;
     let is_target = whole.is_target;
@@ -206,10 +200,10 @@ pub fn behind_operand(
     alloc: Global,
     frame: OperandFrame,
     operand: Operand,
-    begun: Box<VecDeque<Frame>>,
+    begun: Box<Begun>,
     left: Left,
 ) -> Result<State, AllocError>
-    ensures { IfOk result (λ s. state_of s ≡ found_by (operand_begun frame (all_begun begun.value.items)) (operand_of operand) (left_of left)) }
+    ensures { IfOk result (λ s. state_of s ≡ found_by (operand_begun frame (all_begun begun.value)) (operand_of operand) (left_of left)) }
 {
     match frame {
         OperandFrame::Steps { brackets } => {

@@ -20,16 +20,16 @@ use crate::leaving::{break_begins, continue_begins, perhaps_name};
 use moo_reader::statement::no_statements;
 use moo_token::token::{Keyword, Placed, Sign, Token};
 use moo_value::text::Text;
+use reader_frames::begun::Begun;
 use reader_frames::ends::codes_begin;
 use reader_frames::frame::{CodesFrame, ExpressionFrame, Frame, WithinExpression, WithinStatement};
 use reader_frames::left::Left;
 use reader_frames::state::{Next, Part, State, begin, past_sign, stuck};
 use std::alloc::{AllocError, Global};
-use std::collections::VecDeque;
 
 /// A branch: its condition in parentheses.
-pub fn branches_begin(begun: Box<VecDeque<Frame>>, left: Left) -> Result<State, AllocError>
-    ensures { IfOk result (λ s. state_of s ≡ meant.branches_begin (all_begun begun.value.items some_branches_read) (left_of left)) }
+pub fn branches_begin(begun: Box<Begun>, left: Left) -> Result<State, AllocError>
+    ensures { IfOk result (λ s. state_of s ≡ meant.branches_begin (all_begun begun.value some_branches_read) (left_of left)) }
 {
     let begun = begin(begun, Frame::Expression(ExpressionFrame::Condition))?;
     let within = WithinExpression::Head;
@@ -48,10 +48,10 @@ pub fn branches_begin(begun: Box<VecDeque<Frame>>, left: Left) -> Result<State, 
 fn arm_named(
     alloc: Global,
     variable: Option<Text>,
-    begun: Box<VecDeque<Frame>>,
+    begun: Box<Begun>,
     mut left: Left,
 ) -> Result<State, AllocError>
-    ensures { IfOk result (λ s. state_of s ≡ meant.arm_named variable (all_begun begun.value.items some_arms_read) (left_of left)) }
+    ensures { IfOk result (λ s. state_of s ≡ meant.arm_named variable (all_begun begun.value some_arms_read) (left_of left)) }
 {
     if !left.take_sign(Sign::OpenParenthesis) {
         return Ok(stuck(begun, left));
@@ -62,12 +62,8 @@ fn arm_named(
 
 /// A handler: the variable that gets the error, if any, and the codes in parentheses.
 #[tactic(auto, using(crate::proofs::Words::arm_by_name))]
-pub fn arms_begin(
-    alloc: Global,
-    begun: Box<VecDeque<Frame>>,
-    mut left: Left,
-) -> Result<State, AllocError>
-    ensures { IfOk result (λ s. state_of s ≡ meant.arms_begin (all_begun begun.value.items some_arms_read) (left_of left)) }
+pub fn arms_begin(alloc: Global, begun: Box<Begun>, mut left: Left) -> Result<State, AllocError>
+    ensures { IfOk result (λ s. state_of s ≡ meant.arms_begin (all_begun begun.value some_arms_read) (left_of left)) }
 {
     let variable = perhaps_name(alloc, &mut left)?;
     arm_named(alloc, variable, begun, left)
@@ -77,10 +73,10 @@ pub fn arms_begin(
 fn ends_before(
     alloc: Global,
     placed: Placed,
-    begun: Box<VecDeque<Frame>>,
+    begun: Box<Begun>,
     mut left: Left,
 ) -> Result<State, AllocError>
-    ensures { IfOk result (λ s. state_of s ≡ goes (found (all_begun begun.value.items a_block) by.no_statements) (place_meant (place_of placed) ∷ left_of left)) }
+    ensures { IfOk result (λ s. state_of s ≡ goes (found (all_begun begun.value a_block) by.no_statements) (place_meant (place_of placed) ∷ left_of left)) }
 {
     left.put_back(placed)?;
     let block = Box::new(alloc, no_statements(alloc))?;
@@ -89,12 +85,8 @@ fn ends_before(
 }
 
 // An expression, which begins with the next token.
-fn expression_begins(
-    placed: Placed,
-    begun: Box<VecDeque<Frame>>,
-    mut left: Left,
-) -> Result<State, AllocError>
-    ensures { IfOk result (λ s. state_of s ≡ meant.expression_statement (push f.block_behind (all_begun begun.value.items a_block)) placed.line
+fn expression_begins(placed: Placed, begun: Box<Begun>, mut left: Left) -> Result<State, AllocError>
+    ensures { IfOk result (λ s. state_of s ≡ meant.expression_statement (push f.block_behind (all_begun begun.value a_block)) placed.line
         (place_meant (place_of placed) ∷ left_of left)) }
 {
     let line = placed.line;
@@ -108,10 +100,10 @@ fn statement_by_keyword(
     alloc: Global,
     keyword: Keyword,
     line: u64,
-    begun: Box<VecDeque<Frame>>,
+    begun: Box<Begun>,
     left: Left,
 ) -> Result<State, AllocError>
-    ensures { IfOk result (λ s. state_of s ≡ meant.statement_by_keyword (all_begun begun.value.items a_block) (push f.block_behind (all_begun begun.value.items a_block))
+    ensures { IfOk result (λ s. state_of s ≡ meant.statement_by_keyword (all_begun begun.value a_block) (push f.block_behind (all_begun begun.value a_block))
         (keyword_meant keyword) line (left_of left) (record { token = t.keyword (keyword_meant keyword); line = line } ∷ left_of left)) }
 {
     match keyword {
@@ -134,10 +126,10 @@ fn statement_by_sign(
     alloc: Global,
     sign: Sign,
     line: u64,
-    begun: Box<VecDeque<Frame>>,
+    begun: Box<Begun>,
     left: Left,
 ) -> Result<State, AllocError>
-    ensures { IfOk result (λ s. state_of s ≡ meant.statement_by_sign (all_begun begun.value.items a_block) (push f.block_behind (all_begun begun.value.items a_block))
+    ensures { IfOk result (λ s. state_of s ≡ meant.statement_by_sign (all_begun begun.value a_block) (push f.block_behind (all_begun begun.value a_block))
         (sign_meant sign) line (left_of left) (record { token = t.sign (sign_meant sign); line = line } ∷ left_of left)) }
 {
     match sign {
@@ -164,10 +156,10 @@ fn statement_by_sign(
 fn statement_by(
     alloc: Global,
     placed: Placed,
-    begun: Box<VecDeque<Frame>>,
+    begun: Box<Begun>,
     left: Left,
 ) -> Result<State, AllocError>
-    ensures { IfOk result (λ s. state_of s ≡ meant.statement_by (all_begun begun.value.items a_block) (push f.block_behind (all_begun begun.value.items a_block))
+    ensures { IfOk result (λ s. state_of s ≡ meant.statement_by (all_begun begun.value a_block) (push f.block_behind (all_begun begun.value a_block))
         (token_meant (token_of placed.token)) placed.line (left_of left) (place_meant (place_of placed) ∷ left_of left)) }
 {
     let Placed { token, line } = placed;
@@ -180,12 +172,8 @@ fn statement_by(
 
 /// A statement and those behind it, or their end.
 #[tactic(auto, using(crate::proofs::Words::no_block))]
-pub fn block_begins(
-    alloc: Global,
-    begun: Box<VecDeque<Frame>>,
-    mut left: Left,
-) -> Result<State, AllocError>
-    ensures { IfOk result (λ s. state_of s ≡ meant.block_begins (all_begun begun.value.items a_block) (left_of left)) }
+pub fn block_begins(alloc: Global, begun: Box<Begun>, mut left: Left) -> Result<State, AllocError>
+    ensures { IfOk result (λ s. state_of s ≡ meant.block_begins (all_begun begun.value a_block) (left_of left)) }
 {
     match left.take() {
         Some(placed) => statement_by(alloc, placed, begun, left),

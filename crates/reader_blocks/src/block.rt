@@ -21,21 +21,21 @@ use moo_reader::statement::{
 };
 use moo_token::token::Keyword;
 use moo_value::text::Text;
+use reader_frames::begun::Begun;
 use reader_frames::frame::{ArmsFrame, BlockFrame, BranchesFrame, Frame};
 use reader_frames::left::Left;
 use reader_frames::state::{Next, Part, State, begin, past_keyword};
 use std::alloc::{AllocError, Global};
-use std::collections::VecDeque;
 
 // Behind the block of a branch, up to the end of the branches.
 fn last_branch(
     alloc: Global,
     condition: Found,
     block: Block,
-    begun: Box<VecDeque<Frame>>,
+    begun: Box<Begun>,
     left: Left,
 ) -> Result<State, AllocError>
-    ensures { IfOk result (λ s. state_of s ≡ past_keyword t.endif_word (found (all_begun begun.value.items some_branches_read)
+    ensures { IfOk result (λ s. state_of s ≡ past_keyword t.endif_word (found (all_begun begun.value some_branches_read)
         (by.with_branch (found_of condition) (block_found block) by.no_more_branches)) (left_of left)) }
 {
     let branches = with_branch(condition, block, no_more_branches(alloc))?;
@@ -48,10 +48,10 @@ fn branch_read(
     alloc: Global,
     condition: Found,
     block: Block,
-    begun: Box<VecDeque<Frame>>,
+    begun: Box<Begun>,
     mut left: Left,
 ) -> Result<State, AllocError>
-    ensures { IfOk result (λ s. state_of s ≡ branch_read (found_of condition) (all_begun begun.value.items some_branches_read) (block_found block)
+    ensures { IfOk result (λ s. state_of s ≡ branch_read (found_of condition) (all_begun begun.value some_branches_read) (block_found block)
         (left_of left)) }
 {
     if left.take_keyword(Keyword::ElseIf) {
@@ -79,10 +79,10 @@ fn arm_read(
     variable: Option<Text>,
     codes: Box<FoundCodes>,
     block: Block,
-    begun: Box<VecDeque<Frame>>,
+    begun: Box<Begun>,
     mut left: Left,
 ) -> Result<State, AllocError>
-    ensures { IfOk result (λ s. state_of s ≡ arm_read variable (codes_found codes.value) (all_begun begun.value.items some_arms_read) (block_found block)
+    ensures { IfOk result (λ s. state_of s ≡ arm_read variable (codes_found codes.value) (all_begun begun.value some_arms_read) (block_found block)
         (left_of left)) }
 {
     if left.take_keyword(Keyword::Except) {
@@ -108,10 +108,10 @@ fn tried_read(
     alloc: Global,
     line: u64,
     block: Block,
-    begun: Box<VecDeque<Frame>>,
+    begun: Box<Begun>,
     mut left: Left,
 ) -> Result<State, AllocError>
-    ensures { IfOk result (λ s. state_of s ≡ tried line (all_begun begun.value.items a_statement) (block_found block) (left_of left)) }
+    ensures { IfOk result (λ s. state_of s ≡ tried line (all_begun begun.value a_statement) (block_found block) (left_of left)) }
 {
     let tried = Box::new(alloc, block)?;
     if left.take_keyword(Keyword::Finally) {
@@ -129,10 +129,10 @@ pub fn behind_block(
     alloc: Global,
     frame: BlockFrame,
     block: Block,
-    begun: Box<VecDeque<Frame>>,
+    begun: Box<Begun>,
     left: Left,
 ) -> Result<State, AllocError>
-    ensures { IfOk result (λ s. state_of s ≡ found_by (block_begun frame (all_begun begun.value.items)) (block_found block) (left_of left)) }
+    ensures { IfOk result (λ s. state_of s ≡ found_by (block_begun frame (all_begun begun.value)) (block_found block) (left_of left)) }
 {
     match frame {
         BlockFrame::Behind(statement) => {

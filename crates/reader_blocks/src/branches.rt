@@ -9,21 +9,21 @@ ghost use Rattle.reader_frames.specs.StateView.{state_of};
 
 use moo_reader::block::{Arms, Branches};
 use moo_reader::statement::{branch_of, guarded_of, with_arm, with_branch};
-use reader_frames::frame::{ArmsFrame, BranchesFrame, Frame};
+use reader_frames::begun::Begun;
+use reader_frames::frame::{ArmsFrame, BranchesFrame};
 use reader_frames::left::Left;
 use reader_frames::state::{Next, Part, State};
 use std::alloc::{AllocError, Global};
-use std::collections::VecDeque;
 
 /// Behind branches.
 pub fn behind_branches(
     alloc: Global,
     frame: BranchesFrame,
     branches: Branches,
-    begun: Box<VecDeque<Frame>>,
+    begun: Box<Begun>,
     left: Left,
 ) -> Result<State, AllocError>
-    ensures { IfOk result (λ s. state_of s ≡ found_by (branches_begun frame (all_begun begun.value.items)) (branches_found branches) (left_of left)) }
+    ensures { IfOk result (λ s. state_of s ≡ found_by (branches_begun frame (all_begun begun.value)) (branches_found branches) (left_of left)) }
 {
     match frame {
         BranchesFrame::If { line } => {
@@ -44,10 +44,10 @@ pub fn behind_arms(
     alloc: Global,
     frame: ArmsFrame,
     arms: Arms,
-    begun: Box<VecDeque<Frame>>,
+    begun: Box<Begun>,
     left: Left,
 ) -> Result<State, AllocError>
-    ensures { IfOk result (λ s. state_of s ≡ found_by (arms_begun frame (all_begun begun.value.items)) (arms_found arms) (left_of left)) }
+    ensures { IfOk result (λ s. state_of s ≡ found_by (arms_begun frame (all_begun begun.value)) (arms_found arms) (left_of left)) }
 {
     match frame {
         ArmsFrame::Try { line, tried } => {

@@ -14,6 +14,7 @@ use moo_reader::statement::returned_zero;
 use moo_reader::text::lower_case;
 use moo_token::token::{Keyword, Sign};
 use moo_value::text::Text;
+use reader_frames::begun::Begun;
 use reader_frames::ends::head_begins;
 use reader_frames::frame::{
     BlockFrame, BranchesFrame, ExpressionFrame, Frame, Head, WithinStatement,
@@ -21,15 +22,14 @@ use reader_frames::frame::{
 use reader_frames::left::Left;
 use reader_frames::state::{Next, Part, State, begin, stuck};
 use std::alloc::{AllocError, Global};
-use std::collections::VecDeque;
 
 /// An expression that is a part of a statement.
 pub fn part_begins(
     within: WithinStatement,
-    begun: Box<VecDeque<Frame>>,
+    begun: Box<Begun>,
     left: Left,
 ) -> Result<State, AllocError>
-    ensures { IfOk result (λ s. state_of s ≡ goes (reads_expression false 0 (push (within_statement within) (all_begun begun.value.items a_statement)))
+    ensures { IfOk result (λ s. state_of s ≡ goes (reads_expression false 0 (push (within_statement within) (all_begun begun.value a_statement)))
         (left_of left)) }
 {
     let begun = begin(begun, Frame::Expression(ExpressionFrame::Statement(within)))?;
@@ -41,8 +41,8 @@ pub fn part_begins(
 }
 
 /// Behind `if`.
-pub fn if_begins(line: u64, begun: Box<VecDeque<Frame>>, left: Left) -> Result<State, AllocError>
-    ensures { IfOk result (λ s. state_of s ≡ goes (reads_branches (push (f.branches_of line) (all_begun begun.value.items a_statement))) (left_of left)) }
+pub fn if_begins(line: u64, begun: Box<Begun>, left: Left) -> Result<State, AllocError>
+    ensures { IfOk result (λ s. state_of s ≡ goes (reads_branches (push (f.branches_of line) (all_begun begun.value a_statement))) (left_of left)) }
 {
     let begun = begin(begun, Frame::Branches(BranchesFrame::If { line }))?;
     let next = Next::Branches;
@@ -54,10 +54,10 @@ fn for_in(
     alloc: Global,
     line: u64,
     variable: Text,
-    begun: Box<VecDeque<Frame>>,
+    begun: Box<Begun>,
     mut left: Left,
 ) -> Result<State, AllocError>
-    ensures { IfOk result (λ s. state_of s ≡ meant.for_in line variable (all_begun begun.value.items a_statement) (left_of left)) }
+    ensures { IfOk result (λ s. state_of s ≡ meant.for_in line variable (all_begun begun.value a_statement) (left_of left)) }
 {
     if left.take_sign(Sign::OpenBracket) {
         let within = WithinStatement::RangeFirst { line, variable };
@@ -71,10 +71,10 @@ fn for_named(
     alloc: Global,
     line: u64,
     variable: Text,
-    begun: Box<VecDeque<Frame>>,
+    begun: Box<Begun>,
     mut left: Left,
 ) -> Result<State, AllocError>
-    ensures { IfOk result (λ s. state_of s ≡ meant.for_named line variable (all_begun begun.value.items a_statement) (left_of left)) }
+    ensures { IfOk result (λ s. state_of s ≡ meant.for_named line variable (all_begun begun.value a_statement) (left_of left)) }
 {
     if !left.take_keyword(Keyword::In) {
         return Ok(stuck(begun, left));
@@ -86,10 +86,10 @@ fn for_named(
 pub fn for_begins(
     alloc: Global,
     line: u64,
-    begun: Box<VecDeque<Frame>>,
+    begun: Box<Begun>,
     mut left: Left,
 ) -> Result<State, AllocError>
-    ensures { IfOk result (λ s. state_of s ≡ meant.for_begins line (all_begun begun.value.items a_statement) (left_of left)) }
+    ensures { IfOk result (λ s. state_of s ≡ meant.for_begins line (all_begun begun.value a_statement) (left_of left)) }
 {
     let Some(word) = left.take_word()? else {
         return Ok(stuck(begun, left));
@@ -103,10 +103,10 @@ pub fn for_begins(
 pub fn while_begins(
     alloc: Global,
     line: u64,
-    begun: Box<VecDeque<Frame>>,
+    begun: Box<Begun>,
     mut left: Left,
 ) -> Result<State, AllocError>
-    ensures { IfOk result (λ s. state_of s ≡ meant.while_begins line (all_begun begun.value.items a_statement) (left_of left)) }
+    ensures { IfOk result (λ s. state_of s ≡ meant.while_begins line (all_begun begun.value a_statement) (left_of left)) }
 {
     let name = perhaps_name(alloc, &mut left)?;
     head_begins(alloc, line, Head::While(name), begun, left)
@@ -117,18 +117,18 @@ pub fn while_begins(
 pub fn fork_begins(
     alloc: Global,
     line: u64,
-    begun: Box<VecDeque<Frame>>,
+    begun: Box<Begun>,
     mut left: Left,
 ) -> Result<State, AllocError>
-    ensures { IfOk result (λ s. state_of s ≡ meant.fork_begins line (all_begun begun.value.items a_statement) (left_of left)) }
+    ensures { IfOk result (λ s. state_of s ≡ meant.fork_begins line (all_begun begun.value a_statement) (left_of left)) }
 {
     let name = perhaps_name(alloc, &mut left)?;
     head_begins(alloc, line, Head::Fork(name), begun, left)
 }
 
 /// Behind `try`.
-pub fn try_begins(line: u64, begun: Box<VecDeque<Frame>>, left: Left) -> Result<State, AllocError>
-    ensures { IfOk result (λ s. state_of s ≡ goes (reads_block (push (f.tried line) (all_begun begun.value.items a_statement))) (left_of left)) }
+pub fn try_begins(line: u64, begun: Box<Begun>, left: Left) -> Result<State, AllocError>
+    ensures { IfOk result (λ s. state_of s ≡ goes (reads_block (push (f.tried line) (all_begun begun.value a_statement))) (left_of left)) }
 {
     let begun = begin(begun, Frame::Block(BlockFrame::Tried { line }))?;
     let next = Next::Block;
@@ -139,10 +139,10 @@ pub fn try_begins(line: u64, begun: Box<VecDeque<Frame>>, left: Left) -> Result<
 pub fn return_begins(
     alloc: Global,
     line: u64,
-    begun: Box<VecDeque<Frame>>,
+    begun: Box<Begun>,
     mut left: Left,
 ) -> Result<State, AllocError>
-    ensures { IfOk result (λ s. state_of s ≡ meant.return_begins line (all_begun begun.value.items a_statement) (left_of left)) }
+    ensures { IfOk result (λ s. state_of s ≡ meant.return_begins line (all_begun begun.value a_statement) (left_of left)) }
 {
     if left.take_sign(Sign::Semicolon) {
         let statement = returned_zero(alloc, line)?;

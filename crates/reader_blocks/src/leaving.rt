@@ -19,12 +19,11 @@ use moo_reader::node::{Nodes, under};
 use moo_reader::text::lower_case;
 use moo_tree::statement::{Statement, StatementNode};
 use moo_value::text::Text;
+use reader_frames::begun::Begun;
 use reader_frames::ends::statement_ended;
-use reader_frames::frame::Frame;
 use reader_frames::left::Left;
 use reader_frames::state::State;
 use std::alloc::{AllocError, Global};
-use std::collections::VecDeque;
 
 /// Takes a word, if there is one: its text in lower case.
 pub fn perhaps_name(alloc: Global, left: &mut Left) -> Result<Option<Text>, AllocError>
@@ -65,10 +64,10 @@ fn stray(
 pub fn break_begins(
     alloc: Global,
     line: u64,
-    begun: Box<VecDeque<Frame>>,
+    begun: Box<Begun>,
     mut left: Left,
 ) -> Result<State, AllocError>
-    ensures { IfOk result (λ s. state_of s ≡ leaving_begins tree.leave_loop line (all_begun begun.value.items a_statement) (left_of left)) }
+    ensures { IfOk result (λ s. state_of s ≡ leaving_begins tree.leave_loop line (all_begun begun.value a_statement) (left_of left)) }
 {
     let name = perhaps_name(alloc, &mut left)?;
     let copy = copied(&name)?;
@@ -81,10 +80,10 @@ pub fn break_begins(
 pub fn continue_begins(
     alloc: Global,
     line: u64,
-    begun: Box<VecDeque<Frame>>,
+    begun: Box<Begun>,
     mut left: Left,
 ) -> Result<State, AllocError>
-    ensures { IfOk result (λ s. state_of s ≡ leaving_begins tree.next_turn line (all_begun begun.value.items a_statement) (left_of left)) }
+    ensures { IfOk result (λ s. state_of s ≡ leaving_begins tree.next_turn line (all_begun begun.value a_statement) (left_of left)) }
 {
     let name = perhaps_name(alloc, &mut left)?;
     let copy = copied(&name)?;

@@ -15,12 +15,12 @@ use moo_reader::found::Found;
 use moo_reader::statement::{evaluated, returned};
 use moo_token::token::Sign;
 use moo_value::text::Text;
+use reader_frames::begun::Begun;
 use reader_frames::ends::{body_begins, statement_ended};
 use reader_frames::frame::{BlockFrame, Body, ExpressionFrame, Frame, Head, WithinStatement};
 use reader_frames::left::Left;
 use reader_frames::state::{Next, State, begin, past_sign, stuck};
 use std::alloc::{AllocError, Global};
-use std::collections::VecDeque;
 
 // The loop or fork behind its head.
 fn body_of(head: Head, found: Found) -> Body
@@ -39,10 +39,10 @@ fn range_first(
     line: u64,
     variable: Text,
     first: Found,
-    begun: Box<VecDeque<Frame>>,
+    begun: Box<Begun>,
     left: Left,
 ) -> Result<State, AllocError>
-    ensures { IfOk result (λ s. state_of s ≡ behind (f.range_first line variable) (all_begun begun.value.items a_statement) (found_of first) (left_of left)) }
+    ensures { IfOk result (λ s. state_of s ≡ behind (f.range_first line variable) (all_begun begun.value a_statement) (found_of first) (left_of left)) }
 {
     let variable = Box::new(alloc, variable)?;
     let within = WithinStatement::RangeLast {
@@ -65,10 +65,10 @@ fn range_last(
     variable: Text,
     first: Found,
     last: Found,
-    begun: Box<VecDeque<Frame>>,
+    begun: Box<Begun>,
     mut left: Left,
 ) -> Result<State, AllocError>
-    ensures { IfOk result (λ s. state_of s ≡ behind (f.range_last line variable (found_of first)) (all_begun begun.value.items a_statement) (found_of last)
+    ensures { IfOk result (λ s. state_of s ≡ behind (f.range_last line variable (found_of first)) (all_begun begun.value a_statement) (found_of last)
         (left_of left)) }
 {
     if !left.take_sign(Sign::CloseBracket) {
@@ -82,10 +82,10 @@ pub fn behind_within_statement(
     alloc: Global,
     within: WithinStatement,
     found: Found,
-    begun: Box<VecDeque<Frame>>,
+    begun: Box<Begun>,
     left: Left,
 ) -> Result<State, AllocError>
-    ensures { IfOk result (λ s. state_of s ≡ behind (within_statement within) (all_begun begun.value.items a_statement) (found_of found) (left_of left)) }
+    ensures { IfOk result (λ s. state_of s ≡ behind (within_statement within) (all_begun begun.value a_statement) (found_of found) (left_of left)) }
 {
     match within {
         WithinStatement::Evaluated { line } => {
@@ -117,10 +117,10 @@ pub fn behind_within_statement(
 /// Behind the condition of a branch.
 pub fn behind_condition(
     condition: Found,
-    begun: Box<VecDeque<Frame>>,
+    begun: Box<Begun>,
     left: Left,
 ) -> Result<State, AllocError>
-    ensures { IfOk result (λ s. state_of s ≡ behind f.condition (all_begun begun.value.items some_branches_read) (found_of condition) (left_of left)) }
+    ensures { IfOk result (λ s. state_of s ≡ behind f.condition (all_begun begun.value some_branches_read) (found_of condition) (left_of left)) }
 {
     let begun = begin(begun, Frame::Block(BlockFrame::Branch { condition }))?;
     let next = Next::Block;
@@ -130,10 +130,10 @@ pub fn behind_condition(
 /// Behind a statement: those behind it.
 pub fn behind_statement(
     statement: Box<FoundStatement>,
-    begun: Box<VecDeque<Frame>>,
+    begun: Box<Begun>,
     left: Left,
 ) -> Result<State, AllocError>
-    ensures { IfOk result (λ s. state_of s ≡ behind f.block_behind (all_begun begun.value.items a_block) (statement_found statement.value)
+    ensures { IfOk result (λ s. state_of s ≡ behind f.block_behind (all_begun begun.value a_block) (statement_found statement.value)
         (left_of left)) }
 {
     let begun = begin(begun, Frame::Block(BlockFrame::Behind(statement)))?;

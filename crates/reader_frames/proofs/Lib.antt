@@ -1,1 +1,3 @@
 pub mod Seconds
+pub mod Kept
+pub mod Newest

@@ -37,4 +37,4 @@ next_of next.Arms gs = meant.reads_arms (all_begun gs some_arms_read)
 next_of next.Sticks gs = meant.sticks
 
 abbrev pub state_of : State → meant.State
-state_of s = record { next = next_of s.next s.begun.value.items; left = left_of s.left }
+state_of s = record { next = next_of s.next s.begun.value; left = left_of s.left }

@@ -11,6 +11,7 @@ ghost use Rattle.reader_frames.specs.LeftView.{left_of};
 ghost use Rattle.reader_frames.specs.FrameViews.{all_begun, head_of, body_of};
 ghost use Rattle.reader_frames.specs.StateView.{state_of};
 
+use crate::begun::Begun;
 use crate::frame::{
     ArgumentsFrame, BlockFrame, Body, ExpressionFrame, Frame, Head, ItemsFrame, WithinExpression,
     WithinStatement,
@@ -25,17 +26,16 @@ use moo_reader::node::Nodes;
 use moo_token::token::{Keyword, Sign};
 use moo_tree::expression::Codes;
 use std::alloc::{AllocError, Global};
-use std::collections::VecDeque;
 
 /// Arguments up to this sign.
 pub fn arguments_to(
     alloc: Global,
     sign: Sign,
     brackets: bool,
-    begun: Box<VecDeque<Frame>>,
+    begun: Box<Begun>,
     mut left: Left,
 ) -> Result<State, AllocError>
-    ensures { IfOk result (λ s. state_of s ≡ by.arguments_to (sign_meant sign) brackets (all_begun begun.value.items some_arguments_read) (left_of left)) }
+    ensures { IfOk result (λ s. state_of s ≡ by.arguments_to (sign_meant sign) brackets (all_begun begun.value some_arguments_read) (left_of left)) }
 {
     if left.take_sign(sign) {
         let arguments = Box::new(alloc, no_arguments(alloc))?;
@@ -53,10 +53,10 @@ pub fn items_on(
     brackets: bool,
     allowed: Allowed,
     item: BracedItem,
-    begun: Box<VecDeque<Frame>>,
+    begun: Box<Begun>,
     mut left: Left,
 ) -> Result<State, AllocError>
-    ensures { IfOk result (λ s. state_of s ≡ by.items_on brackets (allowed_of allowed) (item_of item) (all_begun begun.value.items some_items_read)
+    ensures { IfOk result (λ s. state_of s ≡ by.items_on brackets (allowed_of allowed) (item_of item) (all_begun begun.value some_items_read)
         (left_of left)) }
 {
     if left.take_sign(Sign::Comma) {
@@ -73,10 +73,10 @@ pub fn items_on(
 pub fn codes_begin(
     alloc: Global,
     brackets: bool,
-    begun: Box<VecDeque<Frame>>,
+    begun: Box<Begun>,
     mut left: Left,
 ) -> Result<State, AllocError>
-    ensures { IfOk result (λ s. state_of s ≡ by.codes_begin brackets (all_begun begun.value.items some_codes_read) (left_of left)) }
+    ensures { IfOk result (λ s. state_of s ≡ by.codes_begin brackets (all_begun begun.value some_codes_read) (left_of left)) }
 {
     if left.take_keyword(Keyword::Any) {
         let codes = FoundCodes {
@@ -95,10 +95,10 @@ pub fn codes_begin(
 pub fn statement_ended(
     alloc: Global,
     statement: FoundStatement,
-    begun: Box<VecDeque<Frame>>,
+    begun: Box<Begun>,
     left: Left,
 ) -> Result<State, AllocError>
-    ensures { IfOk result (λ s. state_of s ≡ by.statement_ended (statement_found statement) (all_begun begun.value.items a_statement) (left_of left)) }
+    ensures { IfOk result (λ s. state_of s ≡ by.statement_ended (statement_found statement) (all_begun begun.value a_statement) (left_of left)) }
 {
     let next = Next::Found(Part::Statement(Box::new(alloc, statement)?));
     Ok(past_sign(Sign::Semicolon, next, begun, left))
@@ -109,10 +109,10 @@ pub fn head_begins(
     alloc: Global,
     line: u64,
     head: Head,
-    begun: Box<VecDeque<Frame>>,
+    begun: Box<Begun>,
     left: Left,
 ) -> Result<State, AllocError>
-    ensures { IfOk result (λ s. state_of s ≡ by.head_begins line (head_of head) (all_begun begun.value.items a_statement) (left_of left)) }
+    ensures { IfOk result (λ s. state_of s ≡ by.head_begins line (head_of head) (all_begun begun.value a_statement) (left_of left)) }
 {
     let head = Box::new(alloc, head)?;
     let within = WithinStatement::HeadOf { line, head };
@@ -145,10 +145,10 @@ pub fn body_begins(
     alloc: Global,
     line: u64,
     body: Body,
-    begun: Box<VecDeque<Frame>>,
+    begun: Box<Begun>,
     left: Left,
 ) -> Result<State, AllocError>
-    ensures { IfOk result (λ s. state_of s ≡ goes (by.body_begins line (body_of body) (all_begun begun.value.items a_statement)) (left_of left)) }
+    ensures { IfOk result (λ s. state_of s ≡ goes (by.body_begins line (body_of body) (all_begun begun.value a_statement)) (left_of left)) }
 {
     let end = end_word(&body);
     let body = Box::new(alloc, body)?;

@@ -7,13 +7,13 @@ ghost use Rattle.moo_token.specs.Meaning.{sign_meant, keyword_meant};
 ghost use Rattle.reader_frames.specs.LeftView.{left_of};
 ghost use Rattle.reader_frames.specs.StateView.{next_of, state_of};
 
+use crate::begun::Begun;
 use crate::frame::Frame;
 use crate::left::Left;
 use moo_reader::block::{Arms, Block, Branches, FoundStatement};
 use moo_reader::found::{Allowed, Arguments, Found, FoundCodes, Items, Operand};
 use moo_token::token::{Keyword, Sign};
 use std::alloc::AllocError;
-use std::collections::VecDeque;
 
 /// What was found.
 #[derive(Drop)]
@@ -66,26 +66,22 @@ pub enum Next {
 /// What was begun, the newest first, what is read next within it, and the tokens from there on.
 #[derive(Drop)]
 pub struct State {
-    pub begun: Box<VecDeque<Frame>>,
+    pub begun: Box<Begun>,
     pub next: Next,
     pub left: Left,
 }
 
 /// Something more that was begun.
 #[inline(always)]
-pub fn begin(
-    mut begun: Box<VecDeque<Frame>>,
-    frame: Frame,
-) -> Result<Box<VecDeque<Frame>>, AllocError>
-    ensures { IfOk result (λ g. g.value.items ≡ frame ∷ begun.value.items) }
+pub fn begin(mut begun: Box<Begun>, frame: Frame) -> Result<Box<Begun>, AllocError>
+    ensures { IfOk result (λ g. g.value ≡ frame ∷ begun.value) }
 {
-    begun.reserve(1)?;
-    begun.push_front_reserved(frame);
+    begun.push(frame)?;
     Ok(begun)
 }
 
 /// No program goes on with the next token.
-pub fn stuck(begun: Box<VecDeque<Frame>>, left: Left) -> State
+pub fn stuck(begun: Box<Begun>, left: Left) -> State
     ensures { state_of result ≡ stops (left_of left) }
 {
     State {
@@ -107,8 +103,8 @@ fn discard(next: Next) {
 }
 
 /// What is next behind a sign that has to be there.
-pub fn past_sign(sign: Sign, next: Next, begun: Box<VecDeque<Frame>>, mut left: Left) -> State
-    ensures { state_of result ≡ by.past_sign (sign_meant sign) (next_of next begun.value.items) (left_of left) }
+pub fn past_sign(sign: Sign, next: Next, begun: Box<Begun>, mut left: Left) -> State
+    ensures { state_of result ≡ by.past_sign (sign_meant sign) (next_of next begun.value) (left_of left) }
 {
     if left.take_sign(sign) {
         State { next, begun, left }
@@ -119,13 +115,8 @@ pub fn past_sign(sign: Sign, next: Next, begun: Box<VecDeque<Frame>>, mut left: 
 }
 
 /// What is next behind a word that has to be there.
-pub fn past_keyword(
-    keyword: Keyword,
-    next: Next,
-    begun: Box<VecDeque<Frame>>,
-    mut left: Left,
-) -> State
-    ensures { state_of result ≡ by.past_keyword (keyword_meant keyword) (next_of next begun.value.items) (left_of left) }
+pub fn past_keyword(keyword: Keyword, next: Next, begun: Box<Begun>, mut left: Left) -> State
+    ensures { state_of result ≡ by.past_keyword (keyword_meant keyword) (next_of next begun.value) (left_of left) }
 {
     if left.take_keyword(keyword) {
         State { next, begun, left }

@@ -9,7 +9,6 @@ ghost use Rattle.moo_reader.specs.Views.{arguments_found, codes_found, found_of,
 ghost use Rattle.reader_frames.specs.FrameViews.{all_begun, expression_begun};
 ghost use Rattle.reader_frames.specs.LeftView.{left_of};
 ghost use Rattle.reader_frames.specs.StateView.{part_found, state_of};
-ghost use Rattle.reader_step.specs.Pops.{Pops};
 
 use moo_reader::block::{Arms, Block, Branches, FoundStatement};
 use moo_reader::found::{Arguments, Found, FoundCodes, Items, Operand};
@@ -22,18 +21,11 @@ use reader_behind::value::behind_operand;
 use reader_blocks::block::behind_block;
 use reader_blocks::branches::{behind_arms, behind_branches};
 use reader_blocks::statement::{behind_condition, behind_statement, behind_within_statement};
+use reader_frames::begun::Begun;
 use reader_frames::frame::{ExpressionFrame, Frame};
 use reader_frames::left::Left;
 use reader_frames::state::{Next, Part, State};
 use std::alloc::{AllocError, Global};
-use std::collections::VecDeque;
-
-// Takes what was begun last.
-fn pop(begun: &mut VecDeque<Frame>) -> Option<Frame>
-    ensures { Pops begun.old.items result begun.new.items }
-{
-    begun.pop_front()
-}
 
 // Behind an expression, by what was begun last.
 #[inline(always)]
@@ -41,10 +33,10 @@ fn behind_expression(
     alloc: Global,
     frame: ExpressionFrame,
     found: Found,
-    begun: Box<VecDeque<Frame>>,
+    begun: Box<Begun>,
     left: Left,
 ) -> Result<State, AllocError>
-    ensures { IfOk result (λ s. state_of s ≡ found_by (expression_begun frame (all_begun begun.value.items)) (found_of found) (left_of left)) }
+    ensures { IfOk result (λ s. state_of s ≡ found_by (expression_begun frame (all_begun begun.value)) (found_of found) (left_of left)) }
 {
     match frame {
         ExpressionFrame::Expression(within) => {
@@ -68,12 +60,12 @@ fn behind_expression(
 fn found_expression(
     alloc: Global,
     found: Found,
-    mut begun: Box<VecDeque<Frame>>,
+    mut begun: Box<Begun>,
     left: Left,
 ) -> Result<State, AllocError>
-    ensures { IfOk result (λ s. state_of s ≡ found_by (all_begun begun.value.items an_expression) (found_of found) (left_of left)) }
+    ensures { IfOk result (λ s. state_of s ≡ found_by (all_begun begun.value an_expression) (found_of found) (left_of left)) }
 {
-    let Some(Frame::Expression(frame)) = pop(&mut begun) else {
+    let Some(Frame::Expression(frame)) = begun.pop() else {
         return Err(AllocError);
     };
     behind_expression(alloc, frame, found, begun, left)
@@ -83,12 +75,12 @@ fn found_expression(
 fn found_operand(
     alloc: Global,
     operand: Operand,
-    mut begun: Box<VecDeque<Frame>>,
+    mut begun: Box<Begun>,
     left: Left,
 ) -> Result<State, AllocError>
-    ensures { IfOk result (λ s. state_of s ≡ found_by (all_begun begun.value.items an_operand) (operand_of operand) (left_of left)) }
+    ensures { IfOk result (λ s. state_of s ≡ found_by (all_begun begun.value an_operand) (operand_of operand) (left_of left)) }
 {
-    let Some(Frame::Operand(frame)) = pop(&mut begun) else {
+    let Some(Frame::Operand(frame)) = begun.pop() else {
         return Err(AllocError);
     };
     behind_operand(alloc, frame, operand, begun, left)
@@ -97,12 +89,12 @@ fn found_operand(
 fn found_arguments(
     alloc: Global,
     arguments: Arguments,
-    mut begun: Box<VecDeque<Frame>>,
+    mut begun: Box<Begun>,
     left: Left,
 ) -> Result<State, AllocError>
-    ensures { IfOk result (λ s. state_of s ≡ found_by (all_begun begun.value.items some_arguments_read) (arguments_found arguments) (left_of left)) }
+    ensures { IfOk result (λ s. state_of s ≡ found_by (all_begun begun.value some_arguments_read) (arguments_found arguments) (left_of left)) }
 {
-    let Some(Frame::Arguments(frame)) = pop(&mut begun) else {
+    let Some(Frame::Arguments(frame)) = begun.pop() else {
         return Err(AllocError);
     };
     behind_arguments(alloc, frame, arguments, begun, left)
@@ -111,12 +103,12 @@ fn found_arguments(
 fn found_items(
     alloc: Global,
     items: Items,
-    mut begun: Box<VecDeque<Frame>>,
+    mut begun: Box<Begun>,
     left: Left,
 ) -> Result<State, AllocError>
-    ensures { IfOk result (λ s. state_of s ≡ found_by (all_begun begun.value.items some_items_read) (items_found items) (left_of left)) }
+    ensures { IfOk result (λ s. state_of s ≡ found_by (all_begun begun.value some_items_read) (items_found items) (left_of left)) }
 {
-    let Some(Frame::Items(frame)) = pop(&mut begun) else {
+    let Some(Frame::Items(frame)) = begun.pop() else {
         return Err(AllocError);
     };
     behind_items(alloc, frame, items, begun, left)
@@ -125,12 +117,12 @@ fn found_items(
 fn found_codes(
     alloc: Global,
     codes: FoundCodes,
-    mut begun: Box<VecDeque<Frame>>,
+    mut begun: Box<Begun>,
     left: Left,
 ) -> Result<State, AllocError>
-    ensures { IfOk result (λ s. state_of s ≡ found_by (all_begun begun.value.items some_codes_read) (codes_found codes) (left_of left)) }
+    ensures { IfOk result (λ s. state_of s ≡ found_by (all_begun begun.value some_codes_read) (codes_found codes) (left_of left)) }
 {
-    let Some(Frame::Codes(frame)) = pop(&mut begun) else {
+    let Some(Frame::Codes(frame)) = begun.pop() else {
         return Err(AllocError);
     };
     behind_codes(alloc, frame, codes, begun, left)
@@ -139,12 +131,12 @@ fn found_codes(
 fn found_branches(
     alloc: Global,
     branches: Branches,
-    mut begun: Box<VecDeque<Frame>>,
+    mut begun: Box<Begun>,
     left: Left,
 ) -> Result<State, AllocError>
-    ensures { IfOk result (λ s. state_of s ≡ found_by (all_begun begun.value.items some_branches_read) (branches_found branches) (left_of left)) }
+    ensures { IfOk result (λ s. state_of s ≡ found_by (all_begun begun.value some_branches_read) (branches_found branches) (left_of left)) }
 {
-    let Some(Frame::Branches(frame)) = pop(&mut begun) else {
+    let Some(Frame::Branches(frame)) = begun.pop() else {
         return Err(AllocError);
     };
     behind_branches(alloc, frame, branches, begun, left)
@@ -153,12 +145,12 @@ fn found_branches(
 fn found_arms(
     alloc: Global,
     arms: Arms,
-    mut begun: Box<VecDeque<Frame>>,
+    mut begun: Box<Begun>,
     left: Left,
 ) -> Result<State, AllocError>
-    ensures { IfOk result (λ s. state_of s ≡ found_by (all_begun begun.value.items some_arms_read) (arms_found arms) (left_of left)) }
+    ensures { IfOk result (λ s. state_of s ≡ found_by (all_begun begun.value some_arms_read) (arms_found arms) (left_of left)) }
 {
-    let Some(Frame::Arms(frame)) = pop(&mut begun) else {
+    let Some(Frame::Arms(frame)) = begun.pop() else {
         return Err(AllocError);
     };
     behind_arms(alloc, frame, arms, begun, left)
@@ -166,12 +158,12 @@ fn found_arms(
 
 fn found_statement(
     statement: Box<FoundStatement>,
-    mut begun: Box<VecDeque<Frame>>,
+    mut begun: Box<Begun>,
     left: Left,
 ) -> Result<State, AllocError>
-    ensures { IfOk result (λ s. state_of s ≡ found_by (all_begun begun.value.items a_statement) (statement_found statement.value) (left_of left)) }
+    ensures { IfOk result (λ s. state_of s ≡ found_by (all_begun begun.value a_statement) (statement_found statement.value) (left_of left)) }
 {
-    let Some(Frame::Statement) = pop(&mut begun) else {
+    let Some(Frame::Statement) = begun.pop() else {
         return Err(AllocError);
     };
     behind_statement(statement, begun, left)
@@ -181,12 +173,12 @@ fn found_statement(
 fn found_block(
     alloc: Global,
     block: Box<Block>,
-    mut begun: Box<VecDeque<Frame>>,
+    mut begun: Box<Begun>,
     left: Left,
 ) -> Result<State, AllocError>
-    ensures { IfOk result (λ s. state_of s ≡ found_by (all_begun begun.value.items a_block) (block_found block.value) (left_of left)) }
+    ensures { IfOk result (λ s. state_of s ≡ found_by (all_begun begun.value a_block) (block_found block.value) (left_of left)) }
 {
-    match pop(&mut begun) {
+    match begun.pop() {
         None => {
             let next = Next::Found(Part::Block(block));
             Ok(State { next, begun, left })
@@ -207,10 +199,10 @@ fn found_block(
 pub fn behind_found(
     alloc: Global,
     part: Part,
-    begun: Box<VecDeque<Frame>>,
+    begun: Box<Begun>,
     left: Left,
 ) -> Result<State, AllocError>
-    ensures { IfOk result (λ s. state_of s ≡ step_of (part_found part begun.value.items) (left_of left)) }
+    ensures { IfOk result (λ s. state_of s ≡ step_of (part_found part begun.value) (left_of left)) }
 {
     match part {
         Part::Expression(found) => found_expression(alloc, found, begun, left),

@@ -15,21 +15,21 @@ use reader_begins::operand::operand_begins;
 use reader_begins::operators::operators_begin;
 use reader_begins::steps::steps_begin;
 use reader_blocks::begin::{arms_begin, block_begins, branches_begin};
+use reader_frames::begun::Begun;
 use reader_frames::frame::{Frame, OperandFrame};
 use reader_frames::left::Left;
 use reader_frames::state::{BeforeOperators, BeforeSteps, Next, State, begin, stuck};
 use std::alloc::{AllocError, Global};
-use std::collections::VecDeque;
 
 // An expression begins with an operand.
 fn expression_begins(
     alloc: Global,
     brackets: bool,
     level: u8,
-    begun: Box<VecDeque<Frame>>,
+    begun: Box<Begun>,
     left: Left,
 ) -> Result<State, AllocError>
-    ensures { IfOk result (λ s. state_of s ≡ operand_begins brackets level (push (f.value_behind brackets level) (all_begun begun.value.items an_expression))
+    ensures { IfOk result (λ s. state_of s ≡ operand_begins brackets level (push (f.value_behind brackets level) (all_begun begun.value an_expression))
         (left_of left)) }
 {
     let begun = begin(

@@ -18,7 +18,8 @@ use Rattle.reader_frames.specs.declared.state.Next.TheVariants as next
 use Rattle.reader_frames.specs.FrameViews.{Others, block_begun, all_begun}
 use Rattle.reader_frames.specs.StateView.{next_of}
 use Rattle.moo_syntax.specs.Answer.{got_or_stuck}
-use Rattle.moo_syntax.specs.Ends.{begins_block, block_in, over_by}
+use Rattle.reader_frames.specs.BegunView.{begins_block}
+use Rattle.moo_syntax.specs.Ends.{block_in, over_by}
 
 begun_block : (g : BlockFrame) (gs : Others) → is_whole (block_begun g gs) ≡ false
 begun_block (behind_block.Behind s) gs = refl

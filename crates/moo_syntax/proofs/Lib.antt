@@ -4,3 +4,5 @@ pub mod EndsTell
 pub mod Going
 pub mod Trimmed
 pub mod Answered
+pub mod TermNodes
+pub mod TermsJoined

@@ -16,14 +16,14 @@ ghost use Rattle.spec_program.specs.Frames.{a_block};
 ghost use Rattle.syntax_fault.specs.Meaning.{kind_meant, IsFault};
 ghost use Rattle.moo_syntax.specs.Answer.{IsAnswer, is_end, got_or_stuck};
 ghost use Rattle.moo_syntax.specs.Given.{next_line, block_if};
-ghost use Rattle.moo_syntax.specs.Ends.{begins_block, part_block, block_in, over_by};
+ghost use Rattle.moo_syntax.specs.Ends.{part_block, block_in, over_by};
 
 use crate::answer::tested;
 use moo_reader::block::Block;
 use moo_token::fault::{FaultKind as TokenFaultKind, TokenFault};
 use moo_token::token::Placed;
 use moo_tree::statement::Tree;
-use reader_frames::frame::Frame;
+use reader_frames::begun::Begun;
 use reader_frames::left::Left;
 use reader_frames::state::{Next, Part, State};
 use std::collections::VecDeque;
@@ -85,18 +85,12 @@ fn is_at_end(left: &Left) -> bool
     left.rest.tokens.is_empty() && left.rest.fault.is_none()
 }
 
-fn begins_block(begun: &Box<VecDeque<Frame>>) -> bool
-    ensures { result ≡ begins_block begun.now.value.items }
-{
-    matches!(begun.front(), Some(Frame::Block(_)))
-}
-
 // Whether a block that is found is the whole text.
 #[tactic(auto, using(crate::proofs::EndsTell::whole_by_frame))]
-fn is_whole(begun: &Box<VecDeque<Frame>>) -> bool
-    ensures { result ≡ is_whole (all_begun begun.now.value.items a_block) }
+fn is_whole(begun: &Box<Begun>) -> bool
+    ensures { result ≡ is_whole (all_begun begun.now.value a_block) }
 {
-    !begins_block(begun)
+    !begun.begins_block()
 }
 
 fn over_by(next: &Next, whole: bool) -> bool
@@ -112,7 +106,7 @@ fn over_by(next: &Next, whole: bool) -> bool
 /// Whether the reader has come to its end: it found the whole text, or no program goes on.
 #[tactic(auto, using(crate::proofs::EndsTell::over_is))]
 pub fn is_over(state: &State) -> bool
-    ensures { result ≡ is_over (next_of state.now.next state.now.begun.value.items) }
+    ensures { result ≡ is_over (next_of state.now.next state.now.begun.value) }
 {
     over_by(&state.next, is_whole(&state.begun))
 }
@@ -153,8 +147,8 @@ fn block_in(next: Next) -> Option<Block>
 
 // The block of the whole text, if that was found.
 #[tactic(auto, using(crate::proofs::EndsTell::text_whole, crate::proofs::EndsTell::text_not_whole))]
-fn whole_block(next: Next, begun: &Box<VecDeque<Frame>>) -> Option<Block>
-    ensures { (ts : List Meant) → come_out (next_of next begun.now.value.items) ts ≡ got_or_stuck (block_if result) ts }
+fn whole_block(next: Next, begun: &Box<Begun>) -> Option<Block>
+    ensures { (ts : List Meant) → come_out (next_of next begun.now.value) ts ≡ got_or_stuck (block_if result) ts }
 {
     if is_whole(begun) {
         block_in(next)

@@ -5,4 +5,5 @@ pub mod answer;
 pub mod ending;
 pub mod parse;
 pub mod reading;
+pub mod terms;
 pub mod trim;

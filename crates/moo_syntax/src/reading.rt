@@ -3,17 +3,17 @@
 ghost use Rattle.std.specs.Prelude.{◌≡◌, IfOk};
 ghost use Rattle.spec_program.specs.ReadPrograms.{parsed_tokens};
 ghost use Rattle.spec_reader.specs.Whole.{start, outcome};
-ghost use Rattle.spec_reader.specs.Step as meant;
 ghost use Rattle.reader_frames.specs.StateView.{state_of};
 ghost use Rattle.moo_syntax.specs.Given.{given};
-ghost use Rattle.moo_syntax.specs.StandsFor.{StandsFor};
+ghost use Rattle.moo_syntax.specs.Advances.{Advances};
 
 use crate::ending::is_over;
+use crate::terms::onward;
 use crate::trim::{is_long, trimmed};
 use moo_token::tokens::Tokens;
+use reader_frames::begun::Begun;
 use reader_frames::left::{Left, Rest};
 use reader_frames::state::{Next, State};
-use reader_step::step::step;
 use std::alloc::{AllocError, Global};
 use std::collections::VecDeque;
 
@@ -27,7 +27,7 @@ fn start(alloc: Global, tokens: Tokens) -> Result<State, AllocError>
         fault,
     };
     let rest = Box::new(alloc, rest)?;
-    let begun = Box::new(alloc, VecDeque::new(alloc))?;
+    let begun = Box::new(alloc, Begun::none(alloc))?;
     Ok(State {
         next: Next::Block,
         begun,
@@ -35,13 +35,13 @@ fn start(alloc: Global, tokens: Tokens) -> Result<State, AllocError>
     })
 }
 
-// One step on, with another state in the place of one that has many nodes.
-#[tactic(auto, using(crate::proofs::Going::step_stands, crate::proofs::Going::another_stands))]
+// One step on or several, with another state in the place of one that has many nodes.
+#[tactic(auto, using(crate::proofs::Going::another_advances))]
 #[inline(always)]
 fn stepped(alloc: Global, state: State) -> Result<State, AllocError>
-    ensures { IfOk result (λ s. StandsFor (meant.step (state_of state)) (state_of s)) }
+    ensures { IfOk result (λ s. Advances (state_of state) (state_of s)) }
 {
-    let next = step(alloc, state)?;
+    let next = onward(alloc, state)?;
     if !is_long(&next.next) {
         return Ok(next);
     }

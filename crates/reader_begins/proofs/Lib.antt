@@ -1,2 +1,3 @@
 pub mod TakenJoints
 pub mod Ends
+pub mod TermsRead

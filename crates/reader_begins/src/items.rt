@@ -16,20 +16,20 @@ use moo_reader::found::{Allowed, BracedItem};
 use moo_token::token::Sign;
 use moo_value::text::Text;
 use reader_frames::allowed::{rest_allowed, scatter_alone, with_rest};
+use reader_frames::begun::Begun;
 use reader_frames::ends::items_on;
-use reader_frames::frame::{ExpressionFrame, Frame, WithinItems};
+use reader_frames::frame::{ExpressionFrame, WithinItems};
 use reader_frames::left::{Left, Word};
 use reader_frames::state::{State, stuck};
 use std::alloc::{AllocError, Global};
-use std::collections::VecDeque;
 
 /// An argument.
 pub fn arguments_begin(
     brackets: bool,
-    begun: Box<VecDeque<Frame>>,
+    begun: Box<Begun>,
     mut left: Left,
 ) -> Result<State, AllocError>
-    ensures { IfOk result (λ s. state_of s ≡ meant.arguments_begin brackets (all_begun begun.value.items some_arguments_read) (left_of left)) }
+    ensures { IfOk result (λ s. state_of s ≡ meant.arguments_begin brackets (all_begun begun.value some_arguments_read) (left_of left)) }
 {
     if left.take_sign(Sign::At) {
         let spliced = true;
@@ -42,14 +42,15 @@ pub fn arguments_begin(
 }
 
 // An item that is an expression, spliced or not.
+#[inline(always)]
 fn expression_item(
     brackets: bool,
     allowed: Allowed,
     spliced: bool,
-    begun: Box<VecDeque<Frame>>,
+    begun: Box<Begun>,
     left: Left,
 ) -> Result<State, AllocError>
-    ensures { IfOk result (λ s. state_of s ≡ meant.expression_item brackets (allowed_of allowed) spliced (all_begun begun.value.items some_items_read)
+    ensures { IfOk result (λ s. state_of s ≡ meant.expression_item brackets (allowed_of allowed) spliced (all_begun begun.value some_items_read)
         (left_of left)) }
 {
     let within = WithinItems::Value {
@@ -61,19 +62,21 @@ fn expression_item(
 }
 
 // An item without a sign before it.
+#[inline(always)]
 fn plain_item(
     alloc: Global,
     brackets: bool,
     allowed: Allowed,
-    begun: Box<VecDeque<Frame>>,
+    begun: Box<Begun>,
     mut left: Left,
 ) -> Result<State, AllocError>
-    ensures { IfOk result (λ s. state_of s ≡ meant.plain_item brackets (allowed_of allowed) (all_begun begun.value.items some_items_read) (left_of left)) }
+    ensures { IfOk result (λ s. state_of s ≡ meant.plain_item brackets (allowed_of allowed) (all_begun begun.value some_items_read) (left_of left)) }
 {
     if let Some(word) = left.take_word_alone()? {
         let Word { text, line } = word;
         let item = BracedItem::Bare(text, line);
-        return items_on(alloc, brackets, allowed, item, begun, left);
+        let state = items_on(alloc, brackets, allowed, item, begun, left)?;
+        return Ok(state);
     }
     expression_item(brackets, allowed, false, begun, left)
 }
@@ -83,10 +86,10 @@ fn rest_item(
     alloc: Global,
     brackets: bool,
     allowed: Allowed,
-    begun: Box<VecDeque<Frame>>,
+    begun: Box<Begun>,
     mut left: Left,
 ) -> Result<State, AllocError>
-    ensures { IfOk result (λ s. state_of s ≡ meant.rest_item brackets (allowed_of allowed) (all_begun begun.value.items some_items_read) (left_of left)) }
+    ensures { IfOk result (λ s. state_of s ≡ meant.rest_item brackets (allowed_of allowed) (all_begun begun.value some_items_read) (left_of left)) }
 {
     if let Some(word) = left.take_word_alone()? {
         let Word { text, line } = word;
@@ -102,11 +105,11 @@ fn bare_optional(
     brackets: bool,
     allowed: Allowed,
     name: Text,
-    begun: Box<VecDeque<Frame>>,
+    begun: Box<Begun>,
     left: Left,
 ) -> Result<State, AllocError>
     ensures { IfOk result (λ s. state_of s ≡ by.items_on brackets (scatter_alone (allowed_of allowed)) (f.bare_optional name)
-        (all_begun begun.value.items some_items_read) (left_of left)) }
+        (all_begun begun.value some_items_read) (left_of left)) }
 {
     let item = BracedItem::BareOptional(name);
     items_on(alloc, brackets, scatter_alone(allowed), item, begun, left)
@@ -118,10 +121,10 @@ fn optional_named(
     brackets: bool,
     allowed: Allowed,
     name: Text,
-    begun: Box<VecDeque<Frame>>,
+    begun: Box<Begun>,
     mut left: Left,
 ) -> Result<State, AllocError>
-    ensures { IfOk result (λ s. state_of s ≡ meant.optional_named brackets (allowed_of allowed) (all_begun begun.value.items some_items_read) name
+    ensures { IfOk result (λ s. state_of s ≡ meant.optional_named brackets (allowed_of allowed) (all_begun begun.value some_items_read) name
         (left_of left)) }
 {
     if left.take_sign(Sign::Assign) {
@@ -140,10 +143,10 @@ fn optional_item(
     alloc: Global,
     brackets: bool,
     allowed: Allowed,
-    begun: Box<VecDeque<Frame>>,
+    begun: Box<Begun>,
     mut left: Left,
 ) -> Result<State, AllocError>
-    ensures { IfOk result (λ s. state_of s ≡ meant.optional_item brackets (allowed_of allowed) (all_begun begun.value.items some_items_read) (left_of left)) }
+    ensures { IfOk result (λ s. state_of s ≡ meant.optional_item brackets (allowed_of allowed) (all_begun begun.value some_items_read) (left_of left)) }
 {
     match left.take_word()? {
         Some(word) => optional_named(alloc, brackets, allowed, word.text, begun, left),
@@ -152,31 +155,33 @@ fn optional_item(
 }
 
 // An item that is no optional one.
+#[inline(always)]
 fn listed_item(
     alloc: Global,
     brackets: bool,
     allowed: Allowed,
-    begun: Box<VecDeque<Frame>>,
+    begun: Box<Begun>,
     mut left: Left,
 ) -> Result<State, AllocError>
-    ensures { IfOk result (λ s. state_of s ≡ meant.listed_item brackets (allowed_of allowed) (all_begun begun.value.items some_items_read) (left_of left)) }
+    ensures { IfOk result (λ s. state_of s ≡ meant.listed_item brackets (allowed_of allowed) (all_begun begun.value some_items_read) (left_of left)) }
 {
     if left.take_sign(Sign::At) {
-        rest_item(alloc, brackets, allowed, begun, left)
-    } else {
-        plain_item(alloc, brackets, allowed, begun, left)
+        let state = rest_item(alloc, brackets, allowed, begun, left)?;
+        return Ok(state);
     }
+    plain_item(alloc, brackets, allowed, begun, left)
 }
 
 // An item where a list is possible, and perhaps a scatter.
+#[inline(always)]
 fn item_of_list(
     alloc: Global,
     brackets: bool,
     allowed: Allowed,
-    begun: Box<VecDeque<Frame>>,
+    begun: Box<Begun>,
     mut left: Left,
 ) -> Result<State, AllocError>
-    ensures { IfOk result (λ s. state_of s ≡ meant.item_of_list allowed.as_scatter brackets (allowed_of allowed) (all_begun begun.value.items some_items_read)
+    ensures { IfOk result (λ s. state_of s ≡ meant.item_of_list allowed.as_scatter brackets (allowed_of allowed) (all_begun begun.value some_items_read)
         (left_of left)) }
 {
     if !allowed.as_scatter {
@@ -186,10 +191,10 @@ fn item_of_list(
         return listed_item(alloc, brackets, allowed, begun, left);
     }
     if left.take_sign(Sign::Question) {
-        optional_item(alloc, brackets, allowed, begun, left)
-    } else {
-        listed_item(alloc, brackets, allowed, begun, left)
+        let state = optional_item(alloc, brackets, allowed, begun, left)?;
+        return Ok(state);
     }
+    listed_item(alloc, brackets, allowed, begun, left)
 }
 
 // A variable that takes an item.
@@ -197,10 +202,10 @@ fn scatter_plain(
     alloc: Global,
     brackets: bool,
     allowed: Allowed,
-    begun: Box<VecDeque<Frame>>,
+    begun: Box<Begun>,
     mut left: Left,
 ) -> Result<State, AllocError>
-    ensures { IfOk result (λ s. state_of s ≡ meant.scatter_plain brackets (allowed_of allowed) (all_begun begun.value.items some_items_read) (left_of left)) }
+    ensures { IfOk result (λ s. state_of s ≡ meant.scatter_plain brackets (allowed_of allowed) (all_begun begun.value some_items_read) (left_of left)) }
 {
     let Some(word) = left.take_word()? else {
         return Ok(stuck(begun, left));
@@ -215,10 +220,10 @@ fn scatter_rest(
     alloc: Global,
     brackets: bool,
     allowed: Allowed,
-    begun: Box<VecDeque<Frame>>,
+    begun: Box<Begun>,
     mut left: Left,
 ) -> Result<State, AllocError>
-    ensures { IfOk result (λ s. state_of s ≡ meant.scatter_rest brackets (allowed_of allowed) (all_begun begun.value.items some_items_read) (left_of left)) }
+    ensures { IfOk result (λ s. state_of s ≡ meant.scatter_rest brackets (allowed_of allowed) (all_begun begun.value some_items_read) (left_of left)) }
 {
     let Some(word) = left.take_word()? else {
         return Ok(stuck(begun, left));
@@ -233,10 +238,10 @@ fn scatter_unless(
     alloc: Global,
     brackets: bool,
     allowed: Allowed,
-    begun: Box<VecDeque<Frame>>,
+    begun: Box<Begun>,
     mut left: Left,
 ) -> Result<State, AllocError>
-    ensures { IfOk result (λ s. state_of s ≡ meant.scatter_unless allowed.has_rest brackets (allowed_of allowed) (all_begun begun.value.items some_items_read)
+    ensures { IfOk result (λ s. state_of s ≡ meant.scatter_unless allowed.has_rest brackets (allowed_of allowed) (all_begun begun.value some_items_read)
         (left_of left)) }
 {
     if allowed.has_rest {
@@ -257,10 +262,10 @@ fn item_of_scatter(
     alloc: Global,
     brackets: bool,
     allowed: Allowed,
-    begun: Box<VecDeque<Frame>>,
+    begun: Box<Begun>,
     mut left: Left,
 ) -> Result<State, AllocError>
-    ensures { IfOk result (λ s. state_of s ≡ meant.item_of_scatter brackets (allowed_of allowed) (all_begun begun.value.items some_items_read) (left_of left)) }
+    ensures { IfOk result (λ s. state_of s ≡ meant.item_of_scatter brackets (allowed_of allowed) (all_begun begun.value some_items_read) (left_of left)) }
 {
     if left.take_sign(Sign::Question) {
         optional_item(alloc, brackets, allowed, begun, left)
@@ -270,19 +275,20 @@ fn item_of_scatter(
 }
 
 /// An item of braces.
+#[inline(always)]
 pub fn items_begin(
     alloc: Global,
     brackets: bool,
     allowed: Allowed,
-    begun: Box<VecDeque<Frame>>,
+    begun: Box<Begun>,
     left: Left,
 ) -> Result<State, AllocError>
-    ensures { IfOk result (λ s. state_of s ≡ meant.item_by allowed.as_list brackets (allowed_of allowed) (all_begun begun.value.items some_items_read)
+    ensures { IfOk result (λ s. state_of s ≡ meant.item_by allowed.as_list brackets (allowed_of allowed) (all_begun begun.value some_items_read)
         (left_of left)) }
 {
-    if allowed.as_list {
-        item_of_list(alloc, brackets, allowed, begun, left)
-    } else {
-        item_of_scatter(alloc, brackets, allowed, begun, left)
+    if !allowed.as_list {
+        let state = item_of_scatter(alloc, brackets, allowed, begun, left)?;
+        return Ok(state);
     }
+    item_of_list(alloc, brackets, allowed, begun, left)
 }

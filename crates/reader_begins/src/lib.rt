@@ -8,3 +8,4 @@ pub mod operand;
 pub mod operators;
 pub mod parts;
 pub mod steps;
+pub mod term;

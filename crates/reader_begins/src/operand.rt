@@ -22,6 +22,7 @@ use moo_reader::start::{empty_list, literal, name, own_length, system, variable}
 use moo_token::token::{Placed, Sign, Token};
 use moo_value::operator::UnaryOperator;
 use moo_value::value::Value;
+use reader_frames::begun::Begun;
 use reader_frames::ends::arguments_to;
 use reader_frames::frame::{
     ArgumentsFrame, ExpressionFrame, Frame, ItemsFrame, OperandFrame, WithinExpression,
@@ -31,11 +32,10 @@ use reader_frames::left::{Left, Word};
 use reader_frames::state::{BeforeSteps, Next, State, begin, stuck};
 use reader_frames::words::allowed_text;
 use std::alloc::{AllocError, Global};
-use std::collections::VecDeque;
 
 // The steps behind an operand.
-fn steps(brackets: bool, operand: Operand, begun: Box<VecDeque<Frame>>, left: Left) -> State
-    ensures { state_of result ≡ goes (reads_steps brackets (operand_of operand) (all_begun begun.value.items an_operand)) (left_of left) }
+fn steps(brackets: bool, operand: Operand, begun: Box<Begun>, left: Left) -> State
+    ensures { state_of result ≡ goes (reads_steps brackets (operand_of operand) (all_begun begun.value an_operand)) (left_of left) }
 {
     let next = Next::Steps(BeforeSteps { brackets, operand });
     State { next, begun, left }
@@ -47,10 +47,10 @@ fn literal_begins(
     brackets: bool,
     line: u64,
     value: Value,
-    begun: Box<VecDeque<Frame>>,
+    begun: Box<Begun>,
     left: Left,
 ) -> Result<State, AllocError>
-    ensures { IfOk result (λ s. state_of s ≡ literal_begins brackets line value (all_begun begun.value.items an_operand) (left_of left)) }
+    ensures { IfOk result (λ s. state_of s ≡ literal_begins brackets line value (all_begun begun.value an_operand) (left_of left)) }
 {
     let operand = literal(alloc, line, value)?;
     Ok(steps(brackets, operand, begun, left))
@@ -61,10 +61,10 @@ fn word_begins(
     alloc: Global,
     brackets: bool,
     word: Word,
-    begun: Box<VecDeque<Frame>>,
+    begun: Box<Begun>,
     mut left: Left,
 ) -> Result<State, AllocError>
-    ensures { IfOk result (λ s. state_of s ≡ word_begins brackets word.text word.line (all_begun begun.value.items an_operand) (left_of left)) }
+    ensures { IfOk result (λ s. state_of s ≡ word_begins brackets word.text word.line (all_begun begun.value an_operand) (left_of left)) }
 {
     let Word { text, line } = word;
     if left.take_sign(Sign::OpenParenthesis) {
@@ -83,10 +83,10 @@ fn system_begins(
     brackets: bool,
     line: u64,
     word: Word,
-    begun: Box<VecDeque<Frame>>,
+    begun: Box<Begun>,
     mut left: Left,
 ) -> Result<State, AllocError>
-    ensures { IfOk result (λ s. state_of s ≡ system_begins brackets line (name_at word.line word.text) (all_begun begun.value.items an_operand) (left_of left)) }
+    ensures { IfOk result (λ s. state_of s ≡ system_begins brackets line (name_at word.line word.text) (all_begun begun.value an_operand) (left_of left)) }
 {
     let Word { text, line: at } = word;
     let object = system(alloc, line)?;
@@ -106,10 +106,10 @@ fn dollar_begins(
     alloc: Global,
     brackets: bool,
     line: u64,
-    begun: Box<VecDeque<Frame>>,
+    begun: Box<Begun>,
     mut left: Left,
 ) -> Result<State, AllocError>
-    ensures { IfOk result (λ s. state_of s ≡ dollar_begins brackets line (all_begun begun.value.items an_operand) (left_of left)) }
+    ensures { IfOk result (λ s. state_of s ≡ dollar_begins brackets line (all_begun begun.value an_operand) (left_of left)) }
 {
     if let Some(word) = left.take_word()? {
         return system_begins(alloc, brackets, line, word, begun, left);
@@ -127,10 +127,10 @@ fn brace_begins(
     brackets: bool,
     level: u8,
     line: u64,
-    begun: Box<VecDeque<Frame>>,
+    begun: Box<Begun>,
     mut left: Left,
 ) -> Result<State, AllocError>
-    ensures { IfOk result (λ s. state_of s ≡ brace_begins brackets level line (all_begun begun.value.items an_operand) (left_of left)) }
+    ensures { IfOk result (λ s. state_of s ≡ brace_begins brackets level line (all_begun begun.value an_operand) (left_of left)) }
 {
     if left.take_sign(Sign::CloseBrace) {
         let operand = empty_list(alloc, line)?;
@@ -151,11 +151,11 @@ fn brace_begins(
 fn parenthesis_begins(
     brackets: bool,
     line: u64,
-    begun: Box<VecDeque<Frame>>,
+    begun: Box<Begun>,
     left: Left,
 ) -> Result<State, AllocError>
     ensures { IfOk result (λ s. state_of s ≡ goes (reads_expression brackets 0 (push (f.in_parentheses line) (push f.as_operand
-        (push (f.steps_behind brackets) (all_begun begun.value.items an_operand))))) (left_of left)) }
+        (push (f.steps_behind brackets) (all_begun begun.value an_operand))))) (left_of left)) }
 {
     let begun = begin(begun, Frame::Operand(OperandFrame::Steps { brackets }))?;
     let within = WithinOperand::Whole;
@@ -174,11 +174,11 @@ fn parenthesis_begins(
 fn catch_begins(
     brackets: bool,
     line: u64,
-    begun: Box<VecDeque<Frame>>,
+    begun: Box<Begun>,
     left: Left,
 ) -> Result<State, AllocError>
     ensures { IfOk result (λ s. state_of s ≡ goes (reads_expression brackets 0 (push (f.caught_in brackets line)
-        (push (f.steps_behind brackets) (all_begun begun.value.items an_operand)))) (left_of left)) }
+        (push (f.steps_behind brackets) (all_begun begun.value an_operand)))) (left_of left)) }
 {
     let begun = begin(begun, Frame::Operand(OperandFrame::Steps { brackets }))?;
     let within = WithinOperand::Caught { brackets, line };
@@ -192,10 +192,10 @@ fn sign_begins(
     level: u8,
     sign: Sign,
     line: u64,
-    begun: Box<VecDeque<Frame>>,
+    begun: Box<Begun>,
     left: Left,
 ) -> Result<State, AllocError>
-    ensures { IfOk result (λ s. state_of s ≡ operand_by brackets level (all_begun begun.value.items an_operand) (t.sign (sign_meant sign)) line (left_of left)
+    ensures { IfOk result (λ s. state_of s ≡ operand_by brackets level (all_begun begun.value an_operand) (t.sign (sign_meant sign)) line (left_of left)
         (record { token = t.sign (sign_meant sign); line = line } ∷ left_of left)) }
 {
     match sign {
@@ -226,10 +226,10 @@ fn operand_by(
     brackets: bool,
     level: u8,
     placed: Placed,
-    begun: Box<VecDeque<Frame>>,
+    begun: Box<Begun>,
     left: Left,
 ) -> Result<State, AllocError>
-    ensures { IfOk result (λ s. state_of s ≡ operand_by brackets level (all_begun begun.value.items an_operand) (token_meant (token_of placed.token)) placed.line
+    ensures { IfOk result (λ s. state_of s ≡ operand_by brackets level (all_begun begun.value an_operand) (token_meant (token_of placed.token)) placed.line
         (left_of left) (place_meant (place_of placed) ∷ left_of left)) }
 {
     let Placed { token, line } = placed;
@@ -270,10 +270,10 @@ pub fn operand_begins(
     alloc: Global,
     brackets: bool,
     level: u8,
-    begun: Box<VecDeque<Frame>>,
+    begun: Box<Begun>,
     mut left: Left,
 ) -> Result<State, AllocError>
-    ensures { IfOk result (λ s. state_of s ≡ operand_begins brackets level (all_begun begun.value.items an_operand) (left_of left)) }
+    ensures { IfOk result (λ s. state_of s ≡ operand_begins brackets level (all_begun begun.value an_operand) (left_of left)) }
 {
     match left.take() {
         Some(placed) => operand_by(alloc, brackets, level, placed, begun, left),

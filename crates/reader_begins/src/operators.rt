@@ -21,11 +21,11 @@ use crate::parts::part_begins;
 use moo_reader::found::{Found, Join};
 use moo_token::token::{Keyword, Sign, Token};
 use moo_value::operator::BinaryOperator;
-use reader_frames::frame::{ExpressionFrame, Frame, WithinExpression};
+use reader_frames::begun::Begun;
+use reader_frames::frame::{ExpressionFrame, WithinExpression};
 use reader_frames::left::Left;
 use reader_frames::state::{Next, Part, State};
 use std::alloc::AllocError;
-use std::collections::VecDeque;
 
 /// What stands between two expressions, if anything.
 #[derive(Clone, Copy)]
@@ -71,8 +71,8 @@ fn keyword_joint(keyword: Keyword) -> Joint
     }
 }
 
-// What a token is between two expressions.
-fn token_joint(token: &Token) -> Joint
+/// What a token is between two expressions.
+pub fn token_joint(token: &Token) -> Joint
     ensures { joint_of result ≡ by.joint (token_meant (token_of token.now)) }
 {
     match token {
@@ -82,8 +82,8 @@ fn token_joint(token: &Token) -> Joint
     }
 }
 
-// Whether it binds at least as tightly as this level.
-fn is_tight(level: u8, joint: Joint) -> bool
+/// Whether it binds at least as tightly as this level.
+pub fn is_tight(level: u8, joint: Joint) -> bool
     ensures { result ≡ moves.is_tight level (joint_of joint) }
 {
     match joint {
@@ -125,11 +125,11 @@ fn right_of(
     found: Found,
     join: Join,
     wanted: u8,
-    begun: Box<VecDeque<Frame>>,
+    begun: Box<Begun>,
     left: Left,
 ) -> Result<State, AllocError>
     ensures { IfOk result (λ s. state_of s ≡ goes (reads_expression brackets wanted
-        (push (f.right_of brackets level (found_of found) (join_of join)) (all_begun begun.value.items an_expression))) (left_of left)) }
+        (push (f.right_of brackets level (found_of found) (join_of join)) (all_begun begun.value an_expression))) (left_of left)) }
 {
     let within = WithinExpression::RightOf {
         brackets,
@@ -152,10 +152,10 @@ fn behind_joint(
     level: u8,
     found: Found,
     joint: Joint,
-    begun: Box<VecDeque<Frame>>,
+    begun: Box<Begun>,
     left: Left,
 ) -> Result<State, AllocError>
-    ensures { IfOk result (λ s. state_of s ≡ goes (joint_next brackets level (found_of found) (all_begun begun.value.items an_expression) (joint_of joint))
+    ensures { IfOk result (λ s. state_of s ≡ goes (joint_next brackets level (found_of found) (all_begun begun.value an_expression) (joint_of joint))
         (left_of left)) }
 {
     match joint {
@@ -200,10 +200,10 @@ pub fn operators_begin(
     brackets: bool,
     level: u8,
     found: Found,
-    begun: Box<VecDeque<Frame>>,
+    begun: Box<Begun>,
     mut left: Left,
 ) -> Result<State, AllocError>
-    ensures { IfOk result (λ s. state_of s ≡ operators_begin brackets level (found_of found) (all_begun begun.value.items an_expression) (left_of left)) }
+    ensures { IfOk result (λ s. state_of s ≡ operators_begin brackets level (found_of found) (all_begun begun.value an_expression) (left_of left)) }
 {
     let joint = take_joint(level, &mut left);
     behind_joint(brackets, level, found, joint, begun, left)

@@ -9,11 +9,11 @@ ghost use Rattle.reader_frames.specs.FrameViews.{all_begun, expression_begun};
 ghost use Rattle.reader_frames.specs.StateView.{state_of};
 
 use moo_token::token::Placed;
+use reader_frames::begun::Begun;
 use reader_frames::frame::{ExpressionFrame, Frame};
 use reader_frames::left::Left;
 use reader_frames::state::{Next, State, begin, stuck};
 use std::alloc::AllocError;
-use std::collections::VecDeque;
 
 /// An expression that is a part of something, and binds at least as tightly as this level.
 #[inline(always)]
@@ -21,10 +21,10 @@ pub fn part_begins(
     frame: ExpressionFrame,
     brackets: bool,
     level: u8,
-    begun: Box<VecDeque<Frame>>,
+    begun: Box<Begun>,
     left: Left,
 ) -> Result<State, AllocError>
-    ensures { IfOk result (λ s. state_of s ≡ goes (reads_expression brackets level (expression_begun frame (all_begun begun.value.items))) (left_of left)) }
+    ensures { IfOk result (λ s. state_of s ≡ goes (reads_expression brackets level (expression_begun frame (all_begun begun.value))) (left_of left)) }
 {
     let begun = begin(begun, Frame::Expression(frame))?;
     let next = Next::Expression { brackets, level };
@@ -32,11 +32,7 @@ pub fn part_begins(
 }
 
 /// A token that no program goes on with is put back.
-pub fn stuck_before(
-    placed: Placed,
-    begun: Box<VecDeque<Frame>>,
-    mut left: Left,
-) -> Result<State, AllocError>
+pub fn stuck_before(placed: Placed, begun: Box<Begun>, mut left: Left) -> Result<State, AllocError>
     ensures { IfOk result (λ s. state_of s ≡ stops (place_meant (place_of placed) ∷ left_of left)) }
 {
     left.put_back(placed)?;

@@ -19,21 +19,21 @@ use crate::parts::{part_begins, stuck_before};
 use moo_reader::found::{Braces, Operand};
 use moo_reader::start::name;
 use moo_token::token::{Placed, Sign, Token};
+use reader_frames::begun::Begun;
 use reader_frames::frame::{ExpressionFrame, Frame, WithinExpression, WithinOperand};
 use reader_frames::left::Left;
 use reader_frames::state::{Next, Part, State, begin, stuck};
 use reader_frames::words::allowed_text;
 use std::alloc::{AllocError, Global};
-use std::collections::VecDeque;
 
 // A name in parentheses.
 fn name_in_parentheses(
     brackets: bool,
     line: u64,
-    begun: Box<VecDeque<Frame>>,
+    begun: Box<Begun>,
     left: Left,
 ) -> Result<State, AllocError>
-    ensures { IfOk result (λ s. state_of s ≡ goes (reads_expression brackets 0 (push (f.in_parentheses line) (all_begun begun.value.items an_expression)))
+    ensures { IfOk result (λ s. state_of s ≡ goes (reads_expression brackets 0 (push (f.in_parentheses line) (all_begun begun.value an_expression)))
         (left_of left)) }
 {
     let within = WithinExpression::Parentheses { line };
@@ -51,10 +51,10 @@ fn name_by_sign(
     brackets: bool,
     sign: Sign,
     line: u64,
-    begun: Box<VecDeque<Frame>>,
+    begun: Box<Begun>,
     left: Left,
 ) -> Result<State, AllocError>
-    ensures { IfOk result (λ s. state_of s ≡ name_by brackets (all_begun begun.value.items an_expression) (t.sign (sign_meant sign)) line (left_of left)
+    ensures { IfOk result (λ s. state_of s ≡ name_by brackets (all_begun begun.value an_expression) (t.sign (sign_meant sign)) line (left_of left)
         (record { token = t.sign (sign_meant sign); line = line } ∷ left_of left)) }
 {
     match sign {
@@ -71,10 +71,10 @@ fn name_by(
     alloc: Global,
     brackets: bool,
     placed: Placed,
-    begun: Box<VecDeque<Frame>>,
+    begun: Box<Begun>,
     left: Left,
 ) -> Result<State, AllocError>
-    ensures { IfOk result (λ s. state_of s ≡ name_by brackets (all_begun begun.value.items an_expression) (token_meant (token_of placed.token)) placed.line
+    ensures { IfOk result (λ s. state_of s ≡ name_by brackets (all_begun begun.value an_expression) (token_meant (token_of placed.token)) placed.line
         (left_of left) (place_meant (place_of placed) ∷ left_of left)) }
 {
     let Placed { token, line } = placed;
@@ -94,10 +94,10 @@ fn name_by(
 fn name_begins(
     alloc: Global,
     brackets: bool,
-    begun: Box<VecDeque<Frame>>,
+    begun: Box<Begun>,
     mut left: Left,
 ) -> Result<State, AllocError>
-    ensures { IfOk result (λ s. state_of s ≡ name_begins brackets (all_begun begun.value.items an_expression) (left_of left)) }
+    ensures { IfOk result (λ s. state_of s ≡ name_begins brackets (all_begun begun.value an_expression) (left_of left)) }
 {
     match left.take() {
         Some(placed) => name_by(alloc, brackets, placed, begun, left),
@@ -110,10 +110,10 @@ fn part_named(
     alloc: Global,
     brackets: bool,
     within: WithinOperand,
-    begun: Box<VecDeque<Frame>>,
+    begun: Box<Begun>,
     left: Left,
 ) -> Result<State, AllocError>
-    ensures { IfOk result (λ s. state_of s ≡ name_begins brackets (push (within_operand within) (all_begun begun.value.items an_operand)) (left_of left)) }
+    ensures { IfOk result (λ s. state_of s ≡ name_begins brackets (push (within_operand within) (all_begun begun.value an_operand)) (left_of left)) }
 {
     let begun = begin(begun, Frame::Expression(ExpressionFrame::Operand(within)))?;
     name_begins(alloc, brackets, begun, left)
@@ -123,10 +123,10 @@ fn part_named(
 fn index_begins(
     brackets: bool,
     list: Operand,
-    begun: Box<VecDeque<Frame>>,
+    begun: Box<Begun>,
     left: Left,
 ) -> Result<State, AllocError>
-    ensures { IfOk result (λ s. state_of s ≡ goes (reads_expression true 0 (push (f.index_in brackets (operand_of list)) (all_begun begun.value.items an_operand)))
+    ensures { IfOk result (λ s. state_of s ≡ goes (reads_expression true 0 (push (f.index_in brackets (operand_of list)) (all_begun begun.value an_operand)))
         (left_of left)) }
 {
     let within = WithinOperand::Index { brackets, list };
@@ -134,8 +134,8 @@ fn index_begins(
 }
 
 // The operand without a step.
-fn no_step(operand: Operand, begun: Box<VecDeque<Frame>>, left: Left) -> State
-    ensures { state_of result ≡ goes (found (all_begun begun.value.items an_operand) (operand_of operand)) (left_of left) }
+fn no_step(operand: Operand, begun: Box<Begun>, left: Left) -> State
+    ensures { state_of result ≡ goes (found (all_begun begun.value an_operand) (operand_of operand)) (left_of left) }
 {
     let next = Next::Found(Part::Operand(operand));
     State { next, begun, left }
@@ -148,10 +148,10 @@ fn step_by_sign(
     operand: Operand,
     sign: Sign,
     line: u64,
-    begun: Box<VecDeque<Frame>>,
+    begun: Box<Begun>,
     left: Left,
 ) -> Result<State, AllocError>
-    ensures { IfOk result (λ s. state_of s ≡ step_by brackets (operand_of operand) (all_begun begun.value.items an_operand) (t.sign (sign_meant sign))
+    ensures { IfOk result (λ s. state_of s ≡ step_by brackets (operand_of operand) (all_begun begun.value an_operand) (t.sign (sign_meant sign))
         (left_of left) (record { token = t.sign (sign_meant sign); line = line } ∷ left_of left)) }
 {
     match sign {
@@ -176,10 +176,10 @@ fn step_by(
     brackets: bool,
     operand: Operand,
     placed: Placed,
-    begun: Box<VecDeque<Frame>>,
+    begun: Box<Begun>,
     left: Left,
 ) -> Result<State, AllocError>
-    ensures { IfOk result (λ s. state_of s ≡ step_by brackets (operand_of operand) (all_begun begun.value.items an_operand) (token_meant (token_of placed.token))
+    ensures { IfOk result (λ s. state_of s ≡ step_by brackets (operand_of operand) (all_begun begun.value an_operand) (token_meant (token_of placed.token))
         (left_of left) (place_meant (place_of placed) ∷ left_of left)) }
 {
     let Placed { token, line } = placed;
@@ -189,8 +189,8 @@ fn step_by(
     }
 }
 
-// Whether a step begins with a token.
-fn is_step(token: &Token) -> bool
+/// Whether a step begins with a token.
+pub fn is_step(token: &Token) -> bool
     ensures { result ≡ is_step (token_meant (token_of token.now)) }
 {
     matches!(
@@ -222,10 +222,10 @@ fn step_begins(
     alloc: Global,
     brackets: bool,
     operand: Operand,
-    begun: Box<VecDeque<Frame>>,
+    begun: Box<Begun>,
     mut left: Left,
 ) -> Result<State, AllocError>
-    ensures { IfOk result (λ s. state_of s ≡ steps_unless false brackets (operand_of operand) (all_begun begun.value.items an_operand) (left_of left)) }
+    ensures { IfOk result (λ s. state_of s ≡ steps_unless false brackets (operand_of operand) (all_begun begun.value an_operand) (left_of left)) }
 {
     if !begins_step(&left) {
         return Ok(no_step(operand, begun, left));
@@ -241,11 +241,11 @@ pub fn steps_begin(
     alloc: Global,
     brackets: bool,
     operand: Operand,
-    begun: Box<VecDeque<Frame>>,
+    begun: Box<Begun>,
     left: Left,
 ) -> Result<State, AllocError>
     ensures { IfOk result (λ s. state_of s ≡ steps_unless (is_surely_scatter (operand_of operand).braces) brackets (operand_of operand)
-        (all_begun begun.value.items an_operand) (left_of left)) }
+        (all_begun begun.value an_operand) (left_of left)) }
 {
     if is_surely_scatter(&operand.whole.braces) {
         return Ok(no_step(operand, begun, left));

@@ -17,5 +17,7 @@ pub mod Traces
 pub mod Tops
 pub mod Onward
 pub mod Appending
+pub mod Items
+pub mod Arguments
 pub mod Numbers
 pub mod Asked

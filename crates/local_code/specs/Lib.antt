@@ -9,5 +9,7 @@ pub mod Steps
 pub mod Stopping
 pub mod Onward
 pub mod Appending
+pub mod Items
+pub mod Arguments
 pub mod Numbers
 pub mod Asked

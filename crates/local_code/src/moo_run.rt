@@ -2,7 +2,9 @@
 //! that are then under way.
 mod ahead;
 mod append;
+pub mod argument;
 pub mod asked;
+mod item;
 mod numbers;
 pub mod onward;
 pub mod parts;

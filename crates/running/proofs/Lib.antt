@@ -4,6 +4,7 @@ pub mod PropertyPartsStoring
 pub mod Writing
 pub mod Asked
 pub mod Calls
+pub mod Arguments
 pub mod Steps
 pub mod AskingOn
 pub mod Named

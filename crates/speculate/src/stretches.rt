@@ -51,7 +51,7 @@ pub(crate) fn play_in_stretches<G: Gate, R: Threads + Wait + Clock + Sync>(
     let mut at = 0;
     'stretch: while at < steps.len() {
         let left = steps.len() - at;
-        let several = pace.is_for_several();
+        let several = pace.is_for_several(left);
         let count = pace.count(left, several);
         let start = Instant::now(rt).ok();
         match go_on(

@@ -87,6 +87,7 @@ fn front_items(
                     None => return Ok(None),
                     Some((ends, more)) => {
                         if ends {
+                            items.shrink_to_fit();
                             return Ok(Some((items, more)));
                         }
                         rest = more;

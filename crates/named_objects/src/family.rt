@@ -78,6 +78,8 @@ pub fn object(alloc: Global, record: ObjectRecord, names: &[Text]) -> Result<Obj
         verbs,
     } = record;
     let slots = named(alloc, names, slots)?;
+    // A copy has no room to spare.
+    let slots = slots.clone()?;
     let verbs = Verbs::new(alloc, verbs)?;
     Object::new(alloc, header, lists, slots, verbs)
 }

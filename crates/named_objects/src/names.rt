@@ -90,7 +90,7 @@ pub fn names_of(
         → IsWay (parents_of upwards.now) (Some place) way → count ≡ length (names_at (defines_of records.now) way)
         → IfOk result (λ o. IsSomeAnd o (λ v. v.items ≡ names_at (defines_of records.now) way)) }
 {
-    let mut names = Vec::new(alloc);
+    let mut names = Vec::with_capacity(alloc, count)?;
     let mut definer = upwards.definer(Some(place));
     // each of them has a name at least
     for _definer in 0..count {

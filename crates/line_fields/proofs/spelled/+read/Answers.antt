@@ -95,7 +95,7 @@ front_items-returns-then-ends-clause-finds t c ds r h w e =
     let f = rw c.in-Some-2.is at c.in_ok-front_value.ensures.finds in
     let item = item_some c.all.rest.now left.0 left.1 r left.2 c.args.room left.5 left.4 c.in-Some-2.item c.in-Some-2.after f in
     let end = mark_true left.1 r c.in-Some-2.after.now c.in-Some-front_mark.more.now item.1 (rw c.if-ends.true at c.in-Some-front_mark.ensures.finds) in
-    let all = list_ends c.all.items.items ds left.1 c.push.new.self.items left.0 c.in-Some-2.item left.3 end.0 item.0 c.in_ok-push-in-Some-2.ensures.items in
+    let all = list_ends c.all.items.items ds left.1 c.shrink_to_fit.new.self.items left.0 c.in-Some-2.item left.3 end.0 item.0 (c.shrink_to_fit.ensures.items ∙ c.in_ok-push-in-Some-2.ensures.items) in
     rw (all, end.1)
 
 pub front_items-all-preserved : goal.front_items-all-preserved
@@ -151,5 +151,5 @@ front_items-returns-then-first-eq125-clause-tells t c =
 pub front_items-returns-then-ends-clause-tells : goal.front_items-returns-then-ends-clause-tells
 front_items-returns-then-ends-clause-tells t c =
     let item = rw c.in-Some-2.is at c.in_ok-front_value.ensures.tells in
-    led_ends c.args.room c.args.bytes.now c.all.rest.now c.in-Some-2.after.now c.in-Some-front_mark.more.now c.all.items.items c.push.new.self.items c.in-Some-2.item c.all.invariant.told item
-    (closing_mark c.in-Some-2.after.now c.in-Some-front_mark.more.now (sym (rw c.if-ends.true at c.in-Some-front_mark.ensures.finds))) c.in_ok-push-in-Some-2.ensures.items
+    led_ends c.args.room c.args.bytes.now c.all.rest.now c.in-Some-2.after.now c.in-Some-front_mark.more.now c.all.items.items c.shrink_to_fit.new.self.items c.in-Some-2.item c.all.invariant.told item
+    (closing_mark c.in-Some-2.after.now c.in-Some-front_mark.more.now (sym (rw c.if-ends.true at c.in-Some-front_mark.ensures.finds))) (c.shrink_to_fit.ensures.items ∙ c.in_ok-push-in-Some-2.ensures.items)

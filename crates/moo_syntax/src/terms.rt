@@ -19,6 +19,7 @@ use moo_reader::node::{Nodes, followed, under};
 use moo_tree::expression::{Expression, ExpressionNode};
 use moo_value::value::Value;
 use reader_begins::literal::integer_of;
+use reader_begins::operators::operators_begin;
 use reader_begins::term::{Term, take_term};
 use reader_frames::begun::Begun;
 use reader_frames::left::Left;
@@ -142,8 +143,12 @@ fn past_operators(
             Ok(State { next, begun, left })
         }
         None => {
-            let next = Next::Operators(before);
-            step(alloc, State { next, begun, left })
+            let BeforeOperators {
+                brackets,
+                level,
+                left: found,
+            } = before;
+            operators_begin(brackets, level, found, begun, left)
         }
     }
 }

@@ -101,10 +101,7 @@ fn read_call(reader: &mut Reader<'_>, room: usize) {
 #[cycle(read)]
 fn read_step(reader: &mut Reader<'_>, step: Step, room: usize) {
     match step {
-        Step::Property => {
-            read_name(reader, room);
-            reader.pair(Pair::Property);
-        }
+        Step::Property => read_property(reader, room),
         Step::Verb => {
             read_name(reader, room);
             reader.expect_byte(b'(');
@@ -112,6 +109,17 @@ fn read_step(reader: &mut Reader<'_>, step: Step, room: usize) {
         }
         Step::Bracket => read_bracket(reader, room),
     }
+}
+
+// What stands behind the `.` of a property.
+#[cycle(read)]
+fn read_property(reader: &mut Reader<'_>, room: usize) {
+    if reader.take_byte(b'(') {
+        read_group(reader, room);
+        return reader.pair(Pair::Property);
+    }
+    let name = reader.expect_word();
+    reader.property(name);
 }
 
 // An index, or the first and the last one.
@@ -127,7 +135,7 @@ fn read_bracket(reader: &mut Reader<'_>, room: usize) {
     reader.range();
 }
 
-// A name behind a `.` or a `:`, or an expression in parentheses.
+// A name behind a `:`, or an expression in parentheses.
 #[cycle(read)]
 fn read_name(reader: &mut Reader<'_>, room: usize) {
     if reader.take_byte(b'(') {

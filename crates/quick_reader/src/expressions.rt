@@ -1,7 +1,7 @@
 //! Expressions of those that were read last.
 use crate::limits::GREATEST_HEIGHT;
 use crate::pair::Pair;
-use crate::reader::{Found, Reader, cut_off};
+use crate::reader::{Found, Reader, cut_off, put_behind};
 use crate::several::{CodesRead, Several};
 use crate::target::target_of;
 use moo_tree::expression::{Argument, Codes, Expression, ExpressionNode, Fallback, Target};
@@ -10,18 +10,27 @@ use moo_value::value::Value;
 
 impl Reader<'_> {
     /// Keeps an expression over those that were taken for it.
+    #[inline(always)]
     pub fn put(&mut self, node: ExpressionNode) {
-        if self.below >= GREATEST_HEIGHT {
-            self.below = 0;
-            self.refuse();
-        }
+        let height = self.height_over();
         let found = Found {
             expression: Expression { node },
-            height: self.below.saturating_add(1),
+            height,
         };
-        self.below = 0;
-        let put = self.expressions.push(found);
+        let put = put_behind(&mut self.expressions, found);
         self.kept(put);
+    }
+
+    // How high an expression is over those that were taken for it.
+    #[inline(always)]
+    fn height_over(&mut self) -> usize {
+        let below = self.below;
+        self.below = 0;
+        if below >= GREATEST_HEIGHT {
+            self.refuse();
+            return 1;
+        }
+        below + 1
     }
 
     /// Keeps a literal value.
@@ -31,14 +40,14 @@ impl Reader<'_> {
 
     /// Keeps a name that is written plainly behind a `.` or a `:`.
     pub fn name(&mut self, word: &[u8]) {
-        if let Some(name) = self.text(word) {
+        if let Some(name) = self.name_text(word) {
             self.literal(Value::text(name));
         }
     }
 
     /// A variable.
     pub fn variable(&mut self, name: &[u8]) {
-        if let Some(name) = self.text(name) {
+        if let Some(name) = self.name_text(name) {
             self.put(ExpressionNode::Variable(name));
         }
     }
@@ -80,6 +89,21 @@ impl Reader<'_> {
         }
     }
 
+    /// A property with a name that is written plainly.
+    pub fn property(&mut self, word: &[u8]) {
+        if let Some(name) = self.name_text(word) {
+            let name = Expression {
+                node: ExpressionNode::Literal(Value::text(name)),
+            };
+            let boxed = Box::new(self.alloc, name);
+            if let Some(name) = self.kept(boxed) {
+                if let Some(object) = self.boxed() {
+                    self.put(ExpressionNode::Property(object, name));
+                }
+            }
+        }
+    }
+
     /// `c ? a | b`
     pub fn conditional(&mut self) {
         if let Some(other) = self.boxed() {
@@ -106,11 +130,12 @@ impl Reader<'_> {
     pub fn argument(&mut self, others: Several, is_spliced: bool) -> Several {
         match self.expressions.pop() {
             Some(Found { expression, height }) => {
-                let put = self.arguments.push(if is_spliced {
+                let argument = if is_spliced {
                     Argument::Splice(expression)
                 } else {
                     Argument::Value(expression)
-                });
+                };
+                let put = put_behind(&mut self.arguments, argument);
                 self.kept(put);
                 others.and(height)
             }
@@ -133,7 +158,7 @@ impl Reader<'_> {
 
     /// A call of a built-in function.
     pub fn call(&mut self, function: &[u8], arguments: Several) {
-        if let Some(function) = self.text(function) {
+        if let Some(function) = self.name_text(function) {
             let arguments = self.take_arguments(arguments);
             self.put(ExpressionNode::Call(function, arguments));
         }

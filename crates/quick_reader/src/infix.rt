@@ -48,6 +48,9 @@ impl Reader<'_> {
     /// Takes what stands between two expressions, if it is next and binds as tightly as is wanted.
     pub fn take_infix(&mut self, wanted: u8) -> Option<Infix> {
         self.skip_blanks();
+        if ends_expression(self.byte(0)) {
+            return None;
+        }
         let Some((infix, length)) = self.infix() else {
             return None;
         };
@@ -69,6 +72,14 @@ impl Reader<'_> {
             Some(infix) => Some((infix, 1)),
             None => None,
         }
+    }
+}
+
+// Most of the signs with which no expression goes on.
+fn ends_expression(sign: u8) -> bool {
+    match sign {
+        b')' | b',' | b';' | b']' | b'}' | b'\'' => true,
+        _ => false,
     }
 }
 

@@ -11,6 +11,7 @@ pub mod guess;
 mod infix;
 mod limits;
 mod literal;
+mod names;
 mod pair;
 mod reader;
 mod scatter;

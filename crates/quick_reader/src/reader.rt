@@ -1,4 +1,5 @@
 //! A text that is read, and what was read of it.
+use crate::names::Names;
 use moo_tree::expression::{Argument, Expression, Item};
 use moo_tree::statement::{Arm, Branch, Statement};
 use std::alloc::{AllocError, Global};
@@ -30,6 +31,7 @@ pub struct Reader<'a> {
     pub statements: Vec<Statement>,
     pub branches: Vec<Branch>,
     pub arms: Vec<Arm>,
+    pub names: Names,
 }
 
 impl<'a> Reader<'a> {
@@ -47,6 +49,7 @@ impl<'a> Reader<'a> {
             statements: Vec::new(alloc),
             branches: Vec::new(alloc),
             arms: Vec::new(alloc),
+            names: Names::new(alloc),
         }
     }
 
@@ -56,13 +59,20 @@ impl<'a> Reader<'a> {
         self.rest = &[];
     }
 
+    /// Refuses the text since memory ran out.
+    #[cold]
+    pub fn lack(&mut self) {
+        self.lacks_memory = true;
+        self.refuse();
+    }
+
     /// What was made, if there was memory for it.
+    #[inline(always)]
     pub fn kept<T, F: Drop>(&mut self, made: Result<T, F>) -> Option<T> {
         match made {
             Ok(made) => Some(made),
             Err(_) => {
-                self.lacks_memory = true;
-                self.refuse();
+                self.lack();
                 None
             }
         }
@@ -75,6 +85,14 @@ impl<'a> Reader<'a> {
             None => Vec::new(self.alloc),
         }
     }
+}
+
+/// Puts one more behind others, if there is memory for it.
+#[inline(always)]
+pub fn put_behind<T: Drop>(all: &mut Vec<T>, one: T) -> Result<(), AllocError> {
+    all.reserve(1)?;
+    all.push_reserved(one);
+    Ok(())
 }
 
 /// Takes the last ones away, so many.

@@ -1,5 +1,5 @@
 //! What a list is assigned to.
-use crate::reader::{Found, Reader};
+use crate::reader::{Found, Reader, put_behind};
 use crate::several::Several;
 use moo_tree::expression::Item;
 
@@ -35,12 +35,13 @@ impl Reader<'_> {
 
     /// Keeps a variable behind others.
     pub fn item(&mut self, others: Several, mark: Mark, name: &[u8]) -> Several {
-        if let Some(name) = self.text(name) {
-            let put = self.items.push(match mark {
+        if let Some(name) = self.name_text(name) {
+            let item = match mark {
                 Mark::Nothing => Item::Required(name),
                 Mark::Optional => Item::Optional(name),
                 Mark::Rest => Item::Rest(name),
-            });
+            };
+            let put = put_behind(&mut self.items, item);
             self.kept(put);
         }
         others.and(0)
@@ -48,9 +49,9 @@ impl Reader<'_> {
 
     /// Keeps a variable behind others, with the last expression as its value where the list has none for it.
     pub fn item_with_value(&mut self, others: Several, name: &[u8]) -> Several {
-        if let Some(name) = self.text(name) {
+        if let Some(name) = self.name_text(name) {
             if let Some(Found { expression, height }) = self.expressions.pop() {
-                let put = self.items.push(Item::Default(name, expression));
+                let put = put_behind(&mut self.items, Item::Default(name, expression));
                 self.kept(put);
                 return others.and(height);
             }

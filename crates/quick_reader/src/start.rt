@@ -1,5 +1,4 @@
 //! How an operand begins.
-use crate::pair::Pair;
 use crate::reader::Reader;
 use crate::within::is_scatter;
 use moo_tree::expression::ExpressionNode;
@@ -105,11 +104,11 @@ impl<'a> Reader<'a> {
     fn take_system_name(&mut self) -> Start<'a> {
         let name = self.take_word();
         self.literal(Value::object(0));
-        self.name(name);
         if self.take_byte(b'(') {
+            self.name(name);
             return Start::SystemVerb;
         }
-        self.pair(Pair::Property);
+        self.property(name);
         Start::Whole
     }
 }

@@ -1,14 +1,15 @@
 //! Statements of what was read last.
 use crate::limits::GREATEST_HEIGHT;
-use crate::reader::{Found, Reader, cut_off};
+use crate::reader::{Found, Reader, cut_off, put_behind};
 use crate::several::CodesRead;
 use moo_tree::statement::{Arm, Branch, Statement, StatementNode};
 use moo_value::text::Text;
 
 impl Reader<'_> {
     // Keeps a statement.
+    #[inline(always)]
     fn statement(&mut self, node: StatementNode) {
-        let put = self.statements.push(Statement { node });
+        let put = put_behind(&mut self.statements, Statement { node });
         self.kept(put);
     }
 
@@ -21,7 +22,7 @@ impl Reader<'_> {
     // The name that a word is, if there is one.
     fn name_of(&mut self, word: Option<&[u8]>) -> Option<Text> {
         match word {
-            Some(word) => self.text(word),
+            Some(word) => self.name_text(word),
             None => None,
         }
     }
@@ -76,10 +77,11 @@ impl Reader<'_> {
     pub fn branch(&mut self, count: usize) {
         let body = self.block(count);
         if let Some(Found { expression, .. }) = self.expressions.pop() {
-            let put = self.branches.push(Branch {
+            let branch = Branch {
                 condition: expression,
                 body,
-            });
+            };
+            let put = put_behind(&mut self.branches, branch);
             self.kept(put);
         }
     }
@@ -101,7 +103,7 @@ impl Reader<'_> {
     /// `for` over a list, with so many statements.
     pub fn for_each(&mut self, variable: &[u8], count: usize) {
         let body = self.block(count);
-        if let Some(variable) = self.text(variable) {
+        if let Some(variable) = self.name_text(variable) {
             if let Some(Found { expression, .. }) = self.expressions.pop() {
                 self.statement(StatementNode::ForEach {
                     variable,
@@ -126,7 +128,7 @@ impl Reader<'_> {
             ..
         } = self.expressions.take_last();
         let body = self.block(count);
-        if let Some(variable) = self.text(variable) {
+        if let Some(variable) = self.name_text(variable) {
             self.statement(StatementNode::ForRange {
                 variable,
                 first,
@@ -168,11 +170,12 @@ impl Reader<'_> {
         let variable = self.name_of(variable);
         let codes = self.take_codes(codes);
         self.below = 0;
-        let put = self.arms.push(Arm {
+        let arm = Arm {
             variable,
             codes,
             body,
-        });
+        };
+        let put = put_behind(&mut self.arms, arm);
         self.kept(put);
     }
 

@@ -4,6 +4,7 @@ ghost use Rattle.spec_value.specs.Datum.{is_text, is_character as is_character_o
 
 use crate::reader::Reader;
 use moo_value::text::Text;
+use std::alloc::AllocError;
 use std::str;
 use tokens_ahead::front::is_word_character;
 
@@ -54,6 +55,26 @@ impl<'a> Reader<'a> {
         }
         self.refuse();
         None
+    }
+
+    /// The name that a word is. Those that come again share their characters.
+    pub fn name_text(&mut self, word: &[u8]) -> Option<Text> {
+        match self.names.find(word) {
+            Some(name) => {
+                let name: Result<Text, AllocError> = name.clone();
+                self.kept(name)
+            }
+            None => self.new_name(word),
+        }
+    }
+
+    fn new_name(&mut self, word: &[u8]) -> Option<Text> {
+        let name = self.text(word)?;
+        let copy: Result<Text, AllocError> = name.clone();
+        if let Ok(copy) = copy {
+            self.names.keep(copy);
+        }
+        Some(name)
     }
 
     /// Takes the letters and digits that are next.

@@ -1,5 +1,5 @@
 -- A token that is taken from a text is the first of its tokens.
-use Rattle.std.proofs.Common.{◌≡◌, ℕ, Bool, false, ◌&&◌, [], ◌∷◌, ◌++◌, IsTrue, length, take, drop, refl, sym, ap, subst, ◌∙◌, arith}
+use Rattle.std.proofs.Common.{◌≡◌, ℕ, Bool, true, false, not, ◌&&◌, [], ◌∷◌, ◌++◌, IsTrue, length, take, drop, refl, sym, ap, subst, ◌∙◌, arith}
 use Rattle.std.proofs.lemmas.Bool.Decides.{nat_tests}
 use Rattle.std.proofs.lemmas.List.{take-append-drop}
 use Rattle.std.specs.List.{list_all}
@@ -7,7 +7,7 @@ use Rattle.std.specs.Char.{to_ascii_lowercase}
 use Rattle.spec_value.specs.Datum.{Text, fold_case}
 use Rattle.spec_value.proofs.Entries.{first_holds, second_holds}
 use Rattle.spec_program.proofs.ReadFits.{and_also}
-use Rattle.spec_program.specs.Names.{is_letter, is_word_character, is_word, is_identifier}
+use Rattle.spec_program.specs.Names.{is_letter, is_word_character, is_word, is_keyword, is_identifier}
 use Rattle.spec_program.specs.Tokens as t
 use Rattle.spec_program.specs.Tokens.{Token, reserved, looked_up, word_token}
 use Rattle.spec_spelling.proofs.Pieces.{Clear, clear, never, is_second, Piece}
@@ -81,6 +81,14 @@ name_first x u h e = piece_bare (identifier_piece x h) u (clear_of is_word_chara
 
 pub name_taken : (v w x u : Text) → IsTrue (is_identifier x) → bare v ≡ bare w → v ≡ x ++ u → goes_on is_word_character u ≡ false → bare w ≡ t.word x ∷ bare u
 name_taken v w x u h b e g = sym b ∙ ap bare e ∙ name_first x u h g
+
+word_of : (x : Text) → goes_on is_letter x ≡ true → IsTrue (list_all is_word_character x) → IsTrue (is_word x)
+word_of [] e h = absurd (cc e)
+word_of (c ∷ x) e h = and_also e (second_holds (is_word_character c) (list_all is_word_character x) h)
+
+pub letters_taken : (v w x u : Text) → bare v ≡ bare w → v ≡ x ++ u → goes_on is_letter x ≡ true → IsTrue (list_all is_word_character x)
+    → is_keyword x ≡ false → goes_on is_word_character u ≡ false → bare w ≡ t.word x ∷ bare u
+letters_taken v w x u b e l h k g = name_taken v w x u (and_also (word_of x l h) (ap not k)) b e g
 
 letter_unfolded : (c : ℕ) → IsTrue (is_letter (to_ascii_lowercase c)) → IsTrue (is_letter c)
 letter_unfolded c h = grind (arith, nat_tests)

@@ -5,6 +5,17 @@ ghost use Rattle.spec_program.specs.Names as names;
 ghost use Rattle.tokens_ahead.specs.Bare.{bare};
 ghost use Rattle.tokens_ahead.specs.Ahead.{goes_on};
 
+// Each character of a word stands at its own place, and a comma at every other place.
+static WORD_MAP: [u8; 256] = *b"\
+    ,,,,,,,,,,,,,,,,,,,,,,,,,,,,,,,,\
+    ,,,,,,,,,,,,,,,,0123456789,,,,,,\
+    ,ABCDEFGHIJKLMNOPQRSTUVWXYZ,,,,_\
+    ,abcdefghijklmnopqrstuvwxyz,,,,,\
+    ,,,,,,,,,,,,,,,,,,,,,,,,,,,,,,,,\
+    ,,,,,,,,,,,,,,,,,,,,,,,,,,,,,,,,\
+    ,,,,,,,,,,,,,,,,,,,,,,,,,,,,,,,,\
+    ,,,,,,,,,,,,,,,,,,,,,,,,,,,,,,,,";
+
 /// What stands behind this character.
 pub fn behind_byte(text: &[u8], wanted: u8) -> Option<&[u8]>
     ensures { IfSome result (λ r. text.now ≡ wanted ∷ r.now) }
@@ -58,10 +69,11 @@ pub fn is_letter(byte: u8) -> bool
 }
 
 /// A letter, an underscore or a digit.
+#[inline(always)]
 pub fn is_word_character(byte: u8) -> bool
     ensures { result ≡ names.is_word_character byte }
 {
-    is_letter(byte) || (48 <= byte && byte <= 57)
+    WORD_MAP[usize::from(byte)] != b','
 }
 
 /// Whether a text begins with a character of words.

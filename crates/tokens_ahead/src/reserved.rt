@@ -1,5 +1,5 @@
 //! The words that name nothing.
-ghost use Rattle.std.specs.Prelude.{◌≡◌, ℕ, List, map};
+ghost use Rattle.std.specs.Prelude.{◌≡◌, ◌∷◌, ℕ, List, map};
 ghost use Rattle.std.specs.List.{list_all, list_any};
 ghost use Rattle.std.specs.Borrow.{Bor};
 ghost use Rattle.spec_value.specs.Datum.{same_text, fold_case};
@@ -31,6 +31,7 @@ const OF_EIGHT: [&str; 7] = [
 const OF_NINE: [&str; 1] = ["e_recmove"];
 
 /// Whether a word is this one, the case of its letters ignored.
+#[inline(always)]
 pub fn is(word: &[u8], reserved: &[u8]) -> bool
     ensures { result ≡ same_text (fold_case word.now) reserved.now }
 {
@@ -45,18 +46,30 @@ pub fn is(word: &[u8], reserved: &[u8]) -> bool
     true
 }
 
-fn is_among(words: &[&str], word: &[u8]) -> bool
-    ensures { result ≡ list_any (same_text (fold_case word.now)) (map (λ (s : Bor (List ℕ)). s.now) words.now) }
+// Whether a first letter in lower case and what is behind it, in whatever case, are this word.
+#[inline(always)]
+fn are(first: u8, rest: &[u8], reserved: &[u8]) -> bool
+    ensures { result ≡ same_text (first ∷ fold_case rest.now) reserved.now }
+{
+    match reserved {
+        [head, tail @ ..] => first == *head && is(rest, tail),
+        [] => false,
+    }
+}
+
+#[inline(always)]
+fn are_among(words: &[&str], first: u8, rest: &[u8]) -> bool
+    ensures { result ≡ list_any (same_text (first ∷ fold_case rest.now)) (map (λ (s : Bor (List ℕ)). s.now) words.now) }
 {
     for reserved in words {
-        if is(word, reserved.as_bytes()) {
+        if are(first, rest, reserved.as_bytes()) {
             return true;
         }
     }
     false
 }
 
-/// Whether a word names nothing, the case of its letters ignored. They are told apart by their lengths first.
+/// Whether a word names nothing, the case of its letters ignored. They are told apart by their lengths and their first letters.
 #[tactic(auto, using(crate::proofs::Lengths::of_two, crate::proofs::Lengths::of_three, crate::proofs::Lengths::of_four, crate::proofs::Lengths::of_five, crate::proofs::Lengths::of_six, crate::proofs::Lengths::of_seven, crate::proofs::Lengths::of_eight, crate::proofs::Lengths::of_nine, crate::proofs::Lengths::of_short, crate::proofs::Lengths::of_long))]
 pub fn is_keyword(word: &[u8]) -> bool
     ensures { result ≡ names.is_keyword word.now }
@@ -65,15 +78,19 @@ pub fn is_keyword(word: &[u8]) -> bool
     if length < 2 || length > 9 {
         return false;
     }
+    let Some((first, rest)) = word.split_first() else {
+        return false;
+    };
+    let first = first.to_ascii_lowercase();
     match length {
-        2 => is_among(&OF_TWO, word),
-        3 => is_among(&OF_THREE, word),
-        4 => is_among(&OF_FOUR, word),
-        5 => is_among(&OF_FIVE, word),
-        6 => is_among(&OF_SIX, word),
-        7 => is_among(&OF_SEVEN, word),
-        8 => is_among(&OF_EIGHT, word),
-        _ => is_among(&OF_NINE, word),
+        2 => are_among(&OF_TWO, first, rest),
+        3 => are_among(&OF_THREE, first, rest),
+        4 => are_among(&OF_FOUR, first, rest),
+        5 => are_among(&OF_FIVE, first, rest),
+        6 => are_among(&OF_SIX, first, rest),
+        7 => are_among(&OF_SEVEN, first, rest),
+        8 => are_among(&OF_EIGHT, first, rest),
+        _ => are_among(&OF_NINE, first, rest),
     }
 }
 

@@ -1,14 +1,18 @@
 //! Names and keywords.
 ghost use Rattle.std.specs.Prelude.{◌≡◌, ◌++◌, ◌∷◌, length, take, drop, IfSome, IsTrue};
+ghost use Rattle.std.specs.List.{list_all};
 ghost use Rattle.spec_value.specs.Datum.{fold_case};
+ghost use Rattle.spec_program.specs.Names as names;
 ghost use Rattle.spec_program.specs.Names.{is_identifier};
 ghost use Rattle.spec_program.specs.Tokens as spec;
 ghost use Rattle.moo_token.specs.Meaning.{keyword_meant};
 ghost use Rattle.tokens_ahead.specs.Bare.{bare};
-ghost use Rattle.tokens_ahead.specs.Ahead.{lower};
+ghost use Rattle.tokens_ahead.specs.Ahead.{goes_on, lower};
 
-use crate::front::{behind, behind_blanks, continues_word};
-use crate::reserved::{is, is_identifier as is_name};
+use crate::front::{
+    behind, behind_blanks, behind_byte, continues_word, is_letter, is_word_character,
+};
+use crate::reserved::{is, is_keyword};
 use moo_token::token::Keyword;
 
 /// What stands behind this word, if it is the next token.
@@ -25,15 +29,62 @@ pub fn behind_word<'a>(text: &'a [u8], word: &[u8]) -> Option<&'a [u8]>
     Some(rest)
 }
 
-/// What stands behind this name, if it may be one and is the next token.
-pub fn behind_name<'a>(text: &'a [u8], name: &[u8]) -> Option<&'a [u8]>
-    ensures { IfSome result (λ r. bare text.now ≡ spec.word name.now ∷ bare r.now) }
+// Whether a word begins with a letter.
+#[inline(always)]
+fn has_letter(word: &[u8]) -> bool
+    ensures { result ≡ goes_on names.is_letter word.now }
 {
-    if is_name(name) {
-        behind_word(text, name)
+    match word {
+        [first, ..] => is_letter(*first),
+        [] => false,
+    }
+}
+
+// What stands behind these letters and digits.
+#[inline(always)]
+fn behind_letters<'a>(text: &'a [u8], word: &[u8]) -> Option<&'a [u8]>
+    ensures front { IfSome result (λ r. text.now ≡ word.now ++ r.now) }
+    ensures letters { IfSome result (λ r. IsTrue (list_all names.is_word_character word.now)) }
+{
+    let mut rest = text;
+    for byte in word {
+        match behind_letter(rest, *byte) {
+            Some(behind) => rest = behind,
+            None => return None,
+        }
+    }
+    Some(rest)
+}
+
+#[inline(always)]
+fn behind_letter(text: &[u8], letter: u8) -> Option<&[u8]>
+    ensures front { IfSome result (λ r. text.now ≡ letter ∷ r.now) }
+    ensures letter { IfSome result (λ r. IsTrue (names.is_word_character letter)) }
+{
+    if is_word_character(letter) {
+        behind_byte(text, letter)
     } else {
         None
     }
+}
+
+/// What stands behind this name, if it may be one and is the next token.
+#[tactic(auto, using(crate::proofs::Taken::letters_taken))]
+pub fn behind_name<'a>(text: &'a [u8], name: &[u8]) -> Option<&'a [u8]>
+    ensures { IfSome result (λ r. bare text.now ≡ spec.word name.now ∷ bare r.now) }
+{
+    if !has_letter(name) {
+        return None;
+    }
+    if is_keyword(name) {
+        return None;
+    }
+    let text = behind_blanks(text);
+    let rest = behind_letters(text, name)?;
+    if continues_word(rest) {
+        return None;
+    }
+    Some(rest)
 }
 
 // A keyword in lower case.

@@ -6,16 +6,28 @@ ghost use Rattle.spec_program.specs.Trees as spec;
 use moo_value::text::Text;
 use tokens_ahead::reserved::is_keyword;
 
+// Each character that goes on with a name stands at its own place, and a comma at every other place.
+static NAME_MAP: [u8; 256] = *b"\
+    ,,,,,,,,,,,,,,,,,,,,,,,,,,,,,,,,\
+    ,,,,,,,,,,,,,,,,0123456789,,,,,,\
+    ,,,,,,,,,,,,,,,,,,,,,,,,,,,,,,,_\
+    ,abcdefghijklmnopqrstuvwxyz,,,,,\
+    ,,,,,,,,,,,,,,,,,,,,,,,,,,,,,,,,\
+    ,,,,,,,,,,,,,,,,,,,,,,,,,,,,,,,,\
+    ,,,,,,,,,,,,,,,,,,,,,,,,,,,,,,,,\
+    ,,,,,,,,,,,,,,,,,,,,,,,,,,,,,,,,";
+
 fn begins_name(byte: u8) -> bool
     ensures { result ≡ spec.begins_name byte }
 {
     byte == b'_' || (97 <= byte && byte <= 122)
 }
 
+#[inline(always)]
 fn continues_name(byte: u8) -> bool
     ensures { result ≡ spec.continues_name byte }
 {
-    begins_name(byte) || (48 <= byte && byte <= 57)
+    NAME_MAP[usize::from(byte)] != b','
 }
 
 fn all_continue_name(bytes: &[u8]) -> bool

@@ -16,7 +16,7 @@ use moo_tree::expression::{
     Argument, Codes, Expression, ExpressionNode, Fallback, Item, Target, TargetNode,
 };
 use tokens_ahead::sign::behind_sign;
-use tokens_ahead::word::{behind_keyword, behind_name};
+use tokens_ahead::word::{behind_keyword, behind_word};
 
 /// What stands behind an expression.
 #[cycle(ahead)]
@@ -26,6 +26,18 @@ pub fn behind_expression<'a>(text: &'a [u8], expression: &Expression) -> Option<
     match &expression.node {
         ExpressionNode::Literal(value) => behind_literal(text, value),
         ExpressionNode::Variable(name) => behind_text(text, name),
+        _ => behind_compound(text, expression),
+    }
+}
+
+// What stands behind an expression that is no literal and no variable.
+#[cycle(ahead)]
+fn behind_compound<'a>(text: &'a [u8], expression: &Expression) -> Option<&'a [u8]>
+    ensures { IfSome result (λ r. bare text.now ≡ canonical.expression_tokens expression.now ++ bare r.now) }
+{
+    match &expression.node {
+        ExpressionNode::Literal(_) => None,
+        ExpressionNode::Variable(_) => None,
         ExpressionNode::OwnLength => behind_sign(text, Sign::Dollar),
         ExpressionNode::Unary(operator, operand) => {
             let rest = behind_unary(text, *operator)?;
@@ -138,6 +150,7 @@ pub fn behind_range<'a>(text: &'a [u8], first: &Expression, last: &Expression) -
 }
 
 // A property or a verb of an object: `$` stands for `#0` before a plain name.
+#[tactic(auto, using(crate::proofs::Plain::plain_is_identifier))]
 #[cycle(ahead)]
 fn behind_dotted<'a>(
     text: &'a [u8],
@@ -153,13 +166,13 @@ fn behind_dotted<'a>(
     if is_system(object) {
         if let Some(word) = plain {
             let rest = behind_sign(text, Sign::Dollar)?;
-            return behind_name(rest, word.as_bytes());
+            return behind_word(rest, word.as_bytes());
         }
     }
     let dot = behind_at(text, 8, object)?;
     let rest = behind_sign(dot, sign)?;
     match plain {
-        Some(word) => behind_name(rest, word.as_bytes()),
+        Some(word) => behind_word(rest, word.as_bytes()),
         None => behind_group(rest, name),
     }
 }

@@ -28,6 +28,9 @@ decreases-read_step l = 8 * l.room + 4
 abbrev pub decreases-read_bracket : goal.decreases-read_bracket
 decreases-read_bracket l = 8 * l.room + 1
 
+abbrev pub decreases-read_property : goal.decreases-read_property
+decreases-read_property l = 8 * l.room + 2
+
 abbrev pub decreases-read_name : goal.decreases-read_name
 decreases-read_name l = 8 * l.room + 2
 

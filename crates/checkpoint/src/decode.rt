@@ -1,18 +1,22 @@
 //! A world from its text.
-ghost use Rattle.std.specs.Prelude.{◌≡◌, ◌<◌, ◌^◌, Some, IsSomeAnd, IfOk, IfSome, length};
+ghost use Rattle.std.specs.Prelude.{◌≡◌, ◌<◌, ◌^◌, Some, None, IsSomeAnd, IfOk, IfSome, length};
 ghost use Rattle.spec_world.specs.World as meant;
 ghost use Rattle.spec_world.specs.Checkpoint.{checkpoint_text};
+ghost use Rattle.spec_faults.specs.Cutting.{lines_of};
+ghost use Rattle.spec_faults.specs.Faults.{first_fault};
 ghost use Rattle.view.specs.Sound.{IsSound};
+ghost use Rattle.checkpoint_lines.specs.declared.fault.DecodeError.TheVariants.{Line};
+ghost use Rattle.checkpoint_lines.specs.declared.fault.FaultKind.TheVariants as kind;
 ghost use Rattle.checkpoint_lines.specs.Gives.{Gives};
 ghost use Rattle.checkpoint_lines.specs.Told.{HasRoom};
 ghost use Rattle.checkpoint.specs.Readable.{IsReadable};
 ghost use Rattle.checkpoint.specs.Faulty.{TellsFirst};
 
 use crate::ahead::read_ahead;
+use crate::compare::{compared, compared_by_threads};
 use crate::draft::next_draft;
 use checkpoint_lines::fault::{DecodeError, FaultKind};
 use checkpoint_lines::lines::Lines;
-use checkpoint_text::encode::encode;
 use std::alloc::{AllocError, Global};
 use std::thread::Threads;
 use world::draft::Draft;
@@ -31,10 +35,15 @@ pub fn decode(alloc: Global, bytes: &[u8]) -> Result<World, DecodeError>
     ensures fault { TellsFirst result bytes.now }
 {
     let mut lines = Lines::new(bytes, Vec::new(alloc));
-    decoded(alloc, &mut lines, bytes)
+    let found = next_world(alloc, &mut lines)?;
+    let world = compared(alloc, found, bytes)?;
+    match world {
+        Some(world) => Ok(world),
+        None => Err(world_fault(&lines)),
+    }
 }
 
-/// The same, where the programs of verbs are read by several threads.
+/// The same, where several threads read the programs of verbs, and compare the text of objects.
 pub fn decode_by_threads<R: Threads + Sync>(
     rt: &R,
     alloc: Global,
@@ -47,51 +56,49 @@ pub fn decode_by_threads<R: Threads + Sync>(
 {
     let known = read_ahead(rt, alloc, bytes);
     let mut lines = Lines::new(bytes, known);
-    decoded(alloc, &mut lines, bytes)
-}
-
-// The world of all lines of a text.
-fn decoded(alloc: Global, lines: &mut Lines<'_>, bytes: &[u8]) -> Result<World, DecodeError>
-    requires left { lines.old.left.now ≡ bytes.now }
-    requires none { lines.old.count ≡ 0 }
-    requires room { HasRoom lines.old }
-    ensures text { IfOk result (λ w. bytes.now ≡ checkpoint_text w.plain) }
-    ensures opened { IfOk result (λ w. w.opened ≡ 0) }
-    ensures finds { (w : meant.World) → IsReadable w → bytes.now ≡ checkpoint_text w → Gives result (λ x. x.plain ≡ w) }
-    ensures fault { TellsFirst result bytes.now }
-{
-    let draft = next_draft(alloc, lines)?;
-    let world = world_of(alloc, draft, bytes)?;
+    let found = next_world(alloc, &mut lines)?;
+    let world = compared_by_threads(rt, alloc, found, bytes)?;
     match world {
         Some(world) => Ok(world),
-        None => Err(lines.fault(FaultKind::World)),
+        None => Err(world_fault(&lines)),
     }
 }
 
-// The world of a draft, if there is a draft, it is sound, and the bytes are its text.
-fn world_of(alloc: Global, draft: Option<Draft>, bytes: &[u8]) -> Result<Option<World>, AllocError>
-    ensures text { IfOk result (λ o. IfSome o (λ w. bytes.now ≡ checkpoint_text w.plain)) }
-    ensures opened { IfOk result (λ o. IfSome o (λ w. w.opened ≡ 0)) }
-    ensures finds { (w : meant.World) → draft ≡ Some w → IsSound w → bytes.now ≡ checkpoint_text w → IfOk result (λ o. IsSomeAnd o (λ x. x.plain ≡ w)) }
+// The fault of a text of which no line has a fault, and that no world has: it is told at the last line.
+fn world_fault(lines: &Lines<'_>) -> DecodeError
+    ensures { result ≡ Line lines.now.count kind.World }
 {
-    match draft {
-        Some(draft) => checked(alloc, draft, bytes),
-        None => Ok(None),
-    }
+    lines.fault(FaultKind::World)
 }
 
-fn checked(alloc: Global, draft: Draft, bytes: &[u8]) -> Result<Option<World>, AllocError>
-    ensures text { IfOk result (λ o. IfSome o (λ w. bytes.now ≡ checkpoint_text w.plain)) }
+// The world of all lines of a text. None where no line has a fault and yet no sound world is so.
+fn next_world(alloc: Global, lines: &mut Lines<'_>) -> Result<Option<World>, DecodeError>
+    requires none { lines.old.count ≡ 0 }
+    requires room { HasRoom lines.old }
     ensures opened { IfOk result (λ o. IfSome o (λ w. w.opened ≡ 0)) }
-    ensures finds { IsSound draft → bytes.now ≡ checkpoint_text draft → IfOk result (λ o. IsSomeAnd o (λ x. x.plain ≡ draft)) }
+    ensures finds { (w : meant.World) → IsReadable w → lines.old.left.now ≡ checkpoint_text w → Gives result (λ o. IsSomeAnd o (λ x. x.plain ≡ w)) }
+    ensures fault { TellsFirst result lines.old.left.now }
+    ensures faultless { IfOk result (λ _. first_fault lines.old.left.now ≡ None) }
+    ensures count { IfOk result (λ _. lines.new.count ≡ length (lines_of lines.old.left.now).lines) }
 {
+    let draft = next_draft(alloc, lines)?;
+    let world = sound_world(alloc, draft)?;
+    Ok(world)
+}
+
+// A draft as a world, if there is a draft, and it is sound.
+fn sound_world(alloc: Global, draft: Option<Draft>) -> Result<Option<World>, AllocError>
+    ensures plain { IfOk result (λ o. IfSome o (λ w. draft ≡ Some w.plain)) }
+    ensures opened { IfOk result (λ o. IfSome o (λ w. w.opened ≡ 0)) }
+    ensures finds { (w : meant.World) → draft ≡ Some w → IsSound w → IfOk result (λ o. IsSomeAnd o (λ x. x.plain ≡ w)) }
+{
+    let Some(draft) = draft else {
+        return Ok(None);
+    };
     let sound = is_sound(alloc, &draft)?;
-    if !sound {
-        return Ok(None);
+    if sound {
+        Ok(Some(World::of_draft(draft)))
+    } else {
+        Ok(None)
     }
-    let text = encode(alloc, &draft)?;
-    if text.as_str().as_bytes() != bytes {
-        return Ok(None);
-    }
-    Ok(Some(World::of_draft(draft)))
 }

@@ -5,6 +5,7 @@
 #![tactic(auto)]
 
 mod ahead;
+mod compare;
 pub mod decode;
 mod draft;
 pub mod laws;

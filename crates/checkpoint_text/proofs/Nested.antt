@@ -2,7 +2,7 @@
 use Rattle.std.proofs.Common.{◌≡◌, List, [], ◌∷◌, ◌++◌, refl, sym, ap, ◌∙◌, append_assoc}
 use Rattle.std.specs.Borrow.{Bor}
 use Rattle.spec_value.specs.Datum.{Datum, Text, of_list}
-use Rattle.spec_value.specs.Literal.{literal, data_text, more_text}
+use Rattle.spec_value.specs.Literal.{literal, more_text}
 use Rattle.checkpoint_text.specs.Nested.{closed_before, closed, to_come, first_to_last, more_to_last}
 
 -- the innermost list

@@ -36,3 +36,11 @@ module _ {X : Type 0} (f : ℤ → X → List Text) (m : Numbered X) where
 pub objects_in_pieces : (w : World) (size : ℕ) (ks : List ℤ) → 0 < size → flat_map (objects_text w) (chunks_of size ks) ≡ objects_text w ks
 unfolding objects_text
 objects_in_pieces w size ks some = in_pieces (object_lines w) w.objects size ks some
+
+pub objects_behind : (w : World) (ks js : List ℤ) → objects_text w (ks ++ js) ≡ objects_text w ks ++ objects_text w js
+unfolding objects_text
+objects_behind w ks js = written_behind (object_lines w) w.objects ks js
+
+pub no_objects : (w : World) → objects_text w [] ≡ []
+unfolding objects_text
+no_objects w = refl

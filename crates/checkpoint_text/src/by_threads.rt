@@ -52,12 +52,12 @@ fn put_object_part<R: Threads + Sync>(
     let shortcuts = shortcuts(alloc, draft, numbers.as_slice())?;
     page.put_count("objects", numbers.as_slice().len())?;
     let pieces = pieces(rt, alloc, snapshot, &shortcuts, numbers.as_slice())?;
-    put_pieces(page, &pieces)?;
+    put_pieces(page, pieces)?;
     Ok(())
 }
 
-// The lines of the objects of these numbers, in pieces.
-fn pieces<R: Threads + Sync>(
+/// The lines of the objects of these numbers, in pieces.
+pub(crate) fn pieces<R: Threads + Sync>(
     rt: &R,
     alloc: Global,
     snapshot: &Snapshot,
@@ -96,9 +96,9 @@ fn piece_of(
     Ok(page.into_string())
 }
 
-// Writes pieces one behind the other.
-fn put_pieces(page: &mut Page, pieces: &[String]) -> Result<(), AllocError>
-    ensures { OnOk result (page.new ≡ page.old ++ flat_map (λ t. string_bytes t) pieces.now) }
+// Writes pieces one behind the other, and lets each go once it is written.
+fn put_pieces(page: &mut Page, pieces: Vec<String>) -> Result<(), AllocError>
+    ensures { OnOk result (page.new ≡ page.old ++ flat_map (λ t. string_bytes t) pieces.items) }
 {
     for piece in pieces {
         page.put(piece.as_str())?;

@@ -6,5 +6,7 @@ pub mod checkpoint_fields;
 pub mod checkpoint_frames;
 pub mod checkpoint_objects;
 pub mod checkpoint_tasks;
+pub mod compare;
+pub mod compare_by_threads;
 pub mod encode;
 mod tasks;

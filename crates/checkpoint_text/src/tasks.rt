@@ -24,7 +24,8 @@ pub fn put_tasks(
     Ok(())
 }
 
-fn put_found(page: &mut Page, alloc: Global, draft: &Draft, id: i32) -> Result<(), AllocError>
+/// Writes the task of an id, if there is one.
+pub fn put_found(page: &mut Page, alloc: Global, draft: &Draft, id: i32) -> Result<(), AllocError>
     ensures { OnOk result (page.new ≡ page.old ++ with_line_ends (of_found task_lines id (at draft.now.tasks id))) }
 {
     match draft.task(id) {

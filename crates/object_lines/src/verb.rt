@@ -62,6 +62,7 @@ fn so_many_verbs(alloc: Global, lines: &mut Lines<'_>, count: u64) -> Result<Vec
         let verb = next_verb(alloc, lines)?;
         verbs.push(verb)?;
     }
+    verbs.shrink_to_fit();
     Ok(verbs)
 }
 

@@ -4,6 +4,7 @@ ghost use Rattle.std.specs.Fmt.{decimal, signed_decimal};
 ghost use Rattle.spec_value.specs.Datum.{list, of_list, text as text_of, is_text};
 ghost use Rattle.spec_value.specs.Literal.{literal, escape, escaped};
 ghost use Rattle.spec_world.specs.Checkpoint.{flag, object_text, letter_if};
+ghost use Rattle.checkpoint_text.specs.Behind.{BeginsOtherwise};
 
 use itoa::Buffer;
 use moo_value::text::Text;
@@ -42,6 +43,20 @@ impl Page {
         ensures { string_bytes result ≡ self }
     {
         self.text
+    }
+
+    /// Nothing is written any more. The memory stays for what comes.
+    pub(crate) fn clear(&mut self)
+        ensures { self.new ≡ [] }
+    {
+        self.text.clear();
+    }
+
+    /// What stands behind what was written, in a text that begins with it.
+    pub(crate) fn behind<'b>(&self, bytes: &'b [u8]) -> Option<&'b [u8]>
+        ensures { MatchOption result (BeginsOtherwise self.now bytes.now) (λ rest. bytes.now ≡ self.now ++ rest.now) }
+    {
+        behind(self.text.as_str().as_bytes(), bytes)
     }
 
     /// Writes text.
@@ -178,6 +193,13 @@ impl Page {
         }
         self.text.push(char::from(byte))
     }
+}
+
+/// What stands behind a text, in one that begins with it.
+pub(crate) fn behind<'b>(front: &[u8], bytes: &'b [u8]) -> Option<&'b [u8]>
+    ensures { MatchOption result (BeginsOtherwise front.now bytes.now) (λ rest. bytes.now ≡ front.now ++ rest.now) }
+{
+    bytes.strip_prefix(front)
 }
 
 // Whether a text has no quote and no backslash.

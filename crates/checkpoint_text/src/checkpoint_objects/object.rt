@@ -32,7 +32,8 @@ pub fn put_objects(
     Ok(())
 }
 
-fn put_found(
+/// Writes the object of a number, if there is one.
+pub(crate) fn put_found(
     page: &mut Page,
     alloc: Global,
     draft: &Draft,

@@ -1,5 +1,5 @@
 use denote.Param.Send.{sendable}
-use Rattle.std.proofs.Common.{◌≡◌, ℕ, ℤ, List, max, ap, ◌∙◌, ◌<◌, string_bytes, arith}
+use Rattle.std.proofs.Common.{ℕ, ℤ, List, max, ap, ◌∙◌, ◌<◌, string_bytes, arith}
 use Rattle.std.proofs.Crossing.{crosses}
 use Rattle.std.specs.List.{flat_map}
 use Rattle.rayon.specs.Lists.{chunks_of, chunks_size, chunks_slice, min_len_base}

@@ -1,6 +1,5 @@
-use Rattle.std.proofs.Common.{List, length, refl, sym, ap, ◌++◌, ◌∙◌, string_bytes}
+use Rattle.std.proofs.Common.{length, refl, sym, ap, ◌++◌, ◌∙◌}
 use Rattle.std.specs.Prelude.{codes}
-use Rattle.std.specs.List.{flat_map}
 use Rattle.spec_world.specs.World.{World}
 use Rattle.spec_world.specs.Checkpoint.{object_lines, each_object}
 use Rattle.checkpoint_text.specs.Parts.{objects_text}
@@ -14,7 +13,7 @@ returns g c =
     let counts = c.put_count.new.self in
     let ks = c.as_slice-3.result.now in
     let written =
-    c.in_ok-put_pieces.ensures ∙ ap (λ ts. counts ++ flat_map (λ t. string_bytes t) ts) c.deref-2.ensures.value ∙ ap (λ t. counts ++ t) c.in_ok-pieces.ensures
+    c.in_ok-put_pieces.ensures ∙ ap (λ t. counts ++ t) c.in_ok-pieces.ensures
     ∙ ap (λ (v : World). counts ++ objects_text v ks) (sym c.requires.same) in
     part_written (object_lines w) (codes "objects") w.objects c.as_slice-2.result.now ks (each_object w w.objects) (length c.as_slice-2.result.now)
     c.args.page.now counts c.put_pieces.new.page c.requires.objects (c.as_slice-2.ensures ∙ c.in_ok-numbers.ensures) (c.as_slice-3.ensures ∙ c.in_ok-numbers.ensures)

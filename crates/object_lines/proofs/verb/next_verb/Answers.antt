@@ -1,10 +1,10 @@
-use Rattle.std.proofs.Common.{◌++◌, length, ◌∙◌, [], ◌∷◌}
+use Rattle.std.proofs.Common.{◌++◌, length, [], ◌∷◌}
 use Rattle.spec_program.specs.Spelling.{canonical_lines}
 use Rattle.object_lines.proofs.ObjectParts.{front_within}
 use Rattle.object_lines.proofs.Rows.{verb_tree}
 use Rattle.std.proofs.lemmas.Result.{err_from_is_err_and}
 use Rattle.checkpoint_lines.proofs.Giving.{gives_passed}
-use Rattle.checkpoint_lines.proofs.Going.{no_memory, passed_on, then_fails, then_goes}
+use Rattle.checkpoint_lines.proofs.Going.{passed_on, then_fails, then_goes}
 use Rattle.spec_faults.specs.Awaited.{verb, code, of_verb}
 use Rattle.object_lines.proofs.verb.next_verb.Goals as goal
 

@@ -1,4 +1,4 @@
-use Rattle.std.proofs.Common.{◌≡◌, ◌≤◌, ◌<◌, suc, ◌+◌, List, ◌++◌, length, drop, ap, subst, arith, ◌∷◌, []}
+use Rattle.std.proofs.Common.{◌≡◌, ◌∙◌, ◌≤◌, ◌<◌, suc, ◌+◌, List, ◌++◌, length, drop, ap, subst, arith, ◌∷◌, []}
 use Rattle.std.proofs.Math.ListN.{drop_of_length-le}
 use Rattle.std.proofs.lemmas.Result.{err_from_is_err_and}
 use Rattle.spec_world.specs.World.{Verb}
@@ -54,7 +54,7 @@ returns c = record {
       let inv = c.reading.invariant.0 xs rest h n l in
       let past : length xs ≤ c.reading._verb = omega arith in
       let left : Left c.reading.lines rest = subst (λ us. Left c.reading.lines (each_verb us ++ rest)) (drop_of_length-le xs past) inv.0 in
-      (all_read c.reading.verbs.items xs xs c.reading._verb past inv.1, left);
+      (c.shrink_to_fit.ensures.items ∙ all_read c.reading.verbs.items xs xs c.reading._verb past inv.1, left);
   tells = all_of_them c.args.lines.now c.reading.lines c.args.count c.reading._verb awaited.each_verb (omega arith) c.reading.invariant.1;
 }
 

@@ -1,4 +1,4 @@
-use Rattle.std.proofs.Common.{◌≡◌, ◌+◌, ◌-◌, ◌++◌, map, option_map, Bor, sym, ap, ◌∙◌, arith, rules, w32, to_z, of_z}
+use Rattle.std.proofs.Common.{◌≡◌, ◌-◌, ◌++◌, map, option_map, Bor, sym, ap, ◌∙◌, arith, rules, w32, to_z, of_z}
 use Rattle.std.proofs.lemmas.Int.{to_z-of_z}
 use Rattle.spec_world.specs.World.{Slot, Object, object_at}
 use Rattle.spec_world.specs.Inherit.{ancestors, line}

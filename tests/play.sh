@@ -68,6 +68,9 @@ run fixture "$(printf 'caf\351')" --workers 2
 wants "a word that is not UTF-8" 2 '' 'moo-play: cannot read caf\0351\n'
 run "$(printf '\377')" "$work/none" --workers 0
 wants "a world that is not UTF-8" 2 '' 'moo-play: cannot read \0377\n'
+long=$(printf '\377%05000d' 0)
+run fixture "$long"
+wants "a long word that is not UTF-8" 2 '' "moo-play: cannot read \\0377${long#?}\\n"
 
 # The example of the page on scripts, which is also a file.
 example() {

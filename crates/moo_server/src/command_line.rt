@@ -10,8 +10,8 @@ use std::io::Write;
 use std::rt::Env;
 use std::{env, io, str};
 
-// The longest path that a system opens.
-const LONGEST_PATH: usize = 4096;
+// The longest word that the system hands to a program.
+const LONGEST_WORD: usize = 131_072;
 
 /// The words, the first of which is the program's name.
 pub fn read_words<R: Env + AllocGlobal>(rt: &R) -> io::Result<Vec<String>> {
@@ -37,7 +37,7 @@ pub fn refuse<E: Write>(errors: &mut E, program: &str, fault: &str) -> u8
 }
 
 /// The words could not be read: memory ran out, or one of them is not UTF-8. It is told as it was given.
-pub fn refuse_words<R: Env, E: Write>(
+pub fn refuse_words<R: Env + AllocGlobal, E: Write>(
     rt: &R,
     errors: &mut E,
     program: &str,
@@ -46,7 +46,10 @@ pub fn refuse_words<R: Env, E: Write>(
     if error.kind() == io::ErrorKind::OutOfMemory {
         return stopped(errors, 0);
     }
-    let mut word = [0u8; LONGEST_PATH];
+    let mut word = Vec::new(rt.alloc());
+    if word.resize(LONGEST_WORD, 0).is_err() {
+        return stopped(errors, 0);
+    }
     for i in 0..usize::MAX {
         match rt.arg(i, &mut word) {
             Ok(length) if str::from_utf8(&word[..length]).is_err() => {

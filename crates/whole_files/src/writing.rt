@@ -20,8 +20,8 @@ impl<R: AllocGlobal + Files> WholeFiles for R {
 const MOST_NAMES: u32 = 100;
 
 /// Writes bytes into a file. They are written into another file beside it, which then takes its name: a stop in the middle leaves the file as it was, and
-/// the one beside it, `FILE.new0` or one with the next number that is free. The file keeps who may read and write it; one that nobody may write is
-/// refused. What is no file, as a device, is written to as it is.
+/// the one beside it, `FILE.new0` or one with the next number that is free. The file keeps who may read and write it; one that nobody, or this
+/// user, may write is refused. What is no file, as a device, is written to as it is.
 pub fn write_file<R: AllocGlobal + Files>(rt: &R, name: &str, bytes: &[u8]) -> io::Result<()> {
     let about = match fs::metadata(rt, name) {
         Ok(about) => about,
@@ -37,6 +37,7 @@ pub fn write_file<R: AllocGlobal + Files>(rt: &R, name: &str, bytes: &[u8]) -> i
     if permissions.readonly() {
         return Err(io::Error::from(ErrorKind::PermissionDenied));
     }
+    may_write(rt, name)?;
     // What a link names is written, and not the link.
     let path = fs::canonicalize(rt, name)?;
     put_in_place(rt, path.as_str(), bytes, Some(permissions))
@@ -85,6 +86,12 @@ fn fill<F: Write + OpenFile + Drop>(
     }
     file.write_all(bytes)?;
     file.sync_all()
+}
+
+// Whether this user may write to a file. Its folder may allow to put another file in its place all the same.
+fn may_write<R: Files>(rt: &R, name: &str) -> io::Result<()> {
+    let _file = OpenOptions::new().write(true).open(rt, name)?;
+    Ok(())
 }
 
 // Writes to what has this name.

@@ -1,5 +1,5 @@
 //! The shared items of lists.
-ghost use Rattle.std.specs.Prelude.{◌≡◌, ◌<◌, ◌≤◌, ◌++◌, ◌+◌, length, take, drop, IfOk, OnOk, IsTrue, min, is_ok, Some, if◌then◌else◌};
+ghost use Rattle.std.specs.Prelude.{◌≡◌, ◌<◌, ◌≤◌, ◌++◌, ◌∷◌, [], ◌+◌, length, take, drop, IfOk, OnOk, OnErr, IsTrue, min, is_ok, Some, if◌then◌else◌};
 ghost use Rattle.std.specs.Arc.{arc_value};
 ghost use Rattle.spec_value.specs.Datum.{of_list, append, are_values, data_weight};
 ghost use Rattle.spec_value.specs.Places.{item_at, with_item, inserted, without};
@@ -98,11 +98,24 @@ pub(crate) fn push(items: &mut Arc<Vec<Value>>, item: Value) -> Result<(), Alloc
 {
     match Arc::get_mut(items) {
         Some(own) => {
-            own.push(item)?;
+            put_last(own, item)?;
             Ok(())
         }
         None => push_shared(items, item),
     }
+}
+
+// One item more. It is put where it stays: one that is handed to another function is copied, and the processor waits for the copy.
+#[inline(always)]
+fn put_last(items: &mut Vec<Value>, item: Value) -> Result<(), AllocError>
+    ensures ok { OnOk result (items.new.items ≡ items.old.items ++ item ∷ []) }
+    ensures err { OnErr result (items.new.items ≡ items.old.items) }
+{
+    if items.len() == items.capacity() {
+        items.reserve(1)?;
+    }
+    items.push_reserved(item);
+    Ok(())
 }
 
 // The same where there may be other owners.

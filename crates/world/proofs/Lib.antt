@@ -22,3 +22,4 @@ pub mod LinksKept
 pub mod DueWalks
 pub mod Alike
 pub mod Written
+pub mod Marked

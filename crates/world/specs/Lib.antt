@@ -18,3 +18,6 @@ pub mod LinkTable
 pub mod Revised
 pub mod Due
 pub mod Moved
+pub mod Marked
+pub mod Trails
+pub mod TrailFalls

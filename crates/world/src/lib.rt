@@ -4,8 +4,8 @@
 //! the plain world of the definitions, and the number of views that were opened to change it. A step reads a world by questions
 //! and changes it by changes, over a `View`: what a generic function proves over a view holds for every world that could have
 //! given the same answers. `Live` is a view of the world itself, whose changes are kept or forgotten at its end; `Alone` is one
-//! of a borrowed world, which gives the changes at its end; a `Tracked` one records what was read, so that another thread can check
-//! a guess later.
+//! of a borrowed world, which gives the changes at its end; `Marking` is such a one that also tells on which objects slots were asked
+//! for; a `Tracked` one records what was read, so that another thread can check a guess later.
 #![tactic(auto)]
 
 pub mod alone;
@@ -20,6 +20,7 @@ pub mod keeping;
 mod late;
 mod links;
 pub mod live;
+pub mod marking;
 mod moments;
 mod noted;
 mod overlay;
@@ -31,5 +32,6 @@ pub mod seen;
 pub mod shared;
 mod tasks;
 pub mod tracked;
+mod trail;
 pub mod worlds;
 mod writing;

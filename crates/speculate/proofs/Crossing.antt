@@ -1,26 +1,31 @@
 -- The board under its lock may be lent to other threads, and a worker with what it is lent may go to one.
 use denote.Param as param
-use denote.Param.Send.{IsSend, IsSync, sendable}
-use denote.Param.SendFields.{as_row_send, declared_send}
+use denote.Param.Send.{IsSend, IsSync, sendable, view_send}
+use denote.Param.SendFields.{as_row_send, declared_send, declared_sync}
 use denote.RattleType.{RattleType}
 use denote.Ref.{NamedLft}
-use denote.Struct.Field.{shr_ref_field, shr_slice_field, u64-field}
+use denote.Struct.Field.{shr_ref_field, shr_slice_field, u8-field, u64-field}
 use denote.Struct.Tuple.{type_at, TupleAt}
 use mir.Syntax.{Sym}
 use Rattle.std.specs.Prelude.{List, [], ◌∷◌}
-use Rattle.std.proofs.Crossing.{crosses}
+use Rattle.std.proofs.Crossing.{Vec-send, crosses}
 use Rattle.round_claims.proofs.Crossing.{claims_sync, seat_send}
 use Rattle.round_claims.specs.contracts.claims.Claims as claims
 use Rattle.round_claims.specs.contracts.claims.ClaimSeat as seat
 use Rattle.view.proofs.PartsCrossing.{changes_send}
 use Rattle.task_step.proofs.Crossing.{step_send, step_sync, outcome_send}
-use Rattle.world.proofs.Crossing.{count_send, seen_send, shared_send, world_send}
+use Rattle.world.proofs.Crossing.{count_send, seen_send, shared_send, snapshot_sync, world_send}
+use Rattle.speculate.specs.contracts.bench.Bench as bench
+use Rattle.speculate.specs.contracts.bench.Ran as ran
+use Rattle.speculate.specs.contracts.bench.Ran.TheInside as inside
 use Rattle.speculate.specs.contracts.board.Board as board
 use Rattle.speculate.specs.contracts.guesses.Remains as remains
 use Rattle.speculate.specs.contracts.guesses.Guess as guess
 use Rattle.speculate.specs.contracts.guesses.Spent as spent
 use Rattle.speculate.specs.contracts.held.Held as held
 use Rattle.speculate.specs.contracts.held.Mark as mark
+use Rattle.speculate.specs.contracts.lane.Lane as lane
+use Rattle.speculate.specs.contracts.lane.Told as told
 use Rattle.speculate.specs.contracts.luck.Luck as luck
 use Rattle.speculate.specs.contracts.shared.SharedBoard as shared
 use Rattle.speculate.specs.contracts.shared.Tied as tied
@@ -30,6 +35,7 @@ use Rattle.speculate.specs.declared.shared.Run as Run
 use Rattle.std.specs.contracts.alloc.Global as Global
 use Rattle.std.specs.contracts.marker.PhantomData as PhantomData
 use Rattle.task_step.specs.contracts.step.Step as step
+use Rattle.world.specs.contracts.worlds.Snapshot as snapshot
 
 slots_send : IsSend slots.the_row
 slots_send = search (sendable, crosses) depth 60
@@ -96,6 +102,46 @@ worker_send J G R g n a b c d e j gate runtime =
                 ),
               ),
             ),
+          ),
+        ),
+      ),
+    )
+
+-- ---- lanes
+
+told_send : IsSend told.the_row
+told_send = search (sendable, crosses, outcome_send) depth 60
+
+lane_send : IsSend lane.the_row
+lane_send = search (sendable, crosses, told_send, changes_send) depth 60
+
+ran_send : (J : RattleType) (g : Run.Ghosts J.Denot) → IsSend J → IsSend (ran.the_row J g)
+ran_send J g s = view_send _ _ _ _ _ (declared_send (inside.the_type J g) ((search (sendable, crosses, lane_send) depth 60), (phantom_send J, tt)))
+
+bench_sync : (J : RattleType) (g : Run.Ghosts J.Denot) → IsSend J → IsSync (bench.the_row J g)
+bench_sync J g s =
+    let t = ran_send J g s in
+    let v = Vec-send (ran.the_row J g) t in declared_sync (bench.the_type J g) ((search (sendable, crosses) depth 60), ((search (sendable, crosses, v) depth 60), tt))
+
+-- what a lane's thread is lent: the runtime, the allocator, the snapshot, the steps, their colors, the lane's number, and the bench
+abbrev LentToLane : (J R : RattleType) → Run.Ghosts J.Denot → (runtime home steps colors bench : NamedLft) → List RattleType
+LentToLane J R g a b c d e =
+    (shr_ref_field a (param.param 1 R) tt).row ∷ Global.the_row ∷ (shr_ref_field b snapshot.the_row tt).row ∷ (shr_slice_field c step.the_row tt).row
+    ∷ (shr_slice_field d u8-field.row tt).row ∷ u64-field.row ∷ (shr_ref_field e (bench.the_row (param.param 0 J) g) tt).row ∷ []
+
+pub lane_thread_send : (J R : RattleType) (g : Run.Ghosts J.Denot) (n : Sym) (a b c d e : NamedLft)
+    → IsSend (param.param 0 J) → IsSync (param.param 1 R) → IsSend (TupleAt n (LentToLane J R g a b c d e))
+lane_thread_send J R g n a b c d e j runtime =
+    let shared = bench_sync (param.param 0 J) g j in
+    declared_send (type_at n (LentToLane J R g a b c d e)) (
+      (search (sendable, crosses, runtime) depth 60),
+      (
+        (search (sendable, crosses, as_row_send) depth 60),
+        (
+          (search (sendable, crosses, as_row_send, snapshot_sync) depth 60),
+          (
+            (search (sendable, crosses, as_row_send, step_sync) depth 60),
+            ((search (sendable, crosses) depth 60), ((search (sendable, crosses) depth 60), ((search (sendable, crosses, shared) depth 60), tt))),
           ),
         ),
       ),

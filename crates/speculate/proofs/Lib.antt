@@ -1,6 +1,7 @@
 pub mod Alone
 pub mod Crossing
 pub mod Honest
+pub mod Marked
 pub mod Parts
 pub mod Places
 pub mod Plays
@@ -9,4 +10,8 @@ pub mod Rests
 pub mod Seen
 pub mod Stamped
 pub mod Stays
+pub mod Strands
 pub mod Verbs
+pub mod Woven
+pub mod Tables
+pub mod Elsewhere

@@ -1,10 +1,10 @@
 -- What stamps tell of answers.
-use Rattle.std.proofs.Common.{◌≡◌, ◌≢◌, ◌⊎◌, ℕ, zero, suc, ◌+◌, ◌<◌, ◌≤◌, ℤ, Bool, true, false, ◌&&◌, List, [], ◌∷◌, map, take, length, get_or, Option, Some, None, option_map, slice_get, slice_set, refl, sym, ap, subst, ◌∙◌, arith, inl, inr}
-use Rattle.spec_value.specs.Datum.{Datum, Text, fold_case}
-use Rattle.spec_world.specs.World.{World, Slot}
+use Rattle.std.proofs.Common.{◌≡◌, ◌≢◌, ◌⊎◌, ℕ, zero, suc, ◌+◌, ◌<◌, ◌≤◌, ℤ, false, List, [], ◌∷◌, map, take, length, get_or, Some, None, slice_get, slice_set, refl, sym, ap, subst, ◌∙◌, arith, inl, inr}
+use Rattle.spec_value.specs.Datum.{Datum, Text}
+use Rattle.spec_world.specs.World.{World}
 use Rattle.spec_world.specs.Step.{Step}
 use Rattle.spec_world.specs.Outcome.{Outcome}
-use Rattle.spec_world.specs.Questions.{Question, about_header, about_children, about_contents, about_defines, about_slot, about_verbs, about_task, about_waiting, about_link, about_readers, about_connections, about_connected, about_greatest, about_ending, the_slot, ask, slot_on, Read, Agrees, Change, new_value, new_next, apply, apply_all}
+use Rattle.spec_world.specs.Questions.{Question, about_header, about_children, about_contents, about_defines, about_slot, about_verbs, about_task, about_waiting, about_link, about_readers, about_connections, about_connected, about_greatest, about_ending, ask, Read, Agrees, Change, new_value, new_next, apply, apply_all}
 use Rattle.view.specs.Sound.{IsSound}
 use Rattle.view.specs.Meanings.{change_of}
 use Rattle.view.specs.declared.change.Change as shown
@@ -13,7 +13,6 @@ use Rattle.world.specs.Late.{is_about_slot}
 use Rattle.world.specs.Trace.{Trace, IsStart, world_now}
 use Rattle.world.proofs.History.{next_unseen, answered_now}
 use Rattle.world.proofs.Lightly.{all_unseen, taken_more, all_taken}
-use Rattle.world.proofs.Local.{same_number, same_name, number_is, refilled, value_after}
 use Rattle.speculate.specs.declared.held.Held.{Held}
 use Rattle.speculate.specs.declared.held.Held.TheVariants.{Empty, Loss, Holds}
 use Rattle.speculate.specs.declared.slots_read.SlotsRead.{SlotsRead}
@@ -21,6 +20,7 @@ use Rattle.speculate.specs.declared.stamps.Stamps.{Stamps}
 use Rattle.speculate.specs.BoardState.{BoardState, IsHonest, IsSeen, world_after}
 use Rattle.speculate.specs.Fresh.{IsAmong, IsCovered, Covers, place, IsStill, IsFresh, Passes, Turns}
 use Rattle.speculate.specs.Known.{AreStamped, KnowsFresh}
+use Rattle.speculate.proofs.Elsewhere.{value_elsewhere}
 use Rattle.speculate.proofs.Places.{held_at}
 use Rattle.speculate.proofs.Plays.{play_none}
 
@@ -65,17 +65,9 @@ still_before old new o r n k is less still =
     let e = set_here old.places.items (place r) n still.0 (subst Q same now) in absurd (omega (arith, e, less, still.2)) in
     (other, (still.0, sym (set_elsewhere old.places.items (place o) (place r) n other) ∙ now, still.2))
 
-same_slot : (v : Datum) (s : Option (Option Slot)) → option_map (refilled false v) s ≡ s
-same_slot v None = refl
-same_slot v (Some s) = refl
-
 -- another value in a slot of an object is not seen on others
 other_object : (o r : ℤ) (p t : Text) (v : Datum) (w : World) → place o ≢ place r → ask (apply (new_value o p v) w) (about_slot r t) ≡ ask w (about_slot r t)
-other_object o r p t v w other = value_after o p v w (about_slot r t) ∙ go (same_number r o) refl
-  where
-    go : (b : Bool) → same_number r o ≡ b → the_slot (option_map (refilled (b && same_name (fold_case t) (fold_case p)) v) (slot_on w r t)) ≡ the_slot (slot_on w r t)
-    go true e = absurd (other (ap place (sym (number_is r o e))))
-    go false e = ap the_slot (same_slot v (slot_on w r t))
+other_object o r p t v w other = value_elsewhere o p v w r t (λ same. other (ap place (sym same)))
 
 -- an object's slots are stamped, and one of them gets another value
 pub raised : (old new : Stamps) (o : ℤ) (p : Text) (v : Datum) (n : ℕ) → new.others ≡ old.others → new.places.items ≡ slice_set old.places.items (place o) n
@@ -212,7 +204,7 @@ all_fresh s slots k others few first second third about_ending c = others
 
 -- ---- boards
 
-le_cases : (k n : ℕ) → k ≤ n → (k < n) ⊎ (k ≡ n)
+pub le_cases : (k n : ℕ) → k ≤ n → (k < n) ⊎ (k ≡ n)
 le_cases zero zero below = inr refl
 le_cases zero (suc n) below = inl (omega arith)
 le_cases (suc k) zero below = absurd (omega arith)

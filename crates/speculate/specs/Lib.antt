@@ -3,7 +3,10 @@ pub mod BoardState
 pub mod Events
 pub mod Fresh
 pub mod Known
+pub mod Lanes
+pub mod Moves
 pub mod Parts
 pub mod Progress
 pub mod Right
 pub mod Verbs
+pub mod Tables

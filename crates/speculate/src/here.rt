@@ -176,9 +176,13 @@ fn keep_tried(alloc: Global, world: &mut World, room: &mut Room, step: &Step) ->
     }
 }
 
-// The world has these changes, which these records have too, where they were made. After want of memory nothing has changed.
+/// The world has these changes, which these records have too, where they were made. After want of memory nothing has changed.
 #[inline(always)]
-fn take_over(world: &mut World, changes: &Changes, after: Option<Draft>) -> Result<(), AllocError>
+pub(crate) fn take_over(
+    world: &mut World,
+    changes: &Changes,
+    after: Option<Draft>,
+) -> Result<(), AllocError>
     requires sound { IsSound (apply_all changes.now world.old.plain) }
     requires after { IfSome after (λ d. d ≡ apply_all changes.now world.old.plain) }
     ensures plain { OnOk result (world.new.plain ≡ apply_all changes.now world.old.plain) }

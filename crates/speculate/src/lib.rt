@@ -1,19 +1,24 @@
 //! Lists of steps by several workers: guesses of steps on snapshots, and the board that commits them in their order.
 #![tactic(auto)]
 
+mod bench;
 pub mod board;
 mod commit;
 mod crew;
 mod desk;
+mod fence;
 mod finish;
 pub mod gate;
 pub mod guesses;
 pub mod guessing;
 pub mod held;
 mod here;
+mod lane;
+mod lanes;
 pub mod list;
 mod luck;
 mod pace;
+mod plan;
 pub mod report;
 mod room;
 pub mod schedules;
@@ -25,3 +30,4 @@ mod stamps;
 mod stretches;
 mod trying;
 mod watched;
+mod weaving;

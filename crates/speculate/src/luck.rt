@@ -37,3 +37,43 @@ impl Luck {
         self.rerun <= self.kept.saturating_mul(3)
     }
 }
+
+/// Whether lanes are worth another try: after each that failed they are left alone for more stretches.
+#[derive(Drop)]
+pub(crate) struct Hope {
+    wait: u32,
+    next_wait: u32,
+}
+
+// For so many stretches at most.
+const LONGEST_WAIT: u32 = 64;
+
+impl Hope {
+    /// Nothing has failed.
+    pub(crate) fn new() -> Hope {
+        Hope {
+            wait: 0,
+            next_wait: 1,
+        }
+    }
+
+    /// Whether they are to be tried in the next stretch.
+    pub(crate) fn is_there(&mut self) -> bool {
+        if self.wait == 0 {
+            return true;
+        }
+        self.wait -= 1;
+        false
+    }
+
+    /// They failed.
+    pub(crate) fn lose(&mut self) {
+        self.wait = self.next_wait;
+        self.next_wait = self.next_wait.saturating_mul(2).min(LONGEST_WAIT);
+    }
+
+    /// They did not fail.
+    pub(crate) fn win(&mut self) {
+        self.next_wait = 1;
+    }
+}

@@ -30,6 +30,9 @@ const TOGETHER: usize = 4096;
 
 const MOST_TOGETHER: usize = 32768;
 
+// In lanes they play no fewer, as long as more are left.
+const LEAST_IN_LANES: usize = 2048;
+
 // Where several were slower, one goes on for a multiple of the steps that it could have played in the time that was lost; then several are tried again. The
 // lighter the steps are, the greater is the multiple: so many nanoseconds over what a step takes, within two bounds. Each time that several are slower again
 // it is doubled, up to so many times.
@@ -45,6 +48,27 @@ const MOST_TIMES: usize = 16;
 const LEAST_REST: usize = 512;
 
 const MOST_REST: usize = 1_048_576;
+
+/// Who plays steps.
+#[derive(Clone, Copy, PartialEq, Eq, Debug)]
+pub(crate) enum Way {
+    /// The caller alone.
+    Alone,
+    /// Several workers on a board.
+    Board,
+    /// Several workers, each in a lane.
+    Lanes,
+}
+
+impl Way {
+    /// Whether several workers do.
+    pub(crate) fn is_by_several(&self) -> bool {
+        match self {
+            Way::Alone => false,
+            Way::Board | Way::Lanes => true,
+        }
+    }
+}
 
 /// What is known of the pace of a list under way. One worker begins it. Several are tried, and from then on those play that were quicker.
 #[derive(Drop)]
@@ -110,19 +134,24 @@ impl Pace {
     }
 
     /// How many of the steps that are left the next stretch has. A stretch is not followed by one that is shorter.
-    pub(crate) fn count(&self, left: usize, is_for_several: bool) -> usize
+    pub(crate) fn count(&self, left: usize, way: Way) -> usize
         ensures some { 0 < left → 0 < result }
         ensures most { result ≤ left }
     {
-        let next = if is_for_several {
-            self.next_together
-        } else {
-            self.next_alone
-        };
+        let next = self.next(way);
         if left / 2 < next {
             left
         } else {
             next.max(1).min(left)
+        }
+    }
+
+    // How many steps the next stretch has, where more are left.
+    fn next(&self, way: Way) -> usize {
+        match way {
+            Way::Alone => self.next_alone,
+            Way::Board => self.next_together,
+            Way::Lanes => self.next_together.max(LEAST_IN_LANES),
         }
     }
 

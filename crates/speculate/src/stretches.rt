@@ -1,4 +1,5 @@
-//! A list that is played in stretches, each by several workers or by the caller alone, whoever was the quicker before.
+//! A list that is played in stretches, each by several workers or by the caller alone, whoever was the quicker before. Several workers try lanes first where these may
+//! pay.
 ghost use Rattle.std.specs.Prelude.{◌≡◌, ◌≤◌, ◌<◌, ◌+◌, ◌++◌, ◌-◌, ℕ, length, take, vec_len, vec_capacity, IfOk, IfErr};
 ghost use Rattle.spec_world.specs.Step.{RunsOn, AllInRange};
 ghost use Rattle.spec_moo.specs.Steps.{play};
@@ -7,7 +8,10 @@ ghost use Rattle.speculate.specs.Parts.{PlaysBehind};
 
 use crate::gate::Gate;
 use crate::here::{places, play_here};
-use crate::pace::Pace;
+use crate::lanes::play_in_lanes;
+use crate::luck::Hope;
+use crate::pace::{Pace, Way};
+use crate::plan::is_spread;
 use crate::report::Report;
 use crate::several::play_by_several;
 use std::alloc::Global;
@@ -48,11 +52,12 @@ pub(crate) fn play_in_stretches<G: Gate, R: Threads + Wait + Clock + Sync>(
         marks,
     };
     let mut pace = Pace::new(workers);
+    let mut hope = Hope::new();
     let mut at = 0;
     'stretch: while at < steps.len() {
         let left = steps.len() - at;
-        let several = pace.is_for_several(left);
-        let count = pace.count(left, several);
+        let way = way_of(&pace, &mut hope, &steps[at..]);
+        let count = pace.count(left, way);
         let start = Instant::now(rt).ok();
         match go_on(
             rt,
@@ -61,15 +66,28 @@ pub(crate) fn play_in_stretches<G: Gate, R: Threads + Wait + Clock + Sync>(
             report,
             &steps[at..at + count],
             workers,
-            several,
+            way,
+            &mut hope,
         ) {
             Ok(longer) => report = longer,
             Err(partial) => return Err(partial),
         }
-        pace.note(count, several, start, Instant::now(rt).ok());
+        pace.note(count, way.is_by_several(), start, Instant::now(rt).ok());
         at += count;
     }
     Ok(report)
+}
+
+// Who plays the next ones of the steps that are left.
+fn way_of(pace: &Pace, hope: &mut Hope, left: &[Step]) -> Way {
+    if !pace.is_for_several(left.len()) {
+        return Way::Alone;
+    }
+    if hope.is_there() && is_spread(left) {
+        Way::Lanes
+    } else {
+        Way::Board
+    }
 }
 
 // The next steps, behind those of a report that has room for them, by several workers or by the caller.
@@ -80,7 +98,8 @@ fn go_on<G: Gate, R: Threads + Wait + Sync>(
     report: Report,
     next: &[Step],
     workers: usize,
-    several: bool,
+    way: Way,
+    hope: &mut Hope,
 ) -> Result<Report, Partial>
     requires workers { (0 < workers) × (workers ≤ 64) }
     requires runs { RunsOn report.world.plain next.now × AllInRange next.now }
@@ -98,7 +117,7 @@ fn go_on<G: Gate, R: Threads + Wait + Sync>(
         mut outcomes,
         mut marks,
     } = report;
-    match play_stretch(rt, alloc, gate, world, next, workers, several) {
+    match play_stretch(rt, alloc, gate, world, next, workers, way, hope) {
         Ok(mut last) => {
             put_behind(&mut outcomes, &mut last.outcomes);
             put_behind(&mut marks, &mut last.marks);
@@ -121,7 +140,7 @@ fn go_on<G: Gate, R: Threads + Wait + Sync>(
     }
 }
 
-// A stretch by several workers, or by the caller alone.
+// A stretch by several workers, in lanes or on a board, or by the caller alone. Where lanes fail the board plays.
 fn play_stretch<G: Gate, R: Threads + Wait + Sync>(
     rt: &R,
     alloc: Global,
@@ -129,7 +148,8 @@ fn play_stretch<G: Gate, R: Threads + Wait + Sync>(
     world: World,
     steps: &[Step],
     workers: usize,
-    several: bool,
+    way: Way,
+    hope: &mut Hope,
 ) -> Result<Report, Partial>
     requires workers { (0 < workers) × (workers ≤ 64) }
     requires runs { RunsOn world.plain steps.now × AllInRange steps.now }
@@ -139,10 +159,19 @@ fn play_stretch<G: Gate, R: Threads + Wait + Sync>(
     ensures err { IfErr result (λ p. (p.count ≡ length p.outcomes.items) × (p.count ≤ length steps.now) × (p.refusal ≡ Refusal.Memory)) }
     ensures views { IfOk result (λ r. world.opened + runs r.marks.items ≤ r.world.opened) }
 {
-    if several {
-        play_by_several(rt, alloc, gate, world, steps, workers)
-    } else {
-        play_here(alloc, gate, world, steps)
+    match way {
+        Way::Alone => play_here(alloc, gate, world, steps),
+        Way::Board => play_by_several(rt, alloc, gate, world, steps, workers),
+        Way::Lanes => match play_in_lanes(rt, alloc, world, steps, workers) {
+            Ok(report) => {
+                hope.win();
+                Ok(report)
+            }
+            Err(world) => {
+                hope.lose();
+                play_by_several(rt, alloc, gate, world, steps, workers)
+            }
+        },
     }
 }
 

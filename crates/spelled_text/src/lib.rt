@@ -5,4 +5,4 @@ mod same_tokens;
 mod spelling;
 
 pub use same_tokens::{has_its_tokens, quickly_read};
-pub use spelling::{is_spelling, spelled};
+pub use spelling::{FoundTree, is_spelling, spelled};

@@ -1,5 +1,5 @@
 //! Texts that are the canonical lines of a tree, each with its line feed.
-ghost use Rattle.std.specs.Prelude.{◌≡◌, ◌≢◌, ◌↔◌, ◌++◌, ◌∷◌, IfOk, IfSome, IsTrue, MatchOption};
+ghost use Rattle.std.specs.Prelude.{◌≡◌, ◌≢◌, ◌↔◌, ◌++◌, ◌∷◌, length, IfOk, IfSome, IsTrue, MatchOption};
 ghost use Rattle.spec_value.specs.Datum as datum;
 ghost use Rattle.spec_program.specs.ReadPrograms.{Parsed, program, parsed, joined_lines};
 ghost use Rattle.spec_program.specs.Spelling.{canonical_lines};
@@ -12,13 +12,22 @@ use quick_reader::guess::guess;
 use std::alloc::{AllocError, Global};
 use tree_grammar::is_of_grammar;
 
+/// A tree that was found in a text.
+#[derive(Drop)]
+pub struct FoundTree {
+    pub tree: Tree,
+    /// How many lines spell it.
+    pub lines: usize,
+}
+
 /// The tree of a text that is its canonical lines, each with its line feed. `None` says that no tree was quickly found, not that there is none: the tree
 /// is guessed, and given where it is one of the grammar that spells just this text.
 #[tactic(auto, using(crate::proofs::Known::known))]
-pub fn spelled(alloc: Global, text: &[u8]) -> Result<Option<Tree>, AllocError>
-    ensures spelling { IfOk result (λ found. IfSome found (λ tree. text.now ≡ joined_lines (canonical_lines tree))) }
-    ensures tree { IfOk result (λ found. IfSome found (λ tree. IsTrue (is_tree tree))) }
-    ensures parsed { IfOk result (λ found. IfSome found (λ tree. parsed text.now ≡ program tree)) }
+pub fn spelled(alloc: Global, text: &[u8]) -> Result<Option<FoundTree>, AllocError>
+    ensures spelling { IfOk result (λ found. IfSome found (λ s. text.now ≡ joined_lines (canonical_lines s.tree))) }
+    ensures lines { IfOk result (λ found. IfSome found (λ s. s.lines ≡ length (canonical_lines s.tree))) }
+    ensures tree { IfOk result (λ found. IfSome found (λ s. IsTrue (is_tree s.tree))) }
+    ensures parsed { IfOk result (λ found. IfSome found (λ s. parsed text.now ≡ program s.tree)) }
 {
     let found = guess(alloc, text)?;
     let Some(tree) = found else {
@@ -28,11 +37,12 @@ pub fn spelled(alloc: Global, text: &[u8]) -> Result<Option<Tree>, AllocError>
     if !is_tree {
         return Ok(None);
     }
-    let is_spelling = is_spelling(alloc, &tree, text)?;
-    if !is_spelling {
+    let lines = print(alloc, &tree)?;
+    if !is_made_of(text, &lines) {
         return Ok(None);
     }
-    Ok(Some(tree))
+    let lines = lines.len();
+    Ok(Some(FoundTree { tree, lines }))
 }
 
 /// Whether a text is the canonical lines of a tree, each with its line feed.

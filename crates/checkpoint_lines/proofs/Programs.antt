@@ -13,12 +13,9 @@ use Rattle.spec_checkpoint.proofs.CodeUnbroken.{code_is_lines}
 use Rattle.spec_checkpoint.proofs.Lines.{whole_lines_read_once}
 use Rattle.spec_faults.specs.Codes.{told, program_of}
 use Rattle.spec_faults.proofs.Spelling.{programs_spelled, programs_told}
+use Rattle.moo_compiler.proofs.Texts.{ends_joined}
 use Rattle.syntax_fault.specs.declared.fault.SyntaxFault.{SyntaxFault}
 use Rattle.syntax_fault.specs.Meaning.{kind_meant, OfKind, IsFault}
-
-pub ends_joined : (ts : List Text) → with_line_ends ts ≡ joined_lines ts
-ends_joined [] = refl
-ends_joined (t ∷ ts) = ap (λ r. t ++ (10 ∷ r)) (ends_joined ts)
 
 pub read_back : (p : Program) (t : Text) → IsTrue (is_tree p) → t ≡ with_line_ends (canonical_lines p) → parsed t ≡ program p
 read_back p t h e = ap parsed (e ∙ ends_joined (canonical_lines p)) ∙ lines_read_back p h

@@ -9,7 +9,7 @@ ghost use Rattle.spec_checkpoint.specs.Lines.{are_lines};
 ghost use Rattle.spec_faults.specs.Codes.{program_of};
 ghost use Rattle.checkpoint_lines.specs.Known.{IsSpelled};
 
-use crate::program::tree_of;
+use crate::program::program_in;
 use moo_compiler::program::Program;
 use std::alloc::{AllocError, Global};
 use std::marker::Model;
@@ -38,7 +38,7 @@ impl<'a> Known<'a> {
     pub fn read(alloc: Global, text: &'a [u8]) -> Result<Known<'a>, AllocError>
         ensures { IfOk result (λ k. k.text ≡ text.now) }
     {
-        let program = read(alloc, text)?;
+        let program = program_in(alloc, text)?;
         Ok(Known { text, program })
     }
 
@@ -51,22 +51,7 @@ impl<'a> Known<'a> {
     }
 }
 
-// The program of a text, with its code.
-fn read(alloc: Global, text: &[u8]) -> Result<Option<Program>, AllocError>
-    ensures reads { (p : Source) → IsTrue (is_tree p) → text.now ≡ with_line_ends (canonical_lines p) → IfOk result (λ o. o ≡ Some p) }
-    ensures tells { (ts : List Text) → IsTrue (are_lines ts) → text.now ≡ with_line_ends ts → IfOk result (λ o. o ≡ program_of ts) }
-{
-    let found = tree_of(alloc, text)?;
-    match found {
-        Some(tree) => {
-            let program = Program::compile(alloc, tree)?;
-            Ok(Some(program))
-        }
-        None => Ok(None),
-    }
-}
-
-/// The program whose canonical lines these are, each with its line feed, with its code: as it is known, if the last of those that are known has this text,
+/// The program whose canonical lines these are, each with its line feed: as it is known, if the last of those that are known has this text,
 /// else as it is read.
 pub(crate) fn known_or_read(
     alloc: Global,
@@ -78,7 +63,7 @@ pub(crate) fn known_or_read(
 {
     match last_for(known, text) {
         Some(program) => Ok(program),
-        None => read(alloc, text),
+        None => program_in(alloc, text),
     }
 }
 

@@ -199,7 +199,7 @@ impl<'a> Lines<'a> {
         row.texts(alloc, 1)
     }
 
-    /// The program that so many next lines spell, with its code.
+    /// The program that so many next lines spell.
     ///
     /// Fault Code, of the first of them, where they are no program's spelling.
     pub fn next_program(&mut self, alloc: Global, count: u64) -> Result<Compiled, DecodeError>

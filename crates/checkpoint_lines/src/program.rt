@@ -1,33 +1,49 @@
 //! Programs from their canonical lines.
 ghost use Rattle.std.specs.Prelude.{◌≡◌, List, Some, IsTrue, IfOk};
 ghost use Rattle.spec_value.specs.Datum.{Text};
-ghost use Rattle.spec_program.specs.Tree.{Program};
+ghost use Rattle.spec_program.specs.Tree.{Program as Source};
 ghost use Rattle.spec_program.specs.Trees.{is_tree};
 ghost use Rattle.spec_program.specs.Spelling.{canonical_lines};
 ghost use Rattle.spec_world.specs.Checkpoint.{with_line_ends};
 ghost use Rattle.spec_checkpoint.specs.Lines.{are_lines};
 ghost use Rattle.spec_faults.specs.Codes.{program_of};
 
+use moo_compiler::program::Program;
 use moo_syntax::parse::answered;
 use moo_tree::statement::Tree;
-use spelled_text::{is_spelling, spelled};
+use spelled_text::is_spelling;
 use std::alloc::{AllocError, Global};
 
 /// The program whose canonical lines these are, each with its line feed.
-pub fn tree_of(alloc: Global, text: &[u8]) -> Result<Option<Tree>, AllocError>
-    ensures reads { (p : Program) → IsTrue (is_tree p) → text.now ≡ with_line_ends (canonical_lines p) → IfOk result (λ o. o ≡ Some p) }
+pub fn program_in(alloc: Global, text: &[u8]) -> Result<Option<Program>, AllocError>
+    ensures reads { (p : Source) → IsTrue (is_tree p) → text.now ≡ with_line_ends (canonical_lines p) → IfOk result (λ o. o ≡ Some p) }
     ensures tells { (ts : List Text) → IsTrue (are_lines ts) → text.now ≡ with_line_ends ts → IfOk result (λ o. o ≡ program_of ts) }
 {
-    let known = spelled(alloc, text)?;
+    let known = Program::read(alloc, text)?;
     match known {
-        Some(tree) => Ok(Some(tree)),
-        None => tree_read(alloc, text),
+        Some(program) => Ok(Some(program)),
+        None => compiled(alloc, text),
     }
 }
 
-// The program of a text, if these are its canonical lines.
+// The same for any program, with its code.
+fn compiled(alloc: Global, text: &[u8]) -> Result<Option<Program>, AllocError>
+    ensures reads { (p : Source) → IsTrue (is_tree p) → text.now ≡ with_line_ends (canonical_lines p) → IfOk result (λ o. o ≡ Some p) }
+    ensures tells { (ts : List Text) → IsTrue (are_lines ts) → text.now ≡ with_line_ends ts → IfOk result (λ o. o ≡ program_of ts) }
+{
+    let found = tree_read(alloc, text)?;
+    match found {
+        Some(tree) => {
+            let program = Program::compile(alloc, tree)?;
+            Ok(Some(program))
+        }
+        None => Ok(None),
+    }
+}
+
+// The tree of a text, if these are its canonical lines.
 fn tree_read(alloc: Global, text: &[u8]) -> Result<Option<Tree>, AllocError>
-    ensures reads { (p : Program) → IsTrue (is_tree p) → text.now ≡ with_line_ends (canonical_lines p) → IfOk result (λ o. o ≡ Some p) }
+    ensures reads { (p : Source) → IsTrue (is_tree p) → text.now ≡ with_line_ends (canonical_lines p) → IfOk result (λ o. o ≡ Some p) }
     ensures tells { (ts : List Text) → IsTrue (are_lines ts) → text.now ≡ with_line_ends ts → IfOk result (λ o. o ≡ program_of ts) }
 {
     let answer = answered(alloc, text)?;

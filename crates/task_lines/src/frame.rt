@@ -38,7 +38,7 @@ pub fn next_frame(
 {
     let Head { call, lines: count } = head;
     let kept = lines.next_program(alloc, count)?;
-    let program = kept.whole().clone()?;
+    let program = kept.whole()?;
     next_under_way(alloc, lines, call, program, is_fork)
 }
 

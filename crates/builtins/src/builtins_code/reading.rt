@@ -10,7 +10,6 @@ ghost use Rattle.view.specs.Law.{Lasts, Tells};
 ghost use Rattle.builtins_view.specs.Said.{Says};
 
 use builtins_view::builtins_world::own_verb::own_verb;
-use moo_printer::print::print;
 use moo_value::answer::Answer;
 use moo_value::error::MooError;
 use moo_value::text::Text;
@@ -51,7 +50,7 @@ pub fn verb_code<V: View>(
 fn code(alloc: Global, verb: &Verb) -> Result<Value, AllocError>
     ensures { IfOk result (λ v. v ≡ list_value (as_texts (canonical_lines verb.now.program))) }
 {
-    let lines = print(alloc, verb.program.tree())?;
+    let lines = verb.program.lines(alloc)?;
     let value = lines_value(alloc, &lines)?;
     Ok(value)
 }

@@ -50,5 +50,5 @@ fn program_of(found: &FoundVerb) -> Result<Program, AllocError>
     ensures { IfOk result (λ p. p ≡ (found.now.verb).program) }
 {
     let verb = found.verb();
-    verb.program.whole().clone()
+    verb.program.whole()
 }

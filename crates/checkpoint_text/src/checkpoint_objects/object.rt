@@ -67,7 +67,7 @@ fn put_object(
     put_family(page, object)?;
     put_own(page, object)?;
     put_slots(page, alloc, draft, shortcuts, number, object)?;
-    put_verbs(page, alloc, object.verbs().as_slice())?;
+    put_verbs(page, object.verbs().as_slice())?;
     Ok(())
 }
 

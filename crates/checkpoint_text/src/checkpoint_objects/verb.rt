@@ -5,33 +5,31 @@ ghost use Rattle.checkpoint_text.specs.CheckpointObjectsLines.{program_lines, ve
 ghost use Rattle.view.specs.Parts.{object_part_of, preposition_part_of};
 
 use crate::checkpoint_fields::page::Page;
-use moo_printer::print::print;
-use std::alloc::{AllocError, Global};
+use std::alloc::AllocError;
 use view::verb::{ObjectPart, PrepositionPart, Verb};
 
 /// Writes verbs with their programs.
-pub fn put_verbs(page: &mut Page, alloc: Global, verbs: &[Verb]) -> Result<(), AllocError>
+pub fn put_verbs(page: &mut Page, verbs: &[Verb]) -> Result<(), AllocError>
     ensures { OnOk result (page.new ≡ page.old ++ with_line_ends (verb_lines verbs.now)) }
 {
     page.put_count("verbs", verbs.len())?;
-    put_each_verb(page, alloc, verbs)
+    put_each_verb(page, verbs)
 }
 
-fn put_each_verb(page: &mut Page, alloc: Global, verbs: &[Verb]) -> Result<(), AllocError>
+fn put_each_verb(page: &mut Page, verbs: &[Verb]) -> Result<(), AllocError>
     ensures { OnOk result (page.new ≡ page.old ++ with_line_ends (each_verb verbs.now)) }
 {
     for verb in verbs {
-        put_verb(page, alloc, verb)?;
+        put_verb(page, verb)?;
     }
     Ok(())
 }
 
-fn put_verb(page: &mut Page, alloc: Global, verb: &Verb) -> Result<(), AllocError>
+fn put_verb(page: &mut Page, verb: &Verb) -> Result<(), AllocError>
     ensures { OnOk result (page.new ≡ page.old ++ with_line_ends (program_lines verb.now)) }
 {
-    let lines = print(alloc, verb.program.tree())?;
-    put_head(page, verb, lines.len())?;
-    page.put_lines(&lines)
+    put_head(page, verb, verb.program.line_count())?;
+    page.put(verb.program.text())
 }
 
 // The line of a verb whose program has so many lines.

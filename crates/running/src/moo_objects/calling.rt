@@ -232,7 +232,7 @@ fn verb_on<V: View>(
     };
     let word = word.clone()?;
     let entered = callee(call, object, word, &found);
-    let program = found.verb().program.whole().clone()?;
+    let program = found.verb().program.whole()?;
     Ok(Some((entered, program)))
 }
 

@@ -1,7 +1,7 @@
 //! The line that ends a verb's code: the verb has the program that the lines are.
-ghost use Rattle.std.specs.Prelude.{◌≡◌, ℕ, ℤ, Some, None, MatchOption, string_bytes, IfOk, OnOk};
+ghost use Rattle.std.specs.Prelude.{◌≡◌, ℕ, ℤ, Some, None, MatchOption, IfOk, OnOk};
 ghost use Rattle.spec_value.specs.Table.{at};
-ghost use Rattle.spec_program.specs.ReadPrograms.{Parsed, program as program_read, joined_lines, parsed_lines};
+ghost use Rattle.spec_program.specs.ReadPrograms.{Parsed, program as program_read, parsed_lines};
 ghost use Rattle.spec_world.specs.World.{World};
 ghost use Rattle.spec_world.specs.Members.{verb_changed};
 ghost use Rattle.spec_world.specs.Permissions.{in_place};
@@ -19,6 +19,7 @@ use crate::step_links::faults::fault_text;
 use crate::step_tasks::finish::Finish;
 use crate::step_tasks::opening::says;
 use builtins_view::builtins_change::put::put_program;
+use moo_compiler::joined::joined;
 use moo_compiler::program::Program;
 use moo_syntax::parse::parse;
 use moo_task::deeds::Deeds;
@@ -230,16 +231,4 @@ fn tell_fault(
     line.know();
     let outcome = says(alloc, deeds, connection, line.as_str())?;
     Ok(outcome)
-}
-
-// The lines, each with its end.
-fn joined(alloc: Global, lines: &[Text]) -> Result<String, AllocError>
-    ensures { IfOk result (λ t. string_bytes t ≡ joined_lines lines.now) }
-{
-    let mut text = String::new(alloc);
-    for line in lines {
-        text.push_str(line.as_str())?;
-        text.push_str("\n")?;
-    }
-    Ok(text)
 }

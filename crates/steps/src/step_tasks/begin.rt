@@ -64,5 +64,5 @@ pub fn program_of(found: &FoundVerb) -> Result<Program, AllocError>
     ensures { IfOk result (λ p. p ≡ (found.now.verb).program) }
 {
     let verb = found.verb();
-    verb.program.whole().clone()
+    verb.program.whole()
 }

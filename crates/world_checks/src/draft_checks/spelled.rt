@@ -3,11 +3,10 @@ ghost use Rattle.std.specs.Prelude.{◌≡◌, [], IfOk, IsTrue};
 ghost use Rattle.std.specs.List.{All, list_all};
 ghost use Rattle.spec_program.specs.Trees.{program_fits};
 ghost use Rattle.spec_world.specs.WellFormed.{OfEachObject, OfEachTask};
-ghost use Rattle.spec_holding.specs.Whole.{TextsSpell, programs_spelled, frames_spelled};
+ghost use Rattle.spec_holding.specs.Whole.{TextsSpell, frames_spelled};
 ghost use Rattle.world_checks.specs.Spelled.{ObjectSpelledAt, TaskSpelledAt};
 
 use crate::task_checks::spelled::task_is_spelled;
-use crate::tree_checks::tree::tree_is_spelled;
 use std::alloc::{AllocError, Global};
 use view::verb::Verb;
 use world::draft::Draft;
@@ -19,46 +18,35 @@ pub fn is_spelled(alloc: Global, draft: &Draft) -> Result<bool, AllocError>
     ensures finds { IfOk result (λ spelled. TextsSpell draft.now → IsTrue spelled) }
 {
     let numbers = draft.object_numbers()?;
-    let objects = objects_are_spelled(alloc, draft, numbers.as_slice())?;
-    if !objects {
-        return Ok(false);
-    }
+    know_objects(draft, numbers.as_slice());
     let ids = draft.waiting()?;
     let spelled = tasks_are_spelled(alloc, draft, ids.as_slice())?;
     Ok(spelled)
 }
 
-fn objects_are_spelled(alloc: Global, draft: &Draft, numbers: &[i32]) -> Result<bool, AllocError>
-    ensures tells { IfOk result (λ spelled. IsTrue spelled → All (ObjectSpelledAt draft.now) numbers.now) }
-    ensures finds { IfOk result (λ spelled. OfEachObject draft.now programs_spelled → IsTrue spelled) }
+// Each program of an object is kept as a text that spells it.
+fn know_objects(draft: &Draft, numbers: &[i32])
+    ensures { All (ObjectSpelledAt draft.now) numbers.now }
 {
     for number in numbers {
-        if !object_is_spelled(alloc, draft, *number)? {
-            return Ok(false);
-        }
+        know_object(draft, *number);
     }
-    Ok(true)
 }
 
-fn object_is_spelled(alloc: Global, draft: &Draft, number: i32) -> Result<bool, AllocError>
-    ensures tells { IfOk result (λ spelled. IsTrue spelled → ObjectSpelledAt draft.now number) }
-    ensures finds { IfOk result (λ spelled. ObjectSpelledAt draft.now number → IsTrue spelled) }
+fn know_object(draft: &Draft, number: i32)
+    ensures { ObjectSpelledAt draft.now number }
 {
-    match draft.object(number) {
-        Some(object) => verbs_are_spelled(alloc, object.verbs().as_slice()),
-        None => Ok(true),
+    if let Some(object) = draft.object(number) {
+        know_verbs(object.verbs().as_slice());
     }
 }
 
-fn verbs_are_spelled(alloc: Global, verbs: &[Verb]) -> Result<bool, AllocError>
-    ensures { IfOk result (λ spelled. spelled ≡ list_all (λ v. program_fits [] v.program) verbs.now) }
+fn know_verbs(verbs: &[Verb])
+    ensures { IsTrue (list_all (λ v. program_fits [] v.program) verbs.now) }
 {
     for verb in verbs {
-        if !tree_is_spelled(alloc, verb.program.tree())? {
-            return Ok(false);
-        }
+        verb.program.know();
     }
-    Ok(true)
 }
 
 fn tasks_are_spelled(alloc: Global, draft: &Draft, ids: &[i32]) -> Result<bool, AllocError>

@@ -3,7 +3,8 @@ use Rattle.spec_program.specs.Spelling.{canonical_lines}
 use Rattle.spec_program.specs.ReadPrograms.{joined_lines}
 use Rattle.spec_program.proofs.ParsedFits.{parsed_is_tree}
 use Rattle.syntax_fault.specs.Meaning.{IsFault}
-use Rattle.checkpoint_lines.proofs.Programs.{ends_joined, read_back, one_program, no_fault, no_program, its_program, not_its_lines}
+use Rattle.moo_compiler.proofs.Texts.{ends_joined}
+use Rattle.checkpoint_lines.proofs.Programs.{read_back, one_program, no_fault, no_program, its_program, not_its_lines}
 use Rattle.checkpoint_lines.proofs.program.tree_read.Goals as goal
 
 pub returns-in_default-clause-reads : goal.returns-in_default-clause-reads

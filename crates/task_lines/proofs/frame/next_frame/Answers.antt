@@ -20,7 +20,7 @@ pub returns-clause-reads : goal.returns-clause-reads
 returns-clause-reads c = λ f rest h stands called lines l.
     let here = subst (Left c.args.lines.now) (append_assoc (canonical_lines f.program) (lines_behind_program f) rest) l in
     let tree = c.in_ok-kept.ensures.reads f.program (lines_behind_program f ++ rest) h.tree lines here in
-    c.next_under_way.ensures.reads f rest h stands called (c.in_ok-program.ensures.cases ∙ c.whole.ensures ∙ tree.0) tree.1
+    c.next_under_way.ensures.reads f rest h stands called (c.in_ok-program.ensures ∙ tree.0) tree.1
 
 pub returns-in_err-kept-clause-tells : goal.returns-in_err-kept-clause-tells
 returns-in_err-kept-clause-tells c =
@@ -31,4 +31,4 @@ returns-in_err-kept-clause-tells c =
 pub returns-clause-tells : goal.returns-clause-tells
 returns-clause-tells c =
     tells_then c.next_under_way.result c.args.lines.now c.next_program.new.self c.next_under_way.new.lines (code c.args.head.lines [] (of_frame c.args.is_fork) ∷ []) (behind_code (of_frame c.args.is_fork) c.in_ok-program.program) (λ _. [])
-    (λ room. subst (λ p. GoesOn c.args.lines.now c.next_program.new.self (code c.args.head.lines [] (of_frame c.args.is_fork) ∷ []) (behind_code (of_frame c.args.is_fork) p)) (sym (c.in_ok-program.ensures.cases ∙ c.whole.ensures)) (c.in_ok-kept.ensures.tells (of_frame c.args.is_fork) room)) c.next_under_way.ensures.tells
+    (λ room. subst (λ p. GoesOn c.args.lines.now c.next_program.new.self (code c.args.head.lines [] (of_frame c.args.is_fork) ∷ []) (behind_code (of_frame c.args.is_fork) p)) (sym c.in_ok-program.ensures) (c.in_ok-kept.ensures.tells (of_frame c.args.is_fork) room)) c.next_under_way.ensures.tells

@@ -17,12 +17,12 @@ use world::draft::Draft;
 use world::worlds::Snapshot;
 
 // A part has one of so many objects, and so many more.
-const PARTS: usize = 16;
+const PARTS: usize = 64;
 
 const FEW: usize = 64;
 
 /// Whether bytes are the text of a snapshot's world. The lines of its objects are made by several threads, a part of them at a time: no more of the text
-/// is in memory at once than a sixteenth of the objects and 64 more have.
+/// is in memory at once than a 64th of the objects and 64 more have.
 pub fn is_text_by_threads<R: Threads + Sync>(
     rt: &R,
     alloc: Global,

@@ -1,7 +1,7 @@
 //! The objects of a draft, from records of objects.
 #![tactic(auto)]
 
-ghost use Rattle.std.specs.Prelude.{◌≡◌, ℤ, [], ◌∷◌, map, Some, MatchOption, IfOk, IsTrue, OnOk};
+ghost use Rattle.std.specs.Prelude.{◌≡◌, ℤ, [], ◌∷◌, map, reverse, Some, MatchOption, IfOk, IsTrue, OnOk};
 ghost use Rattle.spec_world.specs.World.{World, Object as Meant, object_at};
 ghost use Rattle.spec_world.specs.Questions.{put_record};
 ghost use Rattle.spec_world.specs.WellFormed.{IsWellFormed};
@@ -12,6 +12,7 @@ use named_objects::family::{all_names, object};
 use named_objects::record::ObjectRecord;
 use std::alloc::{AllocError, Global};
 use view::change::Change;
+use view::lists::Names;
 use world::draft::Draft;
 
 /// The objects of some records, into a draft: whether that could be done. It can't where an object has another number of slots
@@ -36,25 +37,44 @@ pub fn put_objects(
 fn put_each(
     alloc: Global,
     records: Vec<ObjectRecord>,
-    names: &[Vec<Text>],
+    names: &[Names],
     draft: &mut Draft,
 ) -> Result<(), AllocError>
-    ensures { (w : World) → AreObjects w records.items → map (λ n. n.items) names.now ≡ map (λ e. object_names w e.0) w.objects → draft.old.objects ≡ []
+    ensures { (w : World) → AreObjects w records.items → names.now ≡ map (λ e. object_names w e.0) w.objects → draft.old.objects ≡ []
         → OnOk result (draft.new ≡ record (draft.old) { objects = w.objects }) }
 {
     let mut left = names;
-    for record in records {
+    let mut records = backwards(records);
+    'putting: while let Some(record) = records.pop() {
         let Some((names, rest)) = first_names(left) else {
             return Ok(());
         };
         put_one(alloc, record, names, draft)?;
         left = rest;
+        let_room_go(&mut records);
     }
     Ok(())
 }
 
-fn first_names(names: &[Vec<Text>]) -> Option<(&[Text], &[Vec<Text>])>
-    ensures { MatchOption result (names.now ≡ []) (λ p. map (λ n. n.items) names.now ≡ p.0.now ∷ map (λ n. n.items) p.1.now) }
+// Records from the last to the first.
+fn backwards(mut records: Vec<ObjectRecord>) -> Vec<ObjectRecord>
+    ensures { result.items ≡ reverse records.items }
+{
+    records.reverse();
+    records
+}
+
+// Lets go of the room of those that are no more there, when it is an eighth of it.
+fn let_room_go(records: &mut Vec<ObjectRecord>)
+    ensures { records.new.items ≡ records.old.items }
+{
+    if records.len() < records.capacity() - records.capacity() / 8 {
+        records.shrink_to_fit();
+    }
+}
+
+fn first_names(names: &[Names]) -> Option<(&[Text], &[Names])>
+    ensures { MatchOption result (names.now ≡ []) (λ p. names.now ≡ p.0.now ∷ p.1.now) }
 {
     match names {
         [] => None,

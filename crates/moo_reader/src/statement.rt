@@ -1,6 +1,6 @@
 //! Trees of statements.
 
-ghost use Rattle.std.specs.Prelude.{◌≡◌, ◌++◌, [], IfOk};
+ghost use Rattle.std.specs.Prelude.{◌≡◌, ◌++◌, [], ◌∷◌, IfOk};
 ghost use Rattle.spec_program.specs.Tree as tree;
 ghost use Rattle.spec_program.specs.ReadPrograms as by;
 ghost use Rattle.moo_tree.specs.StatementView.{node_statement, branches_of};
@@ -86,18 +86,29 @@ pub fn and_block(statement: FoundStatement, block: Block) -> Result<Block, Alloc
         strays,
     } = statement;
     let Block {
-        mut reversed,
+        reversed,
         nodes: other_nodes,
         strays: other_strays,
     } = block;
+    let reversed = pushed(reversed, tree)?;
     let nodes = followed(nodes, other_nodes)?;
     let strays = strays_before(strays, other_strays)?;
-    reversed.push(tree)?;
     Ok(Block {
         reversed,
         nodes,
         strays,
     })
+}
+
+// Statements with one behind them.
+fn pushed(
+    mut statements: Vec<Statement>,
+    statement: Statement,
+) -> Result<Vec<Statement>, AllocError>
+    ensures { IfOk result (λ v. v.items ≡ statements.items ++ statement ∷ []) }
+{
+    statements.push(statement)?;
+    Ok(statements)
 }
 
 /// No branches, and no `else`.

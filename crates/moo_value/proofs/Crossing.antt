@@ -50,13 +50,13 @@ items_sync : (p : Parts knot.frame) → IsSend (rows knot.frame p member-Value) 
 items_sync p a b = let c = values_send p a in let d = values_sync p b in search (sendable, crosses, c, d) depth 60
 
 at_node_send : (p : Parts knot.frame) → IsSend (rows knot.frame p member-Value) → IsSync (rows knot.frame p member-Value) → IsSend (knot.at-Node p)
-at_node_send p a b = recorded_send _ _ _ (split_one (knot.layer-Node (rows knot.frame p member-Value)) Node split-Node join-Node joins-Node) (variants_send (knot.type-Node (rows knot.frame p member-Value)) (((search (sendable, crosses, as_row_send, text_send, error_send) depth 60), tt), (((search (sendable, crosses, as_row_send, text_send, error_send) depth 60), tt), (((search (sendable, crosses, as_row_send, text_send, error_send) depth 60), tt), (((search (sendable, crosses, as_row_send, text_send, error_send) depth 60), tt), ((as_row_send (row_field (Items p)) (items_send p a b), ((search (sendable, crosses, as_row_send, text_send, error_send) depth 60), tt)), (((search (sendable, crosses, as_row_send, text_send, error_send) depth 60), tt), tt)))))))
+at_node_send p a b = recorded_send _ _ _ (split_one (knot.layer-Node (rows knot.frame p member-Value)) Node split-Node join-Node joins-Node) (variants_send (knot.type-Node (rows knot.frame p member-Value)) (((search (sendable, crosses, as_row_send, text_send, error_send) depth 60), tt), (((search (sendable, crosses, as_row_send, text_send, error_send) depth 60), tt), (((search (sendable, crosses, as_row_send, text_send, error_send) depth 60), tt), (((search (sendable, crosses, as_row_send, text_send, error_send) depth 60), tt), (((search (sendable, crosses, as_row_send, text_send, error_send) depth 60), (as_row_send (row_field (Items p)) (items_send p a b), tt)), (((search (sendable, crosses, as_row_send, text_send, error_send) depth 60), tt), tt)))))))
 
 at_value_send : (p : Parts knot.frame) → IsSend (knot.at-Node p) → IsSend (knot.at-Value p)
 at_value_send p a = recorded_send _ _ _ (split_one (knot.layer-Value (knot.at-Node p)) Inside split-Value join-Value joins-Value) (declared_send (knot.type-Value (knot.at-Node p)) (as_row_send (row_field (knot.at-Node p)) a, tt))
 
 at_node_sync : (p : Parts knot.frame) → IsSend (rows knot.frame p member-Value) → IsSync (rows knot.frame p member-Value) → IsSync (knot.at-Node p)
-at_node_sync p a b = recorded_sync _ _ _ (split_one (knot.layer-Node (rows knot.frame p member-Value)) Node split-Node join-Node joins-Node) (variants_sync (knot.type-Node (rows knot.frame p member-Value)) (((search (sendable, crosses, as_row_sync, text_sync, error_sync) depth 60), tt), (((search (sendable, crosses, as_row_sync, text_sync, error_sync) depth 60), tt), (((search (sendable, crosses, as_row_sync, text_sync, error_sync) depth 60), tt), (((search (sendable, crosses, as_row_sync, text_sync, error_sync) depth 60), tt), ((as_row_sync (row_field (Items p)) (items_sync p a b), ((search (sendable, crosses, as_row_sync, text_sync, error_sync) depth 60), tt)), (((search (sendable, crosses, as_row_sync, text_sync, error_sync) depth 60), tt), tt)))))))
+at_node_sync p a b = recorded_sync _ _ _ (split_one (knot.layer-Node (rows knot.frame p member-Value)) Node split-Node join-Node joins-Node) (variants_sync (knot.type-Node (rows knot.frame p member-Value)) (((search (sendable, crosses, as_row_sync, text_sync, error_sync) depth 60), tt), (((search (sendable, crosses, as_row_sync, text_sync, error_sync) depth 60), tt), (((search (sendable, crosses, as_row_sync, text_sync, error_sync) depth 60), tt), (((search (sendable, crosses, as_row_sync, text_sync, error_sync) depth 60), tt), (((search (sendable, crosses, as_row_sync, text_sync, error_sync) depth 60), (as_row_sync (row_field (Items p)) (items_sync p a b), tt)), (((search (sendable, crosses, as_row_sync, text_sync, error_sync) depth 60), tt), tt)))))))
 
 at_value_sync : (p : Parts knot.frame) → IsSync (knot.at-Node p) → IsSync (knot.at-Value p)
 at_value_sync p a = recorded_sync _ _ _ (split_one (knot.layer-Value (knot.at-Node p)) Inside split-Value join-Value joins-Value) (declared_sync (knot.type-Value (knot.at-Node p)) (as_row_sync (row_field (knot.at-Node p)) a, tt))

@@ -137,13 +137,13 @@ item_at-of_list (x ∷ xs) zero d h = refl
 item_at-of_list (x ∷ xs) (suc i) d h = item_at-of_list xs i d (omega arith)
 
 -- what a sound list is
-pub sound : (xs : Data) (w : ℕ) → IsTrue (are_values xs) → w ≡ min (data_weight xs) (2 ^ 64 - 1) → IsTrue (are_values xs && (w == min (data_weight xs) (2 ^ 64 - 1)))
+pub sound : (xs : Data) (w : ℕ) → IsTrue (are_values xs) → w ≡ min (data_weight xs) (2 ^ 32 - 1) → IsTrue (are_values xs && (w == min (data_weight xs) (2 ^ 32 - 1)))
 sound xs w h e = grind (arith, nat_tests)
 
-pub sound_values : (xs : Data) (w : ℕ) → IsTrue (are_values xs && (w == min (data_weight xs) (2 ^ 64 - 1))) → IsTrue (are_values xs)
+pub sound_values : (xs : Data) (w : ℕ) → IsTrue (are_values xs && (w == min (data_weight xs) (2 ^ 32 - 1))) → IsTrue (are_values xs)
 sound_values xs w h = grind (arith, nat_tests)
 
-pub sound_weight : (xs : Data) (w : ℕ) → IsTrue (are_values xs && (w == min (data_weight xs) (2 ^ 64 - 1))) → w ≡ min (data_weight xs) (2 ^ 64 - 1)
+pub sound_weight : (xs : Data) (w : ℕ) → IsTrue (are_values xs && (w == min (data_weight xs) (2 ^ 32 - 1))) → w ≡ min (data_weight xs) (2 ^ 32 - 1)
 sound_weight xs w h = grind (arith, nat_tests)
 
 -- the items behind `make_mut`, which may be a clone's
@@ -159,23 +159,23 @@ up_to xs i h = omega (arith, item_count-of_list xs)
 -- ---- lists stay sound
 
 abbrev IsSound : Data → ℕ → Type 0
-IsSound xs w = IsTrue (are_values xs && (w == min (data_weight xs) (2 ^ 64 - 1)))
+IsSound xs w = IsTrue (are_values xs && (w == min (data_weight xs) (2 ^ 32 - 1)))
 
-pub sound-append : (xs : Data) (w v u : ℕ) (y : Datum) → IsSound xs w → IsTrue (is_value y) → v ≡ min (weight y) (2 ^ 64 - 1) → u ≡ min (w + v) (2 ^ 64 - 1) → IsSound (append xs y) u
+pub sound-append : (xs : Data) (w v u : ℕ) (y : Datum) → IsSound xs w → IsTrue (is_value y) → v ≡ min (weight y) (2 ^ 32 - 1) → u ≡ min (w + v) (2 ^ 32 - 1) → IsSound (append xs y) u
 sound-append xs w v u y h k e f =
     let kept = sound_weight xs w h in
     sound (append xs y) u (are_values-push xs y (sound_values xs w h) k) (omega (arith, kept, data_weight-append xs y))
 
-pub sound-inserted : (xs : Data) (i w v u : ℕ) (y : Datum) → IsSound xs w → IsTrue (is_value y) → v ≡ min (weight y) (2 ^ 64 - 1) → u ≡ min (w + v) (2 ^ 64 - 1) → IsSound (inserted xs i y) u
+pub sound-inserted : (xs : Data) (i w v u : ℕ) (y : Datum) → IsSound xs w → IsTrue (is_value y) → v ≡ min (weight y) (2 ^ 32 - 1) → u ≡ min (w + v) (2 ^ 32 - 1) → IsSound (inserted xs i y) u
 sound-inserted xs i w v u y h k e f =
     let kept = sound_weight xs w h in
     sound (inserted xs i y) u (are_values-inserted xs i y (sound_values xs w h) k) (omega (arith, kept, data_weight-inserted xs i y))
 
-pub sound-with_item : (xs : List Datum) (i w o v u : ℕ) (y : Datum) → i < length xs → IsSound (of_list xs) w → IsTrue (is_value y) → o ≡ min (data_weight (without (of_list xs) i)) (2 ^ 64 - 1) → v ≡ min (weight y) (2 ^ 64 - 1) → u ≡ min (o + v) (2 ^ 64 - 1) → IsSound (with_item (of_list xs) i y) u
+pub sound-with_item : (xs : List Datum) (i w o v u : ℕ) (y : Datum) → i < length xs → IsSound (of_list xs) w → IsTrue (is_value y) → o ≡ min (data_weight (without (of_list xs) i)) (2 ^ 32 - 1) → v ≡ min (weight y) (2 ^ 32 - 1) → u ≡ min (o + v) (2 ^ 32 - 1) → IsSound (with_item (of_list xs) i y) u
 sound-with_item xs i w o v u y l h k e f g =
     sound (with_item (of_list xs) i y) u (are_values-with_item (of_list xs) i y (sound_values (of_list xs) w h) k) (omega (arith, data_weight-with_without xs i y l))
 
-pub sound-without : (xs : Data) (i w o : ℕ) → IsSound xs w → o ≡ min (data_weight (without xs i)) (2 ^ 64 - 1) → IsSound (without xs i) o
+pub sound-without : (xs : Data) (i w o : ℕ) → IsSound xs w → o ≡ min (data_weight (without xs i)) (2 ^ 32 - 1) → IsSound (without xs i) o
 sound-without xs i w o h e = sound (without xs i) o (are_values-without xs i (sound_values xs w h)) e
 
 -- ---- parts of lists
@@ -259,7 +259,7 @@ are_values-later (suc n) (item x xs) h = are_values-later n xs (grind (arith, na
 
 -- o: what stays weighs; v: what the other items weigh
 pub sound-with_part : (xs : List Datum) (n m w o v u : ℕ) (ys : List Datum) → IsSound (of_list xs) w → IsTrue (are_values (of_list ys)) →
-    o ≡ min (data_weight (of_list (take n xs)) + data_weight (of_list (drop m xs))) (2 ^ 64 - 1) → v ≡ min (data_weight (of_list ys)) (2 ^ 64 - 1) → u ≡ min (o + v) (2 ^ 64 - 1) →
+    o ≡ min (data_weight (of_list (take n xs)) + data_weight (of_list (drop m xs))) (2 ^ 32 - 1) → v ≡ min (data_weight (of_list ys)) (2 ^ 32 - 1) → u ≡ min (o + v) (2 ^ 32 - 1) →
     IsSound (with_part (of_list xs) n m (of_list ys)) u
 sound-with_part xs n m w o v u ys h k e f g =
     let old = sound_values (of_list xs) w h in

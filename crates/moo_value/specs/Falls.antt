@@ -19,5 +19,5 @@ depth_falls (Integer n) = omega arith
 depth_falls (Object n) = omega arith
 depth_falls (Text t) = omega arith
 depth_falls (Error e) = omega arith
-depth_falls (Many s w) = omega (arith, most_le ((arc_value s).items))
+depth_falls (Many w s) = omega (arith, most_le ((arc_value s).items))
 depth_falls (Empty a) = omega arith

@@ -11,12 +11,12 @@ node_datum (Integer n) = integer n
 node_datum (Object n) = object n
 node_datum (Text t) = text t
 node_datum (Error e) = error (code_of e)
-node_datum (List s w) = list (of_list ((arc_value s).items))
+node_datum (List w s) = list (of_list ((arc_value s).items))
 node_datum (Empty a) = list no_data
 
--- the weight that a list keeps is the one of its items
+-- the weight that a list keeps is the one of its items, or the greatest number of 32 bits where that is more
 abbrev pub keeps_weight : Node → Bool
-keeps_weight (List s w) = w == min (data_weight (of_list ((arc_value s).items))) (2 ^ 64 - 1)
+keeps_weight (List w s) = w == min (data_weight (of_list ((arc_value s).items))) (2 ^ 32 - 1)
 keeps_weight _ = true
 
 abbrev pub is_sound : Node → Bool

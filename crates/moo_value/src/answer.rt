@@ -16,7 +16,7 @@ pub const WEIGHT_LIMIT: usize = 65_536;
 pub fn limited(value: Value) -> Answer
     ensures { answer_of result ≡ limited_of value }
 {
-    if value.weight() <= WEIGHT_LIMIT {
+    if value.kept_weight() as usize <= WEIGHT_LIMIT {
         Ok(value)
     } else {
         Err(MooError::LimitExceeded)

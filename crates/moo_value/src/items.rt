@@ -10,39 +10,39 @@ use std::alloc::{AllocError, Global};
 use std::mem;
 use std::sync::Arc;
 
-// What items weigh, or the greatest number where that is more.
-pub(crate) fn weight(items: &[Value]) -> usize
-    ensures { result ≡ min (data_weight (of_list items.now)) usize.MAX }
+// What items weigh, or the greatest number of 32 bits where that is more.
+pub(crate) fn weight(items: &[Value]) -> u32
+    ensures { result ≡ min (data_weight (of_list items.now)) u32.MAX }
 {
-    let mut sum = 0usize;
+    let mut sum = 0u32;
     for item in items {
-        sum = sum.saturating_add(item.weight());
+        sum = sum.saturating_add(item.kept_weight());
     }
     sum
 }
 
 // What items weigh but for one, given what all of them weigh.
-pub(crate) fn weight_without(items: &[Value], whole: usize, place: usize) -> usize
+pub(crate) fn weight_without(items: &[Value], whole: u32, place: usize) -> u32
     requires inside { place < length items.now }
-    requires kept { whole ≡ min (data_weight (of_list items.now)) usize.MAX }
-    ensures { result ≡ min (data_weight (without (of_list items.now) place)) usize.MAX }
+    requires kept { whole ≡ min (data_weight (of_list items.now)) u32.MAX }
+    ensures { result ≡ min (data_weight (without (of_list items.now) place)) u32.MAX }
 {
-    if whole == usize::MAX {
+    if whole == u32::MAX {
         weight(&items[..place]).saturating_add(weight(&items[place + 1..]))
     } else {
-        whole - items[place].weight()
+        whole - items[place].kept_weight()
     }
 }
 
 // What items weigh but for a part of them, given what all of them weigh. A part whose end is before its start leaves out nothing, and what
 // lies between counts twice.
-pub(crate) fn weight_around(items: &[Value], whole: usize, start: usize, end: usize) -> usize
+pub(crate) fn weight_around(items: &[Value], whole: u32, start: usize, end: usize) -> u32
     requires starts { start ≤ length items.now }
     requires ends { end ≤ length items.now }
-    requires kept { whole ≡ min (data_weight (of_list items.now)) usize.MAX }
-    ensures { result ≡ min (data_weight (of_list (take start items.now)) + data_weight (of_list (drop end items.now))) usize.MAX }
+    requires kept { whole ≡ min (data_weight (of_list items.now)) u32.MAX }
+    ensures { result ≡ min (data_weight (of_list (take start items.now)) + data_weight (of_list (drop end items.now))) u32.MAX }
 {
-    if end < start || whole == usize::MAX {
+    if end < start || whole == u32::MAX {
         weight(&items[..start]).saturating_add(weight(&items[end..]))
     } else {
         whole - weight(&items[start..end])

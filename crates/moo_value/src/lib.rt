@@ -11,4 +11,5 @@ pub mod operator;
 pub mod read;
 pub mod text;
 pub mod value;
+mod weigh;
 pub mod write;

@@ -3,15 +3,14 @@ ghost use Rattle.std.specs.Prelude.{◌≡◌, ◌<◌, ◌≤◌, ◌∷◌, []
 ghost use Rattle.spec_value.specs.Datum.{Datum, integer, object, text as text_of, error, list, of_list, is_value};
 
 use crate::error::MooError;
-use crate::items;
 use crate::text::Text;
+use crate::{items, weigh};
 use std::alloc::{AllocError, Global};
 use std::marker::Model;
 use std::sync::Arc;
 
 /// A value of the language. Texts and lists are shared by their owners, so a clone is a count.
 #[cycle(value)]
-#[derive(Drop)]
 pub struct Value {
     node: Node,
 }
@@ -23,10 +22,29 @@ enum Node {
     Object(i32),
     Text(Text),
     Error(MooError),
-    // the items, and what they weigh, or the greatest number where that is more
-    List(Arc<Vec<Value>>, usize),
+    // what the items weigh, or the greatest number where that is more, and the items; in this order they take least room
+    List(u32, Arc<Vec<Value>>),
     // a list without items, which takes no memory before it has some
     Empty(Global),
+}
+
+// A value that is not shared is let go of where it stands.
+impl Drop for Value {
+    #[inline(always)]
+    fn drop(self) {
+        let Value { node } = self;
+        match node {
+            Node::Integer(_) | Node::Object(_) | Node::Error(_) | Node::Empty(_) => {}
+            Node::Text(text) => let_go(text),
+            Node::List(_, items) => let_go(items),
+        }
+    }
+}
+
+// One owner less.
+#[inline(never)]
+fn let_go<T: Drop>(shared: T) {
+    let _shared = shared;
 }
 
 impl Model for Value {
@@ -124,19 +142,29 @@ impl Value {
     }
 
     /// A list of these items.
+    #[inline(always)]
     pub fn list(items: Vec<Value>) -> Result<Value, AllocError>
         ensures { IfOk result (λ v. v ≡ list (of_list items.items)) }
     {
-        let alloc = *items.allocator();
         if items.is_empty() {
+            let alloc = *items.allocator();
             return Ok(Value {
                 node: Node::Empty(alloc),
             });
         }
+        Value::of_items(items)
+    }
+
+    // The same of some items.
+    #[inline(never)]
+    fn of_items(items: Vec<Value>) -> Result<Value, AllocError>
+        ensures { IfOk result (λ v. v ≡ list (of_list items.items)) }
+    {
+        let alloc = *items.allocator();
         items::know_all(&items);
         let weight = items::weight(&items);
         Ok(Value {
-            node: Node::List(Arc::new(alloc, items)?, weight),
+            node: Node::List(weight, Arc::new(alloc, items)?),
         })
     }
 
@@ -160,7 +188,7 @@ impl Value {
             Node::Object(number) => Shown::Object(*number),
             Node::Text(text) => Shown::Text(text.as_str()),
             Node::Error(code) => Shown::Error(*code),
-            Node::List(items, _) => Shown::List(items.as_slice()),
+            Node::List(_, items) => Shown::List(items.as_slice()),
             Node::Empty(_) => Shown::List(&[]),
         }
     }
@@ -188,14 +216,32 @@ impl Value {
 impl Value {
     ghost use Rattle.spec_value.specs.Datum.{weight};
 
-    /// What the value weighs, or the greatest number where that is more. It is not counted anew: a list keeps it.
+    /// What the value weighs, or the greatest number where that is more. A list keeps it, and is counted anew only where it weighs more than
+    /// fits into 32 bits.
+    #[inline(always)]
     pub fn weight(&self) -> usize
         ensures { result ≡ min (weight self.now) usize.MAX }
     {
+        let kept = self.kept_weight();
+        if kept < u32::MAX {
+            kept as usize
+        } else {
+            weigh::counted(self)
+        }
+    }
+
+    // The same in 32 bits.
+    #[inline(always)]
+    pub(crate) fn kept_weight(&self) -> u32
+        ensures { result ≡ min (weight self.now) u32.MAX }
+    {
         match &self.node {
             Node::Integer(_) | Node::Object(_) | Node::Error(_) | Node::Empty(_) => 1,
-            Node::Text(text) => text.len().saturating_add(1),
-            Node::List(_, weight) => weight.saturating_add(1),
+            Node::Text(text) => match u32::try_from(text.len()) {
+                Ok(length) => length.saturating_add(1),
+                Err(_) => u32::MAX,
+            },
+            Node::List(weight, _) => weight.saturating_add(1),
         }
     }
 }
@@ -209,9 +255,9 @@ impl Value {
         ensures { self.new ≡ (if is_ok result then list_appended self.old item else self.old) }
     {
         item.know();
-        let added = item.weight();
+        let added = item.kept_weight();
         match &mut self.node {
-            Node::List(items, weight) => {
+            Node::List(weight, items) => {
                 items::push(items, item)?;
                 *weight = weight.saturating_add(added);
                 Ok(())
@@ -231,8 +277,8 @@ impl Value {
         ensures item { IfOk result (λ v. list_item self.old place ≡ Some v) }
     {
         item.know();
-        let added = item.weight();
-        let Node::List(items, weight) = &mut self.node else {
+        let added = item.kept_weight();
+        let Node::List(weight, items) = &mut self.node else {
             return Ok(item);
         };
         let others = items::weight_without(items, *weight, place);
@@ -247,9 +293,9 @@ impl Value {
         ensures { self.new ≡ (if is_ok result then list_inserted self.old place item else self.old) }
     {
         item.know();
-        let added = item.weight();
+        let added = item.kept_weight();
         match &mut self.node {
-            Node::List(items, weight) => {
+            Node::List(weight, items) => {
                 items::insert(items, place, item)?;
                 *weight = weight.saturating_add(added);
                 Ok(())
@@ -268,7 +314,7 @@ impl Value {
         ensures after { self.new ≡ (if is_ok result then list_without self.old place else self.old) }
         ensures item { IfOk result (λ v. list_item self.old place ≡ Some v) }
     {
-        let Node::List(items, weight) = &mut self.node else {
+        let Node::List(weight, items) = &mut self.node else {
             return Ok(Value::integer(0));
         };
         let others = items::weight_without(items, *weight, place);
@@ -297,7 +343,7 @@ impl Value {
         items::know_all(between);
         let added = items::weight(between);
         match &mut self.node {
-            Node::List(items, weight) => {
+            Node::List(weight, items) => {
                 let others = items::weight_around(items, *weight, start, end);
                 items::replace_part(items, start, end, between)?;
                 *weight = others.saturating_add(added);
@@ -313,7 +359,7 @@ impl Value {
 }
 
 impl Value {
-    ghost use Rattle.std.specs.Prelude.{List, ℕ, None, IfSome};
+    ghost use Rattle.std.specs.Prelude.{List, ℕ, None, IfSome, IfErr};
     ghost use Rattle.spec_value.specs.Datum.{Data, to_list};
 
     /// The text, where the value is one. It is lent: who keeps it counts one owner more and copies no character.
@@ -327,13 +373,25 @@ impl Value {
         }
     }
 
+    /// The text that the value is, moved out of it with no count; a value of another kind is given back.
+    pub fn into_text(self) -> Result<Text, Value>
+        ensures ok { IfOk result (λ t. self ≡ text_of t) }
+        ensures err { IfErr result (λ v. v ≡ self × ((t : List ℕ) → self ≡ text_of t → ⊥)) }
+    {
+        let Value { node } = self;
+        match node {
+            Node::Text(text) => Ok(text),
+            other => Err(Value { node: other }),
+        }
+    }
+
     /// The items of a list, taken out of it where no other owner shares them, else copies; of another value there are none.
     pub fn into_items(self, alloc: Global) -> Result<Vec<Value>, AllocError>
         ensures { IfOk result (λ items. (args : Data) → self ≡ list args → items.items ≡ to_list args) }
     {
         let Value { node } = self;
         match node {
-            Node::List(items, _) => items::taken(alloc, items),
+            Node::List(_, items) => items::taken(alloc, items),
             _ => Ok(Vec::new(alloc)),
         }
     }
@@ -342,26 +400,32 @@ impl Value {
 impl Clone for Value {
     ghost is_clone = { λ v copy. copy ≡ v };
 
+    // What is asked for most is done in place.
+    #[inline(always)]
     fn clone(&self) -> Result<Value, AllocError> {
         match &self.node {
-            Node::Integer(number) => Ok(Value {
-                node: Node::Integer(*number),
-            }),
-            Node::Object(number) => Ok(Value {
-                node: Node::Object(*number),
-            }),
-            Node::Text(text) => Ok(Value {
-                node: Node::Text(text.clone()?),
-            }),
-            Node::Error(code) => Ok(Value {
-                node: Node::Error(*code),
-            }),
-            Node::List(items, weight) => Ok(Value {
-                node: Node::List(items.clone()?, *weight),
-            }),
-            Node::Empty(alloc) => Ok(Value {
-                node: Node::Empty(*alloc),
-            }),
+            Node::Integer(number) => Ok(Value::integer(*number)),
+            Node::Object(number) => Ok(Value::object(*number)),
+            Node::Text(text) => Ok(Value::text(text.clone()?)),
+            _ => self.another_owner(),
         }
+    }
+}
+
+impl Value {
+    // The same of every value.
+    #[inline(never)]
+    fn another_owner(&self) -> Result<Value, AllocError>
+        ensures { IfOk result (λ copy. copy ≡ self.now) }
+    {
+        let node = match &self.node {
+            Node::Integer(number) => Node::Integer(*number),
+            Node::Object(number) => Node::Object(*number),
+            Node::Text(text) => Node::Text(text.clone()?),
+            Node::Error(code) => Node::Error(*code),
+            Node::List(weight, items) => Node::List(*weight, items.clone()?),
+            Node::Empty(alloc) => Node::Empty(*alloc),
+        };
+        Ok(Value { node })
     }
 }

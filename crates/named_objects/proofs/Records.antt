@@ -1,6 +1,6 @@
 -- Records of a world's objects, one by one.
 use Rattle.std.proofs.Common.{◌≡◌, ◌<◌, ◌≤◌, ℕ, zero, suc, ◌+◌, ℤ, Bool, false, List, [], ◌∷◌, ◌++◌, map, length, take, get_or, Option, Some, None, IsSomeAnd, refl, sym, ap, subst, ◌∙◌, arith, slice_get}
-use Rattle.std.proofs.lemmas.List.{map-append, map_more, take_all}
+use Rattle.std.proofs.lemmas.List.{map_more, take_all}
 use Rattle.spec_value.specs.Table.{Numbered}
 use Rattle.spec_world.specs.World.{World, Object}
 use Rattle.upwards.specs.declared.nearest.Upwards.{Upwards}
@@ -130,10 +130,10 @@ module _ (w : World) where
   all_taken rs k are le = take_all k w.objects (omega (arith, le, as_many rs w.objects are.all))
 
 -- one more of both
-pub one_more : {A B C : Type 0} (f : A → C) (g : B → C) (xs new : List A) (es : List B) (i : ℕ) (y : A) (e : B) → new ≡ xs ++ y ∷ [] → slice_get es i ≡ Some e → map f xs ≡ map g (take i es) → f y ≡ g e
-    → map f new ≡ map g (take (i + 1) es)
-one_more f g xs new es i y e now at before here =
-    ap (map f) now ∙ map-append f xs (y ∷ []) ∙ (λ n. before n ++ here n ∷ []) ∙ ap (λ z. map g (take i es) ++ g z ∷ []) (sym (read_at es i e e at)) ∙ sym (map_more g es i e (get_within es i e at))
+pub one_more : {A B : Type 0} (g : B → A) (xs new : List A) (es : List B) (i : ℕ) (y : A) (e : B) → new ≡ xs ++ y ∷ [] → slice_get es i ≡ Some e → xs ≡ map g (take i es) → y ≡ g e
+    → new ≡ map g (take (i + 1) es)
+one_more g xs new es i y e now at before here =
+    now ∙ (λ n. before n ++ here n ∷ []) ∙ ap (λ z. map g (take i es) ++ g z ∷ []) (sym (read_at es i e e at)) ∙ sym (map_more g es i e (get_within es i e at))
 
 pub some_is : {A : Type 0} (o : Option A) (x : A) (P : A → Type 0) → o ≡ Some x → IsSomeAnd o P → P x
 some_is o x P e h = subst (λ p. IsSomeAnd p P) e h

@@ -10,18 +10,16 @@ use crate::record::ObjectRecord;
 use moo_value::text::Text;
 use std::alloc::{AllocError, Global};
 use upwards::nearest::Upwards;
+use view::lists::Names;
 use view::object::Object;
 use view::slot::Slot;
 use view::slots::Slots;
 use view::verb::Verbs;
 
-/// The names of the slots of each record. None where a record has another number of slots than there are properties along its
-/// parents, or where parents go round.
-pub fn all_names(
-    alloc: Global,
-    records: &[ObjectRecord],
-) -> Result<Option<Vec<Vec<Text>>>, AllocError>
-    ensures { (w : World) → AreObjects w records.now → IfOk result (λ o. IsSomeAnd o (λ v. map (λ n. n.items) v.items ≡ map (λ e. object_names w e.0) w.objects)) }
+/// The names of the slots of each record; records share them where they can. None where a record has another number of slots than
+/// there are properties along its parents, or where parents go round.
+pub fn all_names(alloc: Global, records: &[ObjectRecord]) -> Result<Option<Vec<Names>>, AllocError>
+    ensures { (w : World) → AreObjects w records.now → IfOk result (λ o. IsSomeAnd o (λ v. v.items ≡ map (λ e. object_names w e.0) w.objects)) }
 {
     let found = look_upwards(alloc, records)?;
     match found {
@@ -34,19 +32,52 @@ fn gathered(
     alloc: Global,
     records: &[ObjectRecord],
     upwards: &Upwards,
-) -> Result<Option<Vec<Vec<Text>>>, AllocError>
+) -> Result<Option<Vec<Names>>, AllocError>
     ensures { (w : World) → AreObjects w records.now → LeadsUp w records.now upwards.now
-        → IfOk result (λ o. IsSomeAnd o (λ v. map (λ n. n.items) v.items ≡ map (λ e. object_names w e.0) w.objects)) }
+        → IfOk result (λ o. IsSomeAnd o (λ v. v.items ≡ map (λ e. object_names w e.0) w.objects)) }
 {
     let mut all = Vec::with_capacity(alloc, records.len())?;
     for place in 0..records.len() {
         let names = names_at_place(alloc, records, upwards, place)?;
         match names {
-            Some(names) => all.push(names)?,
+            Some(names) => {
+                let names = shared(alloc, &all, upwards.above(place), names)?;
+                all.push(names)?;
+            }
             None => return Ok(None),
         }
     }
     Ok(Some(all))
+}
+
+// Names of a record, from the list of its parent where that is there already and holds the same. An object that defines no
+// property has its parent's names.
+fn shared(
+    alloc: Global,
+    all: &[Names],
+    parent: Option<usize>,
+    names: Vec<Text>,
+) -> Result<Names, AllocError>
+    ensures { IfOk result (λ n. n ≡ names.items) }
+{
+    let names = Names::new(alloc, names)?;
+    let Some(place) = parent else {
+        return Ok(names);
+    };
+    match all.get(place) {
+        Some(above) => same_or_own(above, names),
+        None => Ok(names),
+    }
+}
+
+fn same_or_own(above: &Names, names: Names) -> Result<Names, AllocError>
+    ensures { IfOk result (λ n. n ≡ names) }
+{
+    if above.same(&names) {
+        above.clone()
+    } else {
+        Ok(names)
+    }
 }
 
 // The names of the slots of a record, if they are as many.

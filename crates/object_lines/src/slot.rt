@@ -22,11 +22,26 @@ use checkpoint_lines::lines::Lines;
 use checkpoint_lines::row::Row;
 use line_fields::bits::SlotBits;
 use moo_value::value::Value;
+use slot_content::content::Content;
 use std::alloc::Global;
+use view::keeping::keep_values;
 use view::slot::Slot;
+
+// For how many slots there is room at most before they are read.
+const MOST: u64 = 10_000;
 
 /// The slots of an object, without their names, from the next lines.
 pub fn next_slots(alloc: Global, lines: &mut Lines<'_>) -> Result<Vec<Slot>, DecodeError>
+    ensures reads { (ss : List Meant) (rest : List datum.Text) → IsTrue (list_all is_slot_read ss) → Left lines.old (counted (codes "slots") (length ss) ∷ (each_slot ss ++ rest)) → Reads result lines.new rest (λ v. v.items ≡ ss) }
+    ensures tells { Tells result lines.old lines.new (awaited.counted (codes "slots") awaited.each_slot ∷ []) (λ _. []) }
+{
+    let mut slots = slots_read(alloc, lines)?;
+    keep_values(alloc, &mut slots)?;
+    Ok(slots)
+}
+
+// The same, with their values as they were read.
+fn slots_read(alloc: Global, lines: &mut Lines<'_>) -> Result<Vec<Slot>, DecodeError>
     ensures reads { (ss : List Meant) (rest : List datum.Text) → IsTrue (list_all is_slot_read ss) → Left lines.old (counted (codes "slots") (length ss) ∷ (each_slot ss ++ rest)) → Reads result lines.new rest (λ v. v.items ≡ ss) }
     ensures tells { Tells result lines.old lines.new (awaited.counted (codes "slots") awaited.each_slot ∷ []) (λ _. []) }
 {
@@ -39,12 +54,18 @@ fn so_many_slots(alloc: Global, lines: &mut Lines<'_>, count: u64) -> Result<Vec
     ensures reads { (ss : List Meant) (rest : List datum.Text) → IsTrue (list_all is_slot_read ss) → count ≡ length ss → Left lines.old (each_slot ss ++ rest) → Reads result lines.new rest (λ v. v.items ≡ ss) }
     ensures tells { Tells result lines.old lines.new (again count awaited.each_slot ∷ []) (λ _. []) }
 {
-    let mut slots = Vec::new(alloc);
+    let mut slots = Vec::with_capacity(alloc, room(count))?;
     'reading: for _slot in 0..count {
         let slot = next_slot(alloc, lines)?;
         slots.push(slot)?;
     }
     Ok(slots)
+}
+
+// For how many slots there is room at first, of so many that are told: with their names they take a quarter more, and fit where these lay.
+fn room(count: u64) -> usize {
+    let count = usize::try_from(count.min(MOST)).unwrap_or(0);
+    count + (count + 3) / 4
 }
 
 fn next_slot(alloc: Global, lines: &mut Lines<'_>) -> Result<Slot, DecodeError>
@@ -62,7 +83,7 @@ fn slot(owner: i32, bits: SlotBits, content: Option<Value>) -> Slot
     ensures { result ≡ record { content = content; owner = owner; readable = bits.readable; writable = bits.writable; changeable = bits.changeable } }
 {
     Slot {
-        content,
+        content: Content::new(content),
         owner,
         readable: bits.readable,
         writable: bits.writable,

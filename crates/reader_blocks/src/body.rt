@@ -31,13 +31,20 @@ fn statement(
       strays = strays_of strays.items;
     }) }
 {
-    let nodes = followed(nodes, of_body)?;
-    let nodes = under(line, nodes)?;
+    let nodes = nodes_of(line, nodes, of_body)?;
     Ok(FoundStatement {
         tree: Statement { node },
         nodes,
         strays,
     })
+}
+
+// The nodes of a statement of this line with those of its parts.
+fn nodes_of(line: u64, nodes: Nodes, of_body: Nodes) -> Result<Nodes, AllocError>
+    ensures { IfOk result (λ ns. ns ≡ under line (nodes ++ of_body)) }
+{
+    let nodes = followed(nodes, of_body)?;
+    under(line, nodes)
 }
 
 // Over the items of a list.

@@ -1,13 +1,14 @@
 //! What leaves a loop, or goes on with its next turn.
 
-ghost use Rattle.std.specs.Prelude.{◌≡◌, IfOk, OnOk};
+ghost use Rattle.std.specs.Prelude.{◌≡◌, false, [], ◌∷◌, IfOk, OnOk};
 ghost use Rattle.spec_program.specs.Frames.{a_statement};
 ghost use Rattle.spec_program.specs.ReadPrograms as by;
+ghost use Rattle.spec_program.specs.Reading.{under as meant_under};
 ghost use Rattle.spec_program.specs.Tree as tree;
 ghost use Rattle.spec_reader.specs.Begins.{leaving_begins};
 ghost use Rattle.spec_reader.specs.Next.{taken_word};
 ghost use Rattle.moo_tree.specs.StatementView.{node_statement};
-ghost use Rattle.moo_reader.specs.BlockViews.{statement_found};
+ghost use Rattle.moo_reader.specs.BlockViews.{statement_found, strays_of};
 ghost use Rattle.reader_frames.specs.LeftView.{left_of};
 ghost use Rattle.reader_frames.specs.FrameViews.{all_begun};
 ghost use Rattle.reader_frames.specs.StateView.{state_of};
@@ -45,6 +46,23 @@ fn stray(
 ) -> Result<FoundStatement, AllocError>
     ensures { IfOk result (λ s. statement_found s ≡ by.stray line name (node_statement node)) }
 {
+    let (nodes, strays) = stray_alone(alloc, line, name)?;
+    Ok(FoundStatement {
+        tree: Statement { node },
+        nodes,
+        strays,
+    })
+}
+
+// The nodes and the strays of a statement of this line that leaves a loop.
+fn stray_alone(
+    alloc: Global,
+    line: u64,
+    name: Option<Text>,
+) -> Result<(Nodes, Vec<Stray>), AllocError>
+    ensures nodes { IfOk result (λ p. p.0 ≡ meant_under line []) }
+    ensures strays { IfOk result (λ p. strays_of p.1.items ≡ record { line = line; name = name; cut_off = false } ∷ []) }
+{
     let nodes = under(line, Nodes::none(alloc))?;
     let mut strays = Vec::new(alloc);
     strays.push(Stray {
@@ -52,11 +70,7 @@ fn stray(
         name,
         cut_off: false,
     })?;
-    Ok(FoundStatement {
-        tree: Statement { node },
-        nodes,
-        strays,
-    })
+    Ok((nodes, strays))
 }
 
 /// `break`.

@@ -3,6 +3,7 @@ use denote.Param.Send.{IsSend, IsSync, sendable}
 use denote.Param.SendFields.{as_row_send, declared_send, variants_send}
 use Rattle.std.proofs.Crossing.{crosses}
 use Rattle.moo_value.proofs.Crossing.{value_send, value_sync, text_send, text_sync}
+use Rattle.slot_content.proofs.Crossing.{content_send, content_sync}
 use Rattle.moo_task.proofs.Crossing.{task_send, task_sync}
 use Rattle.moo_compiler.proofs.Crossing.{program_send, program_sync}
 use Rattle.view.specs.contracts.change.Change as change
@@ -26,7 +27,7 @@ pub header_send : IsSend header.the_row
 header_send = search (sendable, crosses, text_send) depth 60
 
 pub slot_send : IsSend slot.the_row
-slot_send = search (sendable, crosses, value_send) depth 60
+slot_send = search (sendable, crosses, content_send) depth 60
 
 pub slots_send : IsSend slots.the_row
 slots_send = search (sendable, crosses, text_send, slot_send) depth 60
@@ -38,7 +39,7 @@ pub header_sync : IsSync header.the_row
 header_sync = search (sendable, crosses, text_sync) depth 60
 
 pub slot_sync : IsSync slot.the_row
-slot_sync = search (sendable, crosses, value_sync) depth 60
+slot_sync = search (sendable, crosses, content_sync) depth 60
 
 pub slots_sync : IsSync slots.the_row
 slots_sync = search (sendable, crosses, text_sync, slot_sync) depth 60

@@ -1,8 +1,9 @@
 pub mod Facets
+pub mod Keeping
 pub mod Law
 pub mod Meanings
 pub mod Parts
 pub mod QuestionCode
+pub mod Shared
 pub mod Sound
 pub mod Writing
-pub mod Shared

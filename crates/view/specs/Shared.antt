@@ -1,8 +1,8 @@
 -- Lists that are shared, of which those without items take no memory.
-use Rattle.std.specs.Prelude.{ℤ, List, [], Option, None, Some}
+use Rattle.std.specs.Prelude.{List, [], Option, None, Some}
 use Rattle.std.specs.declared.vec.Vec.{Vec}
 use Rattle.std.specs.declared.alloc.Global.{Global}
 
-abbrev pub shared_numbers : Option (Vec ℤ Global) → List ℤ
-shared_numbers None = []
-shared_numbers (Some numbers) = numbers.items
+abbrev pub shared_items : {A : Type 0} → Option (Vec A Global) → List A
+shared_items None = []
+shared_items (Some items) = items.items

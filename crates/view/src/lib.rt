@@ -7,6 +7,7 @@
 pub mod change;
 pub mod changes;
 pub mod header;
+pub mod keeping;
 pub mod law;
 pub mod link;
 pub mod lists;

@@ -15,14 +15,14 @@ pub struct Objects {
 impl Model for Objects {
     ghost use Rattle.std.specs.Prelude.{List, ℤ, option_map};
     ghost use Rattle.std.specs.Arc.{arc_value};
-    ghost use Rattle.view.specs.Shared.{shared_numbers};
+    ghost use Rattle.view.specs.Shared.{shared_items};
     ghost use Rattle.spec_world.specs.WorldCode.{integers_code};
 
     ghost Value = { List ℤ };
 
     ghost coded = { integers_code };
 
-    ghost view = { λ a. shared_numbers (option_map arc_value a.items) };
+    ghost view = { λ a. shared_items (option_map arc_value a.items) };
 }
 
 impl Objects {
@@ -64,16 +64,17 @@ impl Clone for Objects {
 /// Numbers of tasks or of connections, in their order.
 pub type Numbers = Objects;
 
-/// Names in their order, shared by their owners: a clone is a count.
+/// Names in their order, shared by their owners: a clone is a count. None take no memory.
 #[derive(Drop)]
 pub struct Names {
-    items: Arc<Vec<Text>>,
+    items: Option<Arc<Vec<Text>>>,
 }
 
 impl Model for Names {
-    ghost use Rattle.std.specs.Prelude.{List};
+    ghost use Rattle.std.specs.Prelude.{List, option_map};
     ghost use Rattle.std.specs.Coded.{coded_list};
     ghost use Rattle.std.specs.Arc.{arc_value};
+    ghost use Rattle.view.specs.Shared.{shared_items};
     ghost use Rattle.spec_value.specs.Datum.{Text as Characters};
     ghost use Rattle.spec_world.specs.WorldCode.{text_code};
 
@@ -81,7 +82,7 @@ impl Model for Names {
 
     ghost coded = { coded_list text_code };
 
-    ghost view = { λ a. (arc_value a.items).items };
+    ghost view = { λ a. shared_items (option_map arc_value a.items) };
 }
 
 impl Names {
@@ -89,8 +90,11 @@ impl Names {
     pub fn new(alloc: Global, names: Vec<Text>) -> Result<Names, AllocError>
         ensures { IfOk result (λ ts. ts ≡ names.items) }
     {
+        if names.is_empty() {
+            return Ok(Names { items: None });
+        }
         Ok(Names {
-            items: Arc::new(alloc, names)?,
+            items: Some(Arc::new(alloc, names)?),
         })
     }
 
@@ -98,7 +102,10 @@ impl Names {
     pub fn as_slice(&self) -> &[Text]
         ensures { result.now ≡ self.now }
     {
-        self.items.as_slice()
+        match &self.items {
+            Some(items) => items.as_slice(),
+            None => &[],
+        }
     }
 }
 
@@ -106,9 +113,11 @@ impl Clone for Names {
     ghost is_clone = { λ names copy. copy ≡ names };
 
     fn clone(&self) -> Result<Names, AllocError> {
-        Ok(Names {
-            items: self.items.clone()?,
-        })
+        let items = match &self.items {
+            Some(items) => Some(items.clone()?),
+            None => None,
+        };
+        Ok(Names { items })
     }
 }
 

@@ -11,9 +11,7 @@ use crate::question::Answer;
 use crate::slot::Slot;
 use crate::verb::{Verb, Verbs};
 use moo_task::task::Task;
-use moo_value::compare::equal;
 use moo_value::text::Text;
-use moo_value::value::Value;
 
 impl Header {
     /// Whether two headers are the same.
@@ -45,21 +43,11 @@ impl Slot {
     pub fn same(&self, other: &Slot) -> bool
         ensures { IsTrue result ↔ self.now ≡ other.now }
     {
-        same_contents(&self.content, &other.content)
+        self.content.same(&other.content)
             && self.owner == other.owner
             && self.readable == other.readable
             && self.writable == other.writable
             && self.changeable == other.changeable
-    }
-}
-
-fn same_contents(a: &Option<Value>, b: &Option<Value>) -> bool
-    ensures { IsTrue result ↔ a.now ≡ b.now }
-{
-    match (a, b) {
-        (Some(x), Some(y)) => equal(x, y),
-        (None, None) => true,
-        _ => false,
     }
 }
 

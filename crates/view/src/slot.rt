@@ -2,14 +2,14 @@
 ghost use Rattle.std.specs.Prelude.{◌≡◌, IfOk};
 ghost use Rattle.spec_world.specs.Permissions.{owns_or};
 
-use moo_value::value::Value;
+use slot_content::content::Content;
 use std::alloc::AllocError;
 use std::marker::Model;
 
 /// A property's slot on an object: a value, or clear.
 #[derive(Drop)]
 pub struct Slot {
-    pub content: Option<Value>,
+    pub content: Content,
     pub owner: i32,
     pub readable: bool,
     pub writable: bool,
@@ -47,12 +47,8 @@ impl Clone for Slot {
     ghost is_clone = { λ slot copy. copy ≡ slot };
 
     fn clone(&self) -> Result<Slot, AllocError> {
-        let content = match &self.content {
-            Some(value) => Some(value.clone()?),
-            None => None,
-        };
         Ok(Slot {
-            content,
+            content: self.content.clone()?,
             owner: self.owner,
             readable: self.readable,
             writable: self.writable,

@@ -11,6 +11,7 @@ ghost use Rattle.std.specs.Cmp.Lexicographic.{slice_cmp};
 use crate::slot::Slot;
 use moo_value::text::Text;
 use moo_value::value::Value;
+use slot_content::content::Content;
 use std::alloc::{AllocError, Global};
 use std::cmp::Ordering;
 use std::marker::Model;
@@ -346,7 +347,7 @@ fn fill(entries: &mut Vec<(Text, Slot)>, index: usize, value: Value)
         × (entries.new.items ≡ slice_set entries.old.items index (e.0, record e.1 { content = Some value })) }
 {
     let slot = &mut entries[index].1;
-    slot.content = Some(value);
+    slot.content = Content::value(value);
 }
 
 // The slot at an index goes.

@@ -87,16 +87,17 @@ impl Clone for Verb {
     }
 }
 
-/// The verbs of an object in their order, shared by their owners: a clone is a count.
+/// The verbs of an object in their order, shared by their owners: a clone is a count. None take no memory.
 #[derive(Drop)]
 pub struct Verbs {
-    items: Arc<Vec<Verb>>,
+    items: Option<Arc<Vec<Verb>>>,
 }
 
 impl Model for Verbs {
-    ghost use Rattle.std.specs.Prelude.{List};
+    ghost use Rattle.std.specs.Prelude.{List, option_map};
     ghost use Rattle.std.specs.Coded.{coded_list};
     ghost use Rattle.std.specs.Arc.{arc_value};
+    ghost use Rattle.view.specs.Shared.{shared_items};
     ghost use Rattle.spec_world.specs.World.{Verb as Meant};
     ghost use Rattle.spec_world.specs.WorldCode.{verb_code};
 
@@ -104,7 +105,7 @@ impl Model for Verbs {
 
     ghost coded = { coded_list verb_code };
 
-    ghost view = { λ a. (arc_value a.items).items };
+    ghost view = { λ a. shared_items (option_map arc_value a.items) };
 }
 
 impl Verbs {
@@ -112,8 +113,11 @@ impl Verbs {
     pub fn new(alloc: Global, verbs: Vec<Verb>) -> Result<Verbs, AllocError>
         ensures { IfOk result (λ vs. vs ≡ verbs.items) }
     {
+        if verbs.is_empty() {
+            return Ok(Verbs { items: None });
+        }
         Ok(Verbs {
-            items: Arc::new(alloc, verbs)?,
+            items: Some(Arc::new(alloc, verbs)?),
         })
     }
 
@@ -121,7 +125,10 @@ impl Verbs {
     pub fn as_slice(&self) -> &[Verb]
         ensures { result.now ≡ self.now }
     {
-        self.items.as_slice()
+        match &self.items {
+            Some(items) => items.as_slice(),
+            None => &[],
+        }
     }
 }
 
@@ -129,8 +136,10 @@ impl Clone for Verbs {
     ghost is_clone = { λ verbs copy. copy ≡ verbs };
 
     fn clone(&self) -> Result<Verbs, AllocError> {
-        Ok(Verbs {
-            items: self.items.clone()?,
-        })
+        let items = match &self.items {
+            Some(items) => Some(items.clone()?),
+            None => None,
+        };
+        Ok(Verbs { items })
     }
 }

@@ -10,6 +10,7 @@ use crate::answers::copied;
 use crate::draft::Draft;
 use moo_value::text::Text;
 use moo_value::value::Value;
+use slot_content::content::Content;
 use std::alloc::{AllocError, Global};
 use view::change::Change;
 use view::question::{Answer, Question};
@@ -124,11 +125,8 @@ pub(crate) fn slot_with(home: &Slot, later: Option<&Value>) -> Result<Slot, Allo
     ensures { IfOk result (λ s. s ≡ with_later home.now (option_map (λ v. v.now) later.entry)) }
 {
     let content = match later {
-        Some(value) => Some(value.clone()?),
-        None => match &home.content {
-            Some(value) => Some(value.clone()?),
-            None => None,
-        },
+        Some(value) => Content::value(value.clone()?),
+        None => home.content.clone()?,
     };
     Ok(Slot {
         content,

@@ -1,7 +1,7 @@
 -- Slots whose names are those that the parent has and those that are defined.
-use Rattle.std.proofs.Common.{◌≡◌, ℤ, List, [], ◌++◌, map, refl, sym, subst, IsTrue, not, ◌&&◌}
+use Rattle.std.proofs.Common.{◌≡◌, ℤ, List, [], ◌++◌, map, refl, sym, subst, IsTrue, not, ◌&&◌, Option, Some, None, is_none, is_some}
 use Rattle.std.specs.List.{list_all}
-use Rattle.spec_value.specs.Datum.{Text, fold_case}
+use Rattle.spec_value.specs.Datum.{Text, Datum, fold_case}
 use Rattle.spec_value.specs.Table.{Named}
 use Rattle.spec_world.specs.World.{World, Object, Slot}
 use Rattle.spec_world.specs.WellFormed.{has_name, names_once}
@@ -52,3 +52,7 @@ none_once es is = subst (λ (ds : Named Slot). IsTrue (names_once (map (λ e. e.
 
 pub none_order : (es : Named Slot) → es ≡ [] → InOrder (map (λ e. e.0) es)
 none_order es is = subst (λ (ds : Named Slot). InOrder (map (λ e. e.0) ds)) (sym is) (λ i j s t le a b. cc)
+
+pub filled : (o : Option Datum) → not (is_none o) ≡ is_some o
+filled None = refl
+filled (Some v) = refl

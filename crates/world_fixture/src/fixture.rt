@@ -6,6 +6,7 @@ ghost use Rattle.spec_fixture.specs.Fixture as meant;
 use crate::fixture_verbs::{box_verbs, room_verbs, system_verbs};
 use moo_value::text::Text;
 use moo_value::value::Value;
+use slot_content::content::Content;
 use std::alloc::{AllocError, Global};
 use view::header::Header;
 use view::link::Link;
@@ -101,7 +102,7 @@ pub(crate) fn room_of(
         defines: one_name(alloc)?,
     };
     let slot = Slot {
-        content: Some(Value::integer(0)),
+        content: Content::value(Value::integer(0)),
         owner: WIZARD,
         readable: true,
         writable: false,

@@ -23,6 +23,7 @@ use moo_value::value::Value;
 use rules::family::below::below;
 use rules::permissions::act::Act;
 use rules::permissions::may::may;
+use slot_content::content::Content;
 use std::alloc::{AllocError, Global};
 use view::law::View;
 use view::lists::Names;
@@ -60,7 +61,7 @@ fn slot_with(value: Value, owner: i32, bits: &Text) -> Slot
     ensures { result ≡ slot_with_of value owner bits.now }
 {
     let slot = Slot {
-        content: Some(value),
+        content: Content::value(value),
         owner,
         readable: false,
         writable: false,

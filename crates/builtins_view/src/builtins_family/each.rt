@@ -7,6 +7,7 @@ ghost use Rattle.builtins_view.specs.Slots.{getting, slot_for as slot_for_of};
 
 use crate::builtins_world::properties::put_slot;
 use moo_value::text::Text;
+use slot_content::content::Content;
 use std::alloc::AllocError;
 use view::law::View;
 use view::readers::read_header;
@@ -56,7 +57,7 @@ fn slot_for(definer: i32, slot: &Slot, object: i32, owner: i32) -> Result<Slot, 
         return slot.clone();
     }
     Ok(Slot {
-        content: None,
+        content: Content::clear(),
         owner: if slot.changeable { owner } else { slot.owner },
         readable: slot.readable,
         writable: slot.writable,

@@ -23,6 +23,7 @@ use moo_value::value::Value;
 use rules::permissions::act::Act;
 use rules::permissions::may::may;
 use rules::verb_match::names::is_same;
+use slot_content::content::Content;
 use std::alloc::{AllocError, Global};
 use view::law::View;
 use view::part::Part;
@@ -111,7 +112,7 @@ pub fn is_clear_property<V: View>(
 fn clarity(slot: &Slot) -> Value
     ensures { result ≡ truth (is_none slot.now.content) }
 {
-    Value::truth(slot.content.is_none())
+    Value::truth(slot.content.is_clear())
 }
 
 /// `clear_property`. The errors before, by the right to write; `E_INVARG` where the object defines the property itself.
@@ -162,7 +163,7 @@ fn cleared(slot: Slot) -> Slot
     ensures { result ≡ record slot { content = None } }
 {
     Slot {
-        content: None,
+        content: Content::clear(),
         ..slot
     }
 }

@@ -8,6 +8,7 @@ ghost use Rattle.builtins_view.specs.Heirs.{inherit_down, inherit_each as inheri
 use crate::builtins_world::properties::put_slot;
 use moo_value::text::Text;
 use rules::family::losing::lose_slots;
+use slot_content::content::Content;
 use std::alloc::AllocError;
 use view::law::View;
 use view::readers::{read_header, read_slot};
@@ -84,7 +85,7 @@ pub fn heir_slot(slot: &Slot, owner: i32) -> Result<Slot, AllocError>
     ensures { IfOk result (λ s. s ≡ heir_slot_of owner slot.now) }
 {
     Ok(Slot {
-        content: None,
+        content: Content::clear(),
         owner: if slot.changeable { owner } else { slot.owner },
         readable: slot.readable,
         writable: slot.writable,

@@ -10,7 +10,7 @@ ghost use Rattle.checkpoint_text.specs.Shortcuts.{ArePassed};
 use crate::checkpoint_fields::page::Page;
 use crate::checkpoint_objects::shortcut::{Shortcut, beyond, parent};
 use moo_value::text::Text;
-use moo_value::value::Value;
+use slot_content::content::{Content, Shown};
 use std::alloc::{AllocError, Global};
 use view::object::Object;
 use view::slot::Slot;
@@ -128,11 +128,13 @@ fn put_bits(page: &mut Page, slot: &Slot) -> Result<(), AllocError>
     page.put_letter("c", slot.changeable)
 }
 
-fn put_content(page: &mut Page, content: &Option<Value>) -> Result<(), AllocError>
+#[tactic(auto, using(crate::proofs::Contents::literal_told))]
+fn put_content(page: &mut Page, content: &Content) -> Result<(), AllocError>
     ensures { OnOk result (page.new ≡ page.old ++ content_text content.now) }
 {
-    match content {
-        Some(value) => page.put_value(value),
-        None => page.put("clear"),
+    match content.shown() {
+        Shown::Clear => page.put("clear"),
+        Shown::Value(value) => page.put_value(value),
+        Shown::Literal(text) => page.put(text),
     }
 }

@@ -89,7 +89,7 @@ fn read_own<V: View>(
     if !allowed {
         return Ok(Err(MooError::PermissionDenied));
     }
-    let content = content_of(slot);
+    let content = content_of(slot)?;
     match content {
         Some(value) => Ok(Ok(value)),
         None => {
@@ -101,10 +101,10 @@ fn read_own<V: View>(
 
 // What a slot holds, taken out of it.
 #[inline(always)]
-fn content_of(slot: Slot) -> Option<Value>
-    ensures { result ≡ slot.content }
+fn content_of(slot: Slot) -> Result<Option<Value>, AllocError>
+    ensures { IfOk result (λ content. content ≡ slot.content) }
 {
-    slot.content
+    slot.content.into_value()
 }
 
 /// Why there is no slot of a name: the object is not there, or has no such property.

@@ -43,7 +43,8 @@ pub fn value_of<V: View>(
     ensures lasts { Lasts V.holds V.home V.anchor view.old view.new result }
     ensures left { IfOk result (λ v. Tells V.holds V.now view.old view.new (λ w. property_value w object name.now ≡ v)) }
 {
-    match own_value(slot) {
+    let own = own_value(slot)?;
+    match own {
         Own::Settled(value) => Ok(value),
         Own::Clear => inherited(view, object, name),
     }
@@ -64,7 +65,8 @@ pub(crate) fn inherited<V: View>(
     let mut next = parent(view, object)?;
     while let Some(at) = next {
         let slot = read_slot(view, at, name)?;
-        match own_value(slot) {
+        let own = own_value(slot)?;
+        match own {
             Own::Settled(value) => return Ok(value),
             Own::Clear => next = parent(view, at)?,
         }
@@ -81,14 +83,15 @@ enum Own {
     Clear,
 }
 
-fn own_value(slot: Option<Slot>) -> Own
-    ensures { IsOwn slot result }
+fn own_value(slot: Option<Slot>) -> Result<Own, AllocError>
+    ensures { IfOk result (λ own. IsOwn slot own) }
 {
-    match slot {
-        Some(slot) => match slot.content {
-            Some(value) => Own::Settled(Some(value)),
-            None => Own::Clear,
-        },
-        None => Own::Settled(None),
+    let Some(slot) = slot else {
+        return Ok(Own::Settled(None));
+    };
+    let content = slot.content.into_value()?;
+    match content {
+        Some(value) => Ok(Own::Settled(Some(value))),
+        None => Ok(Own::Clear),
     }
 }

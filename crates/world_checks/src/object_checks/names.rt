@@ -80,11 +80,12 @@ pub fn are_filled(slots: &Slots, names: &[Text]) -> bool
     true
 }
 
+#[tactic(auto, using(crate::proofs::Follow::filled))]
 fn is_filled(slots: &Slots, name: &Text) -> bool
     ensures { result ≡ is_some (content_of (named slots.now (fold_case name.now))) }
 {
     match slots.get(name) {
-        Some(slot) => slot.content.is_some(),
+        Some(slot) => !slot.content.is_clear(),
         None => false,
     }
 }

@@ -8,7 +8,7 @@ returns c =
     let one = c.deref_mut.ensures.value in
     let two = c.deref_mut-2.ensures.value in
     let three = c.deref_mut-3.ensures.value in
-    let six = c.deref_mut-6.ensures.value in
+    let six = c.deref_mut-5.ensures.value in
     joined_similar (found_of c.args.found) c.args.term c.in_ok-nodes.nodes
     (c.replace-tree.ensures.value ∙ ap (λ w. w.tree) two ∙ ap (λ w. w.tree) one)
     (c.replace-nodes.ensures.value ∙ ap (λ w. w.nodes) one)

@@ -8,7 +8,7 @@ overflow_sub-result c =
     let parts = data_weight-three c.args.items.now c.args.start c.args.end (omega arith) in
     omega (arith, parts)
 
-pub returns-else-whole-eq18446744073709551615 : goal.returns-else-whole-eq18446744073709551615
-returns-else-whole-eq18446744073709551615 c =
+pub returns-else-whole-eq4294967295 : goal.returns-else-whole-eq4294967295
+returns-else-whole-eq4294967295 c =
     let parts = data_weight-three c.args.items.now c.args.start c.args.end (omega arith) in
     omega (arith, parts)

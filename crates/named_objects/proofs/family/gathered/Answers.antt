@@ -9,8 +9,8 @@ pub loop-place-preserved : goal.loop-place-preserved
 loop-place-preserved c = λ w are leads.
     let lt : c.loop-place.place < length c.args.records.now = omega arith in
     let e = entry_here w c.args.records.now c.loop-place.place are lt in
-    one_more _ _ c.loop-place.all.items c.push.new.self.items w.objects c.loop-place.place c.in-Some.names e.0 c.in_ok-push-in-Some.ensures.items e.1 (c.loop-place.invariant w are leads)
-    (some_is c.in_ok-names.names c.in-Some.names (λ (v : Vec Text Global). v.items ≡ object_names w (e.0).0) c.in-Some.is (c.in_ok-names.ensures w (e.0).0 (e.0).1 are leads e.1))
+    one_more _ c.loop-place.all.items c.push.new.self.items w.objects c.loop-place.place c.in_ok-names-in-Some.names e.0 c.in_ok-push-in-Some.ensures.items e.1 (c.loop-place.invariant w are leads)
+    (c.in_ok-names-in-Some.ensures ∙ some_is c.in_ok-names.names c.in-Some.names (λ (v : Vec Text Global). v.items ≡ object_names w (e.0).0) c.in-Some.is (c.in_ok-names.ensures w (e.0).0 (e.0).1 are leads e.1))
 
 pub returns-in-None : goal.returns-in-None
 returns-in-None c = λ w are leads.

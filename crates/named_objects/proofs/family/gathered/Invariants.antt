@@ -5,4 +5,4 @@ use Rattle.named_objects.specs.Ways.{LeadsUp}
 use Rattle.named_objects.proofs.family.gathered.Given as goal
 
 abbrev pub invariant-loop-place : goal.invariant-loop-place
-invariant-loop-place l = (w : World) → AreObjects w l.records → LeadsUp w l.records l.upwards → map (λ n. n.items) l.all.items ≡ map (λ e. object_names w e.0) (take l.place w.objects)
+invariant-loop-place l = (w : World) → AreObjects w l.records → LeadsUp w l.records l.upwards → l.all.items ≡ map (λ e. object_names w e.0) (take l.place w.objects)

@@ -14,7 +14,7 @@ use Rattle.object_lines.proofs.slot.so_many_slots.Goals as goal
 
 pub reading-init : goal.reading-init
 reading-init c = (
-  λ xs rest h n l. (l, ap (λ ys. ys ++ xs) c.new-slots.ensures.items),
+  λ xs rest h n l. (l, ap (λ ys. ys ++ xs) c.in_ok-slots.ensures.items),
   none_yet c.args.lines.now c.args.count awaited.each_slot,
 )
 
@@ -27,9 +27,9 @@ returns-in_err-slot c = record {
       let inv = c.reading.invariant.0 xs rest h n l in
       let here = subst (λ us. Left c.reading.lines (each_slot us ++ rest)) at.2 inv.0 in
       let memory = c.in_err-slot.ensures.reads at.0 (each_slot later ++ rest) (holds_at is_slot_read xs c.reading._slot at.0 at.1 h) here in
-      let passed = err_from_is_err_and c.from_residual.result c.from_residual.ensures.1 in
-      gives_passed c.from_residual.result passed.0 _ passed.1 (cc (passed.2, memory));
-  tells = let passed = err_from_is_err_and c.from_residual.result c.from_residual.ensures.1 in passed_on c.from_residual.result passed.0 _ c.args.lines.now _ (again c.args.count awaited.each_slot ∷ []) (λ _. []) passed.1 passed.2 (one_fails _ c.args.lines.now c.reading.lines c.args.count c.reading._slot awaited.each_slot (omega arith) c.reading.invariant.1 c.in_err-slot.ensures.tells);
+      let passed = err_from_is_err_and c.from_residual-in_err-slot.result c.from_residual-in_err-slot.ensures.1 in
+      gives_passed c.from_residual-in_err-slot.result passed.0 _ passed.1 (cc (passed.2, memory));
+  tells = let passed = err_from_is_err_and c.from_residual-in_err-slot.result c.from_residual-in_err-slot.ensures.1 in passed_on c.from_residual-in_err-slot.result passed.0 _ c.args.lines.now _ (again c.args.count awaited.each_slot ∷ []) (λ _. []) passed.1 passed.2 (one_fails _ c.args.lines.now c.reading.lines c.args.count c.reading._slot awaited.each_slot (omega arith) c.reading.invariant.1 c.in_err-slot.ensures.tells);
 }
 
 pub reading-preserved : goal.reading-preserved

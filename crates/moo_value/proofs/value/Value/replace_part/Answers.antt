@@ -28,5 +28,5 @@ pub returns-in_ok-self-inside-in-Empty : goal.returns-in_ok-self-inside-in-Empty
 returns-in_ok-self-inside-in-Empty c =
     let between = of_list c.args.between.now in
     let is : list no_data ≡ c.args.self.now = sym (ap node_datum c.in-Empty.is) ∙ c.self.view_is in
-    c.branch.view_is ∙ c.in_ok-self-inside-in-Empty.ensures ∙ ap (λ ds. list (of_list ds)) c.in_ok-copied-in-Empty.ensures
+    c.drop.view_is ∙ c.in_ok-self-inside-in-Empty.ensures ∙ ap (λ ds. list (of_list ds)) c.in_ok-copied-in-Empty.ensures
     ∙ sym (ap list (part_of_nothing c.args.start c.args.end between)) ∙ ap (λ d. list_with_part d c.args.start c.args.end between) is

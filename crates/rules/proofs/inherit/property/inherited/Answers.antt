@@ -14,7 +14,7 @@ returns-in-Settled-clause-left g c =
     (λ w. first_value w (drop 1 (ancestors w c.args.object)) c.args.name.now ≡ first_value w (from w (Some c.in-Some.at)) c.args.name.now) (λ w. slot_at w c.in-Some.at c.args.name.now ≡ c.in_ok-slot.slot)
     (λ w. first_value w (drop 1 (ancestors w c.args.object)) c.args.name.now ≡ c.in-Settled.value)
     c.requires.well_formed (rw (c.in-Some.is, object) at c.loop-next.invariant.left) (rw at at c.in_ok-slot.ensures.left)
-    (λ w sound so is. settled_on w c.in-Some.at c.args.name.now c.in_ok-slot.slot c.in-Settled.value (first_value w (drop 1 (ancestors w c.args.object)) c.args.name.now) sound so is c.in-Settled.ensures)
+    (λ w sound so is. settled_on w c.in-Some.at c.args.name.now c.in_ok-slot.slot c.in-Settled.value (first_value w (drop 1 (ancestors w c.args.object)) c.args.name.now) sound so is (rw c.in-Settled.is at c.in_ok-own.ensures))
 
 pub parent-requires-in-Clear : goal.parent-requires-in-Clear
 parent-requires-in-Clear g c =
@@ -52,7 +52,7 @@ loop-next-preserved g c =
           (λ w. first_value w (drop 1 (ancestors w c.args.object)) c.args.name.now ≡ first_value w (from w (Some c.in-Some.at)) c.args.name.now) (λ w. slot_at w c.in-Some.at c.args.name.now ≡ c.in_ok-slot.slot)
           (λ w. first_value w (drop 1 (ancestors w c.args.object)) c.args.name.now ≡ first_value w (drop 1 (ancestors w c.in-Some.at)) c.args.name.now)
           c.requires.well_formed (rw (c.in-Some.is, object) at c.loop-next.invariant.left) (rw at at c.in_ok-slot.ensures.left)
-          (λ w sound so is. clear_on w c.in-Some.at c.args.name.now c.in_ok-slot.slot (first_value w (drop 1 (ancestors w c.args.object)) c.args.name.now) sound so is c.in-Clear.ensures))
+          (λ w sound so is. clear_on w c.in-Some.at c.args.name.now c.in_ok-slot.slot (first_value w (drop 1 (ancestors w c.args.object)) c.args.name.now) sound so is (rw c.in-Clear.is at c.in_ok-own.ensures)))
           (rw at at c.in_ok-next-in-Clear.ensures.left) (λ w sound so up. so ∙ above_value w c.in-Some.at c.args.name.now c.in_ok-next-in-Clear.next up));
     }
 

@@ -1,0 +1,4 @@
+pub mod Behind
+pub mod Crossing
+pub mod Pieces
+pub mod Sameness

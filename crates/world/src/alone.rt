@@ -23,9 +23,15 @@ use view::slot::Slot;
 use view::verb::Verbs;
 
 /// A view of a world, which is borrowed and stays as it is. It keeps the changes, and nothing of what was read.
-#[derive(Drop)]
 pub struct Alone<'w> {
     overlay: Overlay<'w>,
+}
+
+// Written out, so that letting go of all that it holds is proved here and not where one is let go.
+impl<'w> Drop for Alone<'w> {
+    fn drop(self) {
+        let Alone { overlay: _overlay } = self;
+    }
 }
 
 impl<'w> Model for Alone<'w> {

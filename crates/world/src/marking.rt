@@ -28,13 +28,23 @@ use view::verb::Verbs;
 const FEW: usize = 4;
 
 /// A view of a world, which is borrowed and stays as it is. It keeps the changes, and of what was read the objects on which slots were asked for.
-#[derive(Drop)]
 pub struct Marking<'w> {
     overlay: Overlay<'w>,
     // The objects, each of them mostly once.
     objects: Vec<i32>,
     // What was asked.
     trail: Trail,
+}
+
+// Written out, so that letting go of all that it holds is proved here and not where one is let go.
+impl<'w> Drop for Marking<'w> {
+    fn drop(self) {
+        let Marking {
+            overlay: _overlay,
+            objects: _objects,
+            trail: _trail,
+        } = self;
+    }
 }
 
 impl<'w> Model for Marking<'w> {

@@ -28,7 +28,6 @@ use view::verb::Verbs;
 const FEW: usize = 4;
 
 /// Changes over the records of a world, its home, which stay as they are.
-#[derive(Drop)]
 pub(crate) struct Overlay<'h> {
     home: &'h Draft,
     // The records with the changes. None where these are few and light, so that answers follow without them.
@@ -37,6 +36,19 @@ pub(crate) struct Overlay<'h> {
     seen: bool,
     changes: Changes,
     alloc: Global,
+}
+
+// Written out, so that letting go of all that an overlay holds is proved here and not where a view is let go.
+impl<'h> Drop for Overlay<'h> {
+    fn drop(self) {
+        let Overlay {
+            home: _home,
+            fork: _fork,
+            seen: _seen,
+            changes: _changes,
+            alloc: _alloc,
+        } = self;
+    }
 }
 
 impl<'h> Model for Overlay<'h> {

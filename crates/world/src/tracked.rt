@@ -26,7 +26,6 @@ use view::slot::Slot;
 use view::verb::Verbs;
 
 /// A view of a snapshot. It keeps the questions, whose answers are the snapshot's, and the changes; the snapshot stays as it is.
-#[derive(Drop)]
 pub struct Tracked<'s> {
     overlay: Overlay<'s>,
     asked: Asked,
@@ -34,6 +33,19 @@ pub struct Tracked<'s> {
     // One owner more of the snapshot, as soon as something is asked.
     own: Option<SharedSnapshot>,
     alloc: Global,
+}
+
+// Written out, so that letting go of all that it holds is proved here and not where one is let go.
+impl<'s> Drop for Tracked<'s> {
+    fn drop(self) {
+        let Tracked {
+            overlay: _overlay,
+            asked: _asked,
+            snapshot: _snapshot,
+            own: _own,
+            alloc: _alloc,
+        } = self;
+    }
 }
 
 impl<'s> Model for Tracked<'s> {

@@ -6,12 +6,12 @@ ghost use Rattle.spec_value.specs.Literal.{literal};
 ghost use Rattle.spec_world.specs.Checkpoint.{list_literal};
 ghost use Rattle.slot_content.specs.Kept.{literals, marks, IsKept};
 
+use crate::writing::put_value;
 use boxcar::slot::{OnceSlot, SlotRule};
 use boxcar::tag::{Names, Tag};
 use line_fields::held::literal;
 use moo_value::text::{back, front};
 use moo_value::value::Value;
-use moo_value::write::Literal;
 use std::alloc::{AllocError, Global};
 use std::marker::Model;
 use std::snapshot::Snapshot;
@@ -203,7 +203,7 @@ fn written(alloc: Global, values: &[Value]) -> Result<Option<(String, Vec<u32>)>
     let mut ends = Vec::with_capacity(alloc, values.len().saturating_add(1))?;
     ends.push(0)?;
     for value in values {
-        write!(text, "{}", Literal(value))?;
+        put_value(&mut text, value)?;
         let Ok(end) = u32::try_from(text.len()) else {
             return Ok(None);
         };

@@ -8,3 +8,4 @@ pub mod content;
 pub mod kept;
 mod same;
 mod spells;
+pub mod writing;

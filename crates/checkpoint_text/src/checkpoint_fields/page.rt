@@ -1,14 +1,15 @@
 //! Text that is being written.
-ghost use Rattle.std.specs.Prelude.{◌≡◌, ◌<◌, ◌++◌, ◌∷◌, [], IfOk, OnOk, MatchOption, IsTrue, string_bytes};
+ghost use Rattle.std.specs.Prelude.{◌≡◌, ◌++◌, ◌∷◌, [], IfOk, OnOk, MatchOption, IsTrue, string_bytes};
 ghost use Rattle.std.specs.Fmt.{decimal, signed_decimal};
 ghost use Rattle.spec_value.specs.Datum.{list, of_list, text as text_of, is_text};
-ghost use Rattle.spec_value.specs.Literal.{literal, escape, escaped};
+ghost use Rattle.spec_value.specs.Literal.{literal};
 ghost use Rattle.spec_world.specs.Checkpoint.{flag, object_text, letter_if};
 ghost use Rattle.checkpoint_text.specs.Behind.{BeginsOtherwise};
 
 use itoa::Buffer;
 use moo_value::text::Text;
 use moo_value::value::{Shown, Value};
+use slot_content::writing::put_quoted;
 use std::alloc::{AllocError, Global};
 use std::marker::Model;
 
@@ -164,34 +165,7 @@ impl Page {
         requires { IsTrue (is_text text.now) }
         ensures { OnOk result (self.new ≡ self.old ++ literal (text_of text.now)) }
     {
-        self.put("\"")?;
-        if is_plain(text) {
-            self.put(text)?;
-        } else {
-            self.put_escaped(text)?;
-        }
-        self.put("\"")
-    }
-
-    // Writes a text with a backslash before each quote and backslash.
-    fn put_escaped(&mut self, text: &str) -> Result<(), AllocError>
-        requires { IsTrue (is_text text.now) }
-        ensures { OnOk result (self.new ≡ self.old ++ escaped text.now) }
-    {
-        for byte in text.as_bytes() {
-            self.put_byte(*byte)?;
-        }
-        Ok(())
-    }
-
-    fn put_byte(&mut self, byte: u8) -> Result<(), AllocError>
-        requires { byte < 128 }
-        ensures { OnOk result (self.new ≡ self.old ++ escape byte) }
-    {
-        if byte == b'"' || byte == b'\\' {
-            self.text.push_str("\\")?;
-        }
-        self.text.push(char::from(byte))
+        put_quoted(&mut self.text, text)
     }
 }
 
@@ -200,16 +174,4 @@ pub(crate) fn behind<'b>(front: &[u8], bytes: &'b [u8]) -> Option<&'b [u8]>
     ensures { MatchOption result (BeginsOtherwise front.now bytes.now) (λ rest. bytes.now ≡ front.now ++ rest.now) }
 {
     bytes.strip_prefix(front)
-}
-
-// Whether a text has no quote and no backslash.
-fn is_plain(text: &str) -> bool
-    ensures { IsTrue result → escaped text.now ≡ text.now }
-{
-    for byte in text.as_bytes() {
-        if *byte == b'"' || *byte == b'\\' {
-            return false;
-        }
-    }
-    true
 }

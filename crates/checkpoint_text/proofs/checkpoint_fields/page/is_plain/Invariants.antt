@@ -1,6 +1,0 @@
-use Rattle.std.proofs.Common.{◌≡◌, drop}
-use Rattle.spec_value.specs.Literal.{escaped}
-use Rattle.checkpoint_text.proofs.checkpoint_fields.page.is_plain.Given as goal
-
-abbrev pub invariant-loop-byte : goal.invariant-loop-byte
-invariant-loop-byte l = escaped (drop l.byte-index l.byte-items) ≡ drop l.byte-index l.byte-items → escaped l.byte-items ≡ l.byte-items

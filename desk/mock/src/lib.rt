@@ -1,0 +1,4 @@
+//! Reads programs.
+#![tactic(auto)]
+
+pub mod parse;

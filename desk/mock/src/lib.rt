@@ -1,4 +1,0 @@
-//! Reads programs.
-#![tactic(auto)]
-
-pub mod parse;

@@ -1,126 +1,145 @@
-//! The programs of a text, read by several threads before its lines are.
+//! The objects of a text, read by several threads before their turn.
 //!
-//! Nothing is promised of them but that each is the program of its text, if that spells one: so the lines around them are looked at no closer than to find
-//! them.
+//! Nothing is promised of them but what their type says: that they stand between two places of it. So the text is looked at no closer than to find lines
+//! that objects may begin with.
 ghost use Rattle.std.specs.Prelude.{⊤};
 
-use checkpoint_lines::known::Known;
+use checkpoint_lines::lines::Lines;
 use line_fields::cut::cut_at;
 use line_fields::number::natural;
+use object_lines::ahead::ObjectsAhead;
 use rayon::prelude::*;
 use std::alloc::{AllocError, Global};
 use std::thread::Threads;
 
-// So many programs at most are read as one piece.
-const PIECE: usize = 32;
+// Into so many pieces at most a text is cut: what stands behind each is compared with what the one before it left.
+const PIECES: usize = 8;
 
-// More lines than a program has.
-const MOST_LINES: u64 = 999_999_999;
+// Shorter pieces are not worth a thread.
+const LEAST: usize = 16_384;
 
-/// Texts of verbs as they are read, the last one first; none where there is no memory for all of them.
+// The greatest number of an object.
+const LAST_OBJECT: u64 = 999_999;
+
+// A piece of a text, with all that stands behind it.
+#[derive(Clone, Copy)]
+struct Piece<'a> {
+    text: &'a [u8],
+    // how many lines stand before it
+    lines: usize,
+    // how many bytes stand behind it
+    behind: usize,
+}
+
+/// The objects of a text as they are read by several threads; none where there is no memory for all of them.
 pub(crate) fn read_ahead<'a, R: Threads + Sync>(
     rt: &R,
     alloc: Global,
     text: &'a [u8],
-) -> Vec<Known<'a>> {
-    match programs(rt, alloc, text) {
-        Ok(known) => known,
+) -> Vec<ObjectsAhead<'a>> {
+    match pieces_read(rt, alloc, text) {
+        Ok(objects) => objects,
         Err(_) => Vec::new(alloc),
     }
 }
 
-fn programs<'a, R: Threads + Sync>(
+fn pieces_read<'a, R: Threads + Sync>(
     rt: &R,
     alloc: Global,
     text: &'a [u8],
-) -> Result<Vec<Known<'a>>, AllocError> {
-    let mut texts = program_texts(alloc, text)?;
-    texts.reverse();
-    let pieces = read_pieces(rt, alloc, texts.as_slice())?;
-    joined(alloc, pieces)
-}
-
-fn read_pieces<'a, R: Threads + Sync>(
-    rt: &R,
-    alloc: Global,
-    texts: &[&'a [u8]],
-) -> Result<Vec<Vec<Known<'a>>>, AllocError> {
-    texts
-        .par_chunks(PIECE)
+) -> Result<Vec<ObjectsAhead<'a>>, AllocError> {
+    let pieces = pieces(alloc, text)?;
+    pieces
+        .as_slice()
+        .par_iter()
         .with_min_len(1)
         .map(
-            |piece: &[&[u8]]| -> Result<Vec<Known>, AllocError>
+            |piece: &Piece| -> Result<ObjectsAhead, AllocError>
                 requires { ⊤ }
                 ensures { ⊤ }
-            { read_piece(alloc, piece) },
+            { read_piece(alloc, *piece) },
         )
-        .collect::<Result<Vec<Vec<Known>>, AllocError>>(rt, alloc)?
+        .collect::<Result<Vec<ObjectsAhead>, AllocError>>(rt, alloc)?
 }
 
-fn read_piece<'a>(alloc: Global, texts: &[&'a [u8]]) -> Result<Vec<Known<'a>>, AllocError> {
-    let mut known = Vec::with_capacity(alloc, texts.len())?;
-    for text in texts {
-        known.push(Known::read(alloc, text)?)?;
+fn read_piece<'a>(alloc: Global, piece: Piece<'a>) -> Result<ObjectsAhead<'a>, AllocError> {
+    ObjectsAhead::read(alloc, Lines::behind(piece.text, piece.lines), piece.behind)
+}
+
+// A text in pieces of about the same size, from its first object on.
+fn pieces<'a>(alloc: Global, text: &'a [u8]) -> Result<Vec<Piece<'a>>, AllocError> {
+    let starts = starts(alloc, text)?;
+    let mut pieces = Vec::with_capacity(alloc, starts.len())?;
+    let mut lines: usize = 0;
+    let mut before = text;
+    let mut left = starts.as_slice();
+    'pieces: while let [start, later @ ..] = left {
+        lines = lines.saturating_add(line_count(front(before, start.len())));
+        let behind = match later {
+            [next, ..] => next.len(),
+            [] => 0,
+        };
+        pieces.push(Piece {
+            text: start,
+            lines,
+            behind,
+        })?;
+        before = start;
+        left = later;
     }
-    Ok(known)
+    Ok(pieces)
 }
 
-fn joined<'a>(alloc: Global, pieces: Vec<Vec<Known<'a>>>) -> Result<Vec<Known<'a>>, AllocError> {
-    let mut all = Vec::new(alloc);
-    for piece in pieces {
-        for program in piece {
-            all.push(program)?;
-        }
-    }
-    Ok(all)
-}
-
-// The lines behind each line of a verb, so many as it says.
-fn program_texts<'a>(alloc: Global, text: &'a [u8]) -> Result<Vec<&'a [u8]>, AllocError> {
-    let mut texts = Vec::new(alloc);
+// What is left of a text at the beginning of each of its pieces.
+fn starts<'a>(alloc: Global, text: &'a [u8]) -> Result<Vec<&'a [u8]>, AllocError> {
+    let size = (text.len() / PIECES).max(LEAST);
+    let mut starts = Vec::with_capacity(alloc, PIECES)?;
     let mut left = text;
-    for _line in 0..text.len() {
-        let Some((line, rest)) = cut_at(left, b'\n') else {
+    for _piece in 0..PIECES {
+        let Some(start) = next_object_line(left) else {
             break;
         };
-        left = rest;
-        if let Some(count) = program_lines(line) {
-            left = behind(rest, count);
-            texts.push(&rest[..rest.len().saturating_sub(left.len())])?;
-        }
+        starts.push(start)?;
+        left = &start[size.min(start.len())..];
     }
-    Ok(texts)
+    Ok(starts)
 }
 
-// How many lines a verb's program has, by the verb's own line. None of any other line.
-fn program_lines(line: &[u8]) -> Option<u64> {
-    if line.starts_with(b"verb ") {
-        natural(last_field(line), 0, MOST_LINES)
-    } else {
-        None
-    }
-}
-
-// What stands behind the last space of a line.
-fn last_field(line: &[u8]) -> &[u8] {
-    let mut last = line;
-    for _field in 0..line.len() {
-        let Some((_, rest)) = cut_at(last, b' ') else {
-            return last;
-        };
-        last = rest;
-    }
-    last
-}
-
-// What stands behind so many lines.
-fn behind(text: &[u8], count: u64) -> &[u8] {
+// What is left of a text from the first line on that an object may begin with, of those behind a line end.
+fn next_object_line(text: &[u8]) -> Option<&[u8]> {
     let mut left = text;
-    'lines: for _line in 0..count {
-        match cut_at(left, b'\n') {
-            Some((_, rest)) => left = rest,
-            None => return left,
+    for _line in 0..text.len() {
+        let Some((_, rest)) = cut_at(left, b'\n') else {
+            return None;
+        };
+        if begins_object(rest) {
+            return Some(rest);
         }
+        left = rest;
     }
-    left
+    None
+}
+
+// No line of code is the word and a number.
+fn begins_object(text: &[u8]) -> bool {
+    let Some((line, _)) = cut_at(text, b'\n') else {
+        return false;
+    };
+    match line.strip_prefix(b"object ") {
+        Some(number) => natural(number, 0, LAST_OBJECT).is_some(),
+        None => false,
+    }
+}
+
+// A text without so many of its last bytes.
+fn front(text: &[u8], behind: usize) -> &[u8] {
+    &text[..text.len().saturating_sub(behind)]
+}
+
+fn line_count(text: &[u8]) -> usize {
+    let mut count: usize = 0;
+    for byte in text {
+        count = count.wrapping_add(usize::from(*byte == b'\n'));
+    }
+    count
 }

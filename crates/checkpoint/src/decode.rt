@@ -17,6 +17,7 @@ use crate::compare::{compared, compared_by_threads};
 use crate::draft::next_draft;
 use checkpoint_lines::fault::{DecodeError, FaultKind};
 use checkpoint_lines::lines::Lines;
+use object_lines::ahead::ObjectsAhead;
 use std::alloc::{AllocError, Global};
 use std::thread::Threads;
 use world::draft::Draft;
@@ -34,8 +35,8 @@ pub fn decode(alloc: Global, bytes: &[u8]) -> Result<World, DecodeError>
     ensures finds { (w : meant.World) → IsReadable w → bytes.now ≡ checkpoint_text w → Gives result (λ x. x.plain ≡ w) }
     ensures fault { TellsFirst result bytes.now }
 {
-    let mut lines = Lines::new(bytes, Vec::new(alloc));
-    let found = next_world(alloc, &mut lines)?;
+    let mut lines = Lines::new(bytes);
+    let found = next_world(alloc, &mut lines, Vec::new(alloc))?;
     let world = compared(alloc, found, bytes)?;
     match world {
         Some(world) => Ok(world),
@@ -43,7 +44,7 @@ pub fn decode(alloc: Global, bytes: &[u8]) -> Result<World, DecodeError>
     }
 }
 
-/// The same, where several threads read the programs of verbs, and compare the text of objects.
+/// The same, where several threads read objects, and compare their text.
 pub fn decode_by_threads<R: Threads + Sync>(
     rt: &R,
     alloc: Global,
@@ -54,9 +55,9 @@ pub fn decode_by_threads<R: Threads + Sync>(
     ensures finds { (w : meant.World) → IsReadable w → bytes.now ≡ checkpoint_text w → Gives result (λ x. x.plain ≡ w) }
     ensures fault { TellsFirst result bytes.now }
 {
-    let known = read_ahead(rt, alloc, bytes);
-    let mut lines = Lines::new(bytes, known);
-    let found = next_world(alloc, &mut lines)?;
+    let ahead = read_ahead(rt, alloc, bytes);
+    let mut lines = Lines::new(bytes);
+    let found = next_world(alloc, &mut lines, ahead)?;
     let world = compared_by_threads(rt, alloc, found, bytes)?;
     match world {
         Some(world) => Ok(world),
@@ -71,8 +72,12 @@ fn world_fault(lines: &Lines<'_>) -> DecodeError
     lines.fault(FaultKind::World)
 }
 
-// The world of all lines of a text. None where no line has a fault and yet no sound world is so.
-fn next_world(alloc: Global, lines: &mut Lines<'_>) -> Result<Option<World>, DecodeError>
+// The world of all lines of a text, of whose objects some may have been read before their turn. None where no line has a fault and yet no sound world is so.
+fn next_world<'a>(
+    alloc: Global,
+    lines: &mut Lines<'a>,
+    ahead: Vec<ObjectsAhead<'a>>,
+) -> Result<Option<World>, DecodeError>
     requires none { lines.old.count ≡ 0 }
     requires room { HasRoom lines.old }
     ensures opened { IfOk result (λ o. IfSome o (λ w. w.opened ≡ 0)) }
@@ -81,7 +86,7 @@ fn next_world(alloc: Global, lines: &mut Lines<'_>) -> Result<Option<World>, Dec
     ensures faultless { IfOk result (λ _. first_fault lines.old.left.now ≡ None) }
     ensures count { IfOk result (λ _. lines.new.count ≡ length (lines_of lines.old.left.now).lines) }
 {
-    let draft = next_draft(alloc, lines)?;
+    let draft = next_draft(alloc, lines, ahead)?;
     let world = sound_world(alloc, draft)?;
     Ok(world)
 }

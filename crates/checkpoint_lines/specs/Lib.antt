@@ -1,4 +1,3 @@
 pub mod Gives
-pub mod Known
 pub mod Rows
 pub mod Told

@@ -5,7 +5,6 @@
 #![tactic(auto)]
 
 pub mod fault;
-pub mod known;
 pub mod lines;
 mod program;
 pub mod row;

@@ -20,7 +20,7 @@ ghost use Rattle.checkpoint_lines.specs.Rows.{row_fields, Left, Reads};
 ghost use Rattle.checkpoint_lines.specs.Told.{HasRoom, NextLine, NextRow, NextWith, NextLines, Tells, IsCount, Ends};
 
 use crate::fault::{DecodeError, FaultKind};
-use crate::known::{Known, known_or_read};
+use crate::program::program_in;
 use crate::row::Row;
 use line_fields::cut::cut_at;
 use line_fields::fields::{split, split_first};
@@ -29,16 +29,15 @@ use moo_value::text::Text;
 use std::alloc::Global;
 
 /// What is left of a text, each of whose lines ends with a line feed.
-#[derive(Drop)]
+#[derive(Clone, Copy)]
 pub struct Lines<'a> {
     left: &'a [u8],
     count: usize,
-    known: Vec<Known<'a>>,
 }
 
 impl<'a> Lines<'a> {
-    /// All of a text. Of its programs these are known, the next one last.
-    pub fn new(text: &'a [u8], known: Vec<Known<'a>>) -> Lines<'a>
+    /// All of a text.
+    pub fn new(text: &'a [u8]) -> Lines<'a>
         ensures left { result.left.now ≡ text.now }
         ensures none { result.count ≡ 0 }
         ensures room { HasRoom result }
@@ -46,8 +45,29 @@ impl<'a> Lines<'a> {
         Lines {
             left: text,
             count: 0,
-            known,
         }
+    }
+
+    /// What stands behind so many lines of a text.
+    pub fn behind(left: &'a [u8], count: usize) -> Lines<'a>
+        ensures left { result.left.now ≡ left.now }
+        ensures count { result.count ≡ count }
+    {
+        Lines { left, count }
+    }
+
+    /// How many bytes are left.
+    pub fn len(&self) -> usize
+        ensures { result ≡ length self.now.left.now }
+    {
+        self.left.len()
+    }
+
+    /// Whether the same is left of both, behind as many lines.
+    pub fn is_at(&self, other: &Lines<'_>) -> bool
+        ensures { IsTrue result → (self.now.left.now ≡ other.now.left.now) × (self.now.count ≡ other.now.count) }
+    {
+        self.count == other.count && self.left == other.left
     }
 
     /// A fault of the line that was read last.
@@ -208,7 +228,7 @@ impl<'a> Lines<'a> {
     {
         let line = self.count.saturating_add(1);
         let text = self.next_lines(count)?;
-        let found = known_or_read(alloc, &mut self.known, text)?;
+        let found = program_in(alloc, text)?;
         match found {
             Some(program) => Ok(program),
             None => Err(DecodeError::Line {

@@ -20,8 +20,9 @@ ghost use Rattle.checkpoint_lines.specs.Told.{Tells};
 use checkpoint_lines::fault::{DecodeError, FaultKind};
 use checkpoint_lines::lines::Lines;
 use draft_objects::put_objects;
+use object_lines::ahead::ObjectsAhead;
 use object_lines::link::next_link;
-use object_lines::object::next_objects;
+use object_lines::objects::next_objects;
 use std::alloc::{AllocError, Global};
 use view::change::Change;
 use view::link::Link;
@@ -120,18 +121,19 @@ fn put_link(entry: (i32, Link), draft: &mut Draft) -> Result<(), AllocError>
     draft.put(Change::Link(number, Some(link)))
 }
 
-/// The objects, with their count before them: whether all of them could be made of their lines.
-pub fn read_objects(
+/// The objects, with their count before them: whether all of them could be made of their lines. Some may have been read before their turn.
+pub fn read_objects<'a>(
     alloc: Global,
-    lines: &mut Lines<'_>,
+    lines: &mut Lines<'a>,
     draft: &mut Draft,
+    ahead: Vec<ObjectsAhead<'a>>,
 ) -> Result<bool, DecodeError>
     ensures reads { (w : World) (rest : List datum.Text) → IsWellFormed w → IsTrue (list_all is_object_read w.objects) → draft.old.objects ≡ [] → Left lines.old (counted (codes "objects") (length w.objects) ∷ (each_object w w.objects ++ rest))
         → Reads result lines.new rest (λ done. IsTrue done × (draft.new ≡ record (draft.old) { objects = w.objects })) }
     ensures tells { Tells result lines.old lines.new (awaited.counted (codes "objects") awaited.each_object ∷ []) (λ _. []) }
 {
     let count = lines.next_count(alloc, b"objects")?;
-    let records = next_objects(alloc, lines, count)?;
+    let records = next_objects(alloc, lines, count, ahead)?;
     let done = put_objects(alloc, records, draft)?;
     Ok(done)
 }

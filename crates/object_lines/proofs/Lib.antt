@@ -1,4 +1,5 @@
 pub mod Lists
+pub mod Between
 pub mod SlotLines
 pub mod Ranges
 pub mod LinkValues

@@ -1,4 +1,5 @@
 pub mod Readable
+pub mod Between
 pub mod Parts
 pub mod Held
 pub mod ObjectAwaited

@@ -5,8 +5,10 @@
 //! are read, and sets of prepositions are those that there are.
 #![tactic(auto)]
 
+pub mod ahead;
 mod header;
 pub mod link;
-pub mod object;
+mod object;
+pub mod objects;
 mod slot;
 mod verb;

@@ -25,27 +25,10 @@ use std::alloc::Global;
 use view::header::Header;
 use view::object::Lists;
 
-/// So many objects, from the next lines.
-pub fn next_objects(
-    alloc: Global,
-    lines: &mut Lines<'_>,
-    count: u64,
-) -> Result<Vec<ObjectRecord>, DecodeError>
-    ensures reads { (w : World) (rest : List datum.Text) → IsWellFormed w → IsTrue (list_all is_object_read w.objects) → count ≡ length w.objects → Left lines.old (each_object w w.objects ++ rest) → Reads result lines.new rest (λ v. AreObjects w v.items) }
-    ensures tells { Tells result lines.old lines.new (again count awaited.each_object ∷ []) (λ _. []) }
-{
-    let mut records = Vec::new(alloc);
-    'reading: for _object in 0..count {
-        let record = next_object(alloc, lines)?;
-        records.push(record)?;
-    }
-    Ok(records)
-}
-
 // The greatest number of an object.
 const LAST_OBJECT: i32 = 999_999;
 
-fn next_object(alloc: Global, lines: &mut Lines<'_>) -> Result<ObjectRecord, DecodeError>
+pub(crate) fn next_object(alloc: Global, lines: &mut Lines<'_>) -> Result<ObjectRecord, DecodeError>
     ensures reads { (w : World) (o : ℤ) (x : Meant) (rest : List datum.Text) → IsWellFormed w → object_at w o ≡ Some x → IsTrue (is_object_read (o, x)) → Left lines.old (object_lines w o x ++ rest) → Reads result lines.new rest (λ r. told r ≡ shown_object w (o, x)) }
     ensures tells { Tells result lines.old lines.new (group awaited.each_object) (λ _. []) }
 {

@@ -17,4 +17,4 @@ returns-in_default-clause-tells c = λ room. is_over c.args.self.now c.saturatin
 
 pub returns-clause-tells : goal.returns-clause-tells
 returns-clause-tells c = λ room.
-    is_next c.args.self.now (record { left = c.in-Some.rest; count = c.saturating_add-count.result; known = c.args.self.now.known }) c.in-Some.line.now room c.in-Some.ensures.cuts.0 c.in-Some.ensures.cuts.1 c.saturating_add-count.ensures
+    is_next c.args.self.now (record { left = c.in-Some.rest; count = c.saturating_add-count.result }) c.in-Some.line.now room c.in-Some.ensures.cuts.0 c.in-Some.ensures.cuts.1 c.saturating_add-count.ensures

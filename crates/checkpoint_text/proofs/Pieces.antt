@@ -1,7 +1,9 @@
 -- The lines of some objects, piece by piece.
-use Rattle.std.proofs.Common.{◌≡◌, ℕ, ℤ, List, [], ◌∷◌, ◌++◌, ◌<◌, refl, sym, ap, ◌∙◌, append_assoc}
+use Rattle.std.proofs.Common.{◌≡◌, ℕ, ℤ, true, List, [], ◌∷◌, ◌++◌, ◌<◌, length, refl, sym, ap, ◌∙◌, arith, append_assoc}
+use Rattle.std.specs.Prelude.{◌==◌}
 use Rattle.std.specs.List.{flat_map}
 use Rattle.std.proofs.lemmas.List.Concat.{flat_map-cons}
+use Rattle.std.proofs.lemmas.Bool.Decides.{Decides-eqb}
 use Rattle.rayon.specs.Lists.{chunks_of}
 use Rattle.rayon.proofs.ToStd.{chunks_of-concat}
 use Rattle.spec_value.specs.Datum.{Text}
@@ -44,3 +46,7 @@ objects_behind w ks js = written_behind (object_lines w) w.objects ks js
 pub no_objects : (w : World) → objects_text w [] ≡ []
 unfolding objects_text
 no_objects w = refl
+
+pub none_left : (ks : List ℤ) → true ≡ (length ks == 0) → ks ≡ []
+none_left [] e = refl
+none_left (k ∷ ks) e = let zero = (Decides-eqb (length (k ∷ ks)) 0).0 (sym e) in absurd (omega (arith, zero))

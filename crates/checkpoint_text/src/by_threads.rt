@@ -1,5 +1,5 @@
 //! Worlds as text, made by several threads.
-ghost use Rattle.std.specs.Prelude.{◌≡◌, ◌++◌, OnOk, IfOk, IsTrue, string_bytes};
+ghost use Rattle.std.specs.Prelude.{◌≡◌, ◌≤◌, ◌++◌, OnOk, IfOk, IsTrue, string_bytes};
 ghost use Rattle.std.specs.List.{flat_map};
 ghost use Rattle.spec_value.specs.Table.{is_numbered};
 ghost use Rattle.spec_world.specs.Checkpoint.{checkpoint_text, with_line_ends};
@@ -19,8 +19,13 @@ use world::worlds::Snapshot;
 // So many objects at most are written as one piece.
 const PIECE: usize = 32;
 
+// A part has one of so many objects, and so many more.
+const PARTS: usize = 64;
+
+const FEW: usize = 64;
+
 /// The text of a snapshot's world. The lines of its objects are made by several threads where there are 64 objects or more, by two at most for each
-/// processor, and stand in the objects' order.
+/// processor, and stand in the objects' order. They are made a part of the objects at a time, so that little of the text is in memory twice.
 pub fn encode_by_threads<R: Threads + Sync>(
     rt: &R,
     alloc: Global,
@@ -51,9 +56,38 @@ fn put_object_part<R: Threads + Sync>(
     let numbers = draft.object_numbers()?;
     let shortcuts = shortcuts(alloc, draft, numbers.as_slice())?;
     page.put_count("objects", numbers.as_slice().len())?;
-    let pieces = pieces(rt, alloc, snapshot, &shortcuts, numbers.as_slice())?;
-    put_pieces(page, pieces)?;
+    put_parts(rt, page, alloc, snapshot, &shortcuts, numbers.as_slice())?;
     Ok(())
+}
+
+// Writes the lines of the objects of these numbers, part by part.
+fn put_parts<R: Threads + Sync>(
+    rt: &R,
+    page: &mut Page,
+    alloc: Global,
+    snapshot: &Snapshot,
+    shortcuts: &[Shortcut],
+    numbers: &[i32],
+) -> Result<(), AllocError>
+    requires { ArePassed snapshot.now shortcuts.now }
+    ensures { OnOk result (page.new ≡ page.old ++ objects_text snapshot.now numbers.now) }
+{
+    let size = part_size(numbers.len());
+    let mut later = numbers;
+    'parts: while !later.is_empty() {
+        let (part, others) = later.split_at(size.min(later.len()));
+        let pieces = pieces(rt, alloc, snapshot, shortcuts, part)?;
+        put_pieces(page, pieces)?;
+        later = others;
+    }
+    Ok(())
+}
+
+/// How many of so many objects are one part.
+pub(crate) fn part_size(count: usize) -> usize
+    ensures { 1 ≤ result }
+{
+    (count / PARTS).saturating_add(FEW)
 }
 
 /// The lines of the objects of these numbers, in pieces.

@@ -1,5 +1,5 @@
 //! Texts that are compared with a world's, which several threads write piece by piece.
-ghost use Rattle.std.specs.Prelude.{◌≡◌, ◌≤◌, ◌++◌, ◌∷◌, [], ◌↔◌, IfOk, IsTrue, MatchOption, codes, string_bytes};
+ghost use Rattle.std.specs.Prelude.{◌≡◌, ◌++◌, ◌∷◌, [], ◌↔◌, IfOk, IsTrue, MatchOption, codes, string_bytes};
 ghost use Rattle.std.specs.List.{flat_map};
 ghost use Rattle.spec_value.specs.Table.{is_numbered};
 ghost use Rattle.spec_world.specs.Checkpoint.{checkpoint_text, with_line_ends};
@@ -7,7 +7,7 @@ ghost use Rattle.checkpoint_text.specs.Behind.{BeginsOtherwise};
 ghost use Rattle.checkpoint_text.specs.Parts.{object_part, objects_text};
 ghost use Rattle.checkpoint_text.specs.Shortcuts.{ArePassed};
 
-use crate::by_threads::pieces;
+use crate::by_threads::{part_size, pieces};
 use crate::checkpoint_fields::page::{Page, behind};
 use crate::checkpoint_objects::shortcut::{Shortcut, shortcuts};
 use crate::compare::{behind_count, behind_front, behind_tasks, is_end};
@@ -15,11 +15,6 @@ use std::alloc::{AllocError, Global};
 use std::thread::Threads;
 use world::draft::Draft;
 use world::worlds::Snapshot;
-
-// A part has one of so many objects, and so many more.
-const PARTS: usize = 64;
-
-const FEW: usize = 64;
 
 /// Whether bytes are the text of a snapshot's world. The lines of its objects are made by several threads, a part of them at a time: no more of the text
 /// is in memory at once than a 64th of the objects and 64 more have.
@@ -99,12 +94,6 @@ fn behind_parts<'b, R: Threads + Sync>(
         later = others;
     }
     Ok(Some(left))
-}
-
-fn part_size(count: usize) -> usize
-    ensures { 1 ≤ result }
-{
-    (count / PARTS).saturating_add(FEW)
 }
 
 // What stands behind these pieces.

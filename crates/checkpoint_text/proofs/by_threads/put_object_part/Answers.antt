@@ -12,9 +12,7 @@ returns g c =
     let w = c.args.draft.now in
     let counts = c.put_count.new.self in
     let ks = c.as_slice-3.result.now in
-    let written =
-    c.in_ok-put_pieces.ensures ∙ ap (λ t. counts ++ t) c.in_ok-pieces.ensures
-    ∙ ap (λ (v : World). counts ++ objects_text v ks) (sym c.requires.same) in
+    let written = c.in_ok-put_parts.ensures ∙ ap (λ (v : World). counts ++ objects_text v ks) (sym c.requires.same) in
     part_written (object_lines w) (codes "objects") w.objects c.as_slice-2.result.now ks (each_object w w.objects) (length c.as_slice-2.result.now)
-    c.args.page.now counts c.put_pieces.new.page c.requires.objects (c.as_slice-2.ensures ∙ c.in_ok-numbers.ensures) (c.as_slice-3.ensures ∙ c.in_ok-numbers.ensures)
+    c.args.page.now counts c.put_parts.new.page c.requires.objects (c.as_slice-2.ensures ∙ c.in_ok-numbers.ensures) (c.as_slice-3.ensures ∙ c.in_ok-numbers.ensures)
     refl (all_objects w w.objects) c.in_ok-put_count.ensures written

@@ -1,13 +1,11 @@
-use Rattle.std.proofs.Common.{◌≡◌, ◌++◌, ◌∷◌, [], true, ℤ, List, String, Global, length, drop, string_bytes, refl, sym, ap, subst, ◌∙◌, arith}
-use Rattle.std.specs.Prelude.{◌==◌}
+use Rattle.std.proofs.Common.{◌≡◌, ◌++◌, List, String, Global, drop, string_bytes, sym, ap, subst, ◌∙◌}
 use Rattle.std.specs.List.{flat_map}
-use Rattle.std.proofs.lemmas.Bool.Decides.{Decides-eqb}
 use Rattle.std.proofs.lemmas.List.{take-append-drop}
 use Rattle.spec_value.specs.Datum.{Text}
 use Rattle.checkpoint_text.specs.Behind.{BeginsOtherwise}
 use Rattle.checkpoint_text.specs.Parts.{objects_text}
 use Rattle.checkpoint_text.proofs.Behind.{next_part, no_part, no_more}
-use Rattle.checkpoint_text.proofs.Pieces.{objects_behind, no_objects}
+use Rattle.checkpoint_text.proofs.Pieces.{objects_behind, no_objects, none_left}
 use Rattle.checkpoint_text.proofs.compare_by_threads.behind_parts.Goals as goal
 
 abbrev all : List (String Global) → Text
@@ -38,10 +36,6 @@ parts-preserved g c =
     let text : all c.deref.result.now ≡ objects_text w part = ap all c.deref.ensures.value ∙ c.in_ok-pieces.ensures in
     next_part (objects_text w c.args.numbers.now) (objects_text w later) (objects_text w part) (objects_text w others) c.args.bytes.now c.parts.left.now c.in-Some.rest.now next
     (c.in-Some.ensures ∙ ap (λ t. t ++ c.in-Some.rest.now) text) c.parts.invariant
-
-none_left : (ks : List ℤ) → true ≡ (length ks == 0) → ks ≡ []
-none_left [] e = refl
-none_left (k ∷ ks) e = let zero = (Decides-eqb (length (k ∷ ks)) 0).0 (sym e) in absurd (omega (arith, zero))
 
 pub returns : goal.returns
 returns g c =

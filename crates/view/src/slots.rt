@@ -295,10 +295,9 @@ fn compare(text: &[u8], folded: &[u8]) -> Ordering
         if index == folded.len() {
             return Ordering::Greater;
         }
-        match byte.to_ascii_lowercase().cmp(&folded[index]) {
-            Ordering::Less => return Ordering::Less,
-            Ordering::Equal => {}
-            Ordering::Greater => return Ordering::Greater,
+        let byte = byte.to_ascii_lowercase();
+        if byte != folded[index] {
+            return byte.cmp(&folded[index]);
         }
     }
     if text.len() == folded.len() {

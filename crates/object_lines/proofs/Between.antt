@@ -76,10 +76,10 @@ both_between l m k rs ss b c =
           let at : (i + length rs) + length ss ≡ i + length (rs ++ ss) = omega (arith, many) in (
             subst (λ j. Left k (each_object w (drop j w.objects) ++ rest)) at second.0,
             ap (λ j. map told (rs ++ ss) ++ map (shown_object w) (drop j w.objects)) (sym at)
-            ∙ ap (λ ts. ts ++ map (shown_object w) (drop ((i + length rs) + length ss) w.objects)) (map-append told rs ss)
-            ∙ append_assoc (map told rs) (map told ss) (map (shown_object w) (drop ((i + length rs) + length ss) w.objects))
-            ∙ ap (λ ts. map told rs ++ ts) second.1
-            ∙ first.1,
+                ∙ ap (λ ts. ts ++ map (shown_object w) (drop ((i + length rs) + length ss) w.objects)) (map-append told rs ss)
+                ∙ append_assoc (map told rs) (map told ss) (map (shown_object w) (drop ((i + length rs) + length ss) w.objects))
+                ∙ ap (λ ts. map told rs ++ ts) second.1
+                ∙ first.1,
           );
     }
 

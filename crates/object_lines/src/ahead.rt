@@ -1,27 +1,39 @@
 //! Objects that are read before their turn.
-ghost use Rattle.std.specs.Prelude.{◌≡◌, ◌≤◌, ◌+◌, [], length, IsTrue};
+ghost use Rattle.std.specs.Prelude.{◌≡◌, ◌≤◌, length};
 ghost use Rattle.object_lines.specs.Between.{AreBetween};
 
 use crate::object::next_object;
 use checkpoint_lines::lines::Lines;
 use named_objects::record::ObjectRecord;
 use std::alloc::{AllocError, Global};
+use std::marker::Model;
 
 /// Objects that stand one behind another in a text, with what is left of it before them and behind them.
 #[derive(Drop)]
 pub struct ObjectsAhead<'a> {
-    pub(crate) from: Lines<'a>,
-    pub(crate) to: Lines<'a>,
-    pub(crate) records: Vec<ObjectRecord>,
-    ghost stand: { AreBetween from to records.items },
+    from: Lines<'a>,
+    to: Lines<'a>,
+    records: Vec<ObjectRecord>,
+}
+
+impl<'a> Model for ObjectsAhead<'a> {
+    ghost use Rattle.std.specs.Prelude.{length};
+    ghost use Rattle.object_lines.specs.Between.{Ahead, ahead_code, AreBetween};
+
+    ghost Value = { Ahead };
+
+    ghost coded = { ahead_code };
+
+    ghost view = { λ a. record { left = a.from.left.now; lines = a.from.count; many = length a.records.items } };
+
+    ghost invariant = { λ a. AreBetween a.from a.to a.records.items };
 }
 
 impl<'a> ObjectsAhead<'a> {
     /// No object yet, at a place of a text.
-    pub fn none(alloc: Global, place: Lines<'a>) -> ObjectsAhead<'a>
-        ensures from { result.from ≡ place }
-        ensures to { result.to ≡ place }
-        ensures records { result.records.items ≡ [] }
+    #[tactic(auto, using(crate::proofs::Between::none_between))]
+    pub(crate) fn none(alloc: Global, place: Lines<'a>) -> ObjectsAhead<'a>
+        ensures { result ≡ record { left = place.entry.left.now; lines = place.entry.count; many = 0 } }
     {
         ObjectsAhead {
             from: place,
@@ -62,29 +74,31 @@ impl<'a> ObjectsAhead<'a> {
 
     /// Takes over others that stand right behind these, where they all are no more than so many.
     pub(crate) fn join(&mut self, others: ObjectsAhead<'a>, most: u64) -> Result<(), AllocError>
-        requires { length self.old.records.items ≤ most }
-        ensures from { self.new.from ≡ self.old.from }
-        ensures most { length self.new.records.items ≤ most }
+        requires { self.old.many ≤ most }
+        ensures place { (self.new.left ≡ self.old.left) × (self.new.lines ≡ self.old.lines) }
+        ensures most { self.new.many ≤ most }
     {
-        if !self.may_join(&others, most) {
-            return Ok(());
-        }
+        let room = most - self.records.len() as u64;
         let ObjectsAhead {
-            from: _from,
+            from,
             to,
             mut records,
         } = others;
+        if records.len() as u64 > room || !self.to.is_at(&from) {
+            return Ok(());
+        }
         self.records.append(&mut records)?;
         self.to = to;
         Ok(())
     }
-    // Whether others stand right behind these, and all are no more than so many.
-    fn may_join(&self, others: &ObjectsAhead<'_>, most: u64) -> bool
-        requires { length self.now.records.items ≤ most }
-        ensures place { IsTrue result → (self.now.to.left.now ≡ others.now.from.left.now) × (self.now.to.count ≡ others.now.from.count) }
-        ensures most { IsTrue result → length self.now.records.items + length others.now.records.items ≤ most }
+
+    /// The places before them and behind them, and what was read.
+    pub(crate) fn into_parts(self) -> (Lines<'a>, Lines<'a>, Vec<ObjectRecord>)
+        ensures place { (result.0.left.now ≡ self.entry.left) × (result.0.count ≡ self.entry.lines) }
+        ensures many { length result.2.items ≡ self.entry.many }
+        ensures between { AreBetween result.0 result.1 result.2.items }
     {
-        let room = most - self.records.len() as u64;
-        others.records.len() as u64 <= room && self.to.is_at(&others.from)
+        let ObjectsAhead { from, to, records } = self;
+        (from, to, records)
     }
 }

@@ -30,12 +30,8 @@ pub fn next_objects<'a>(
     ensures tells { Tells result lines.old lines.new (again count awaited.each_object ∷ []) (λ _. []) }
 {
     let joined = joined(alloc, *lines, count, ahead)?;
-    let ObjectsAhead {
-        from: _from,
-        to,
-        mut records,
-    } = joined;
-    *lines = to;
+    let (_, behind, mut records) = joined.into_parts();
+    *lines = behind;
     let done = records.len() as u64;
     'reading: for _object in done..count {
         let record = next_object(alloc, lines)?;
@@ -51,8 +47,8 @@ fn joined<'a>(
     most: u64,
     ahead: Vec<ObjectsAhead<'a>>,
 ) -> Result<ObjectsAhead<'a>, AllocError>
-    ensures from { IfOk result (λ o. o.from ≡ place) }
-    ensures most { IfOk result (λ o. length o.records.items ≤ most) }
+    ensures place { IfOk result (λ o. (o.left ≡ place.entry.left.now) × (o.lines ≡ place.entry.count)) }
+    ensures most { IfOk result (λ o. o.many ≤ most) }
 {
     let mut all = ObjectsAhead::none(alloc, place);
     for objects in ahead {

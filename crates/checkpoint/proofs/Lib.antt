@@ -3,4 +3,3 @@ pub mod FixtureReads
 pub mod ReadableParts
 pub mod Reach
 pub mod Faults
-pub mod Crossing

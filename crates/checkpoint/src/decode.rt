@@ -12,12 +12,12 @@ ghost use Rattle.checkpoint_lines.specs.Told.{HasRoom};
 ghost use Rattle.checkpoint.specs.Readable.{IsReadable};
 ghost use Rattle.checkpoint.specs.Faulty.{TellsFirst};
 
-use crate::ahead::read_ahead;
 use crate::compare::{compared, compared_by_threads};
 use crate::draft::next_draft;
 use checkpoint_lines::fault::{DecodeError, FaultKind};
 use checkpoint_lines::lines::Lines;
 use object_lines::ahead::ObjectsAhead;
+use object_lines::pieces::read_ahead;
 use std::alloc::{AllocError, Global};
 use std::thread::Threads;
 use world::draft::Draft;

@@ -4,7 +4,6 @@
 //! and its own text is, byte by byte, the one that was read.
 #![tactic(auto)]
 
-mod ahead;
 mod compare;
 pub mod decode;
 mod draft;

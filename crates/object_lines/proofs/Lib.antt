@@ -9,3 +9,4 @@ pub mod HeldParts
 pub mod RowFaults
 pub mod FieldKinds
 pub mod Families
+pub mod Crossing

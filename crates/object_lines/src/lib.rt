@@ -10,5 +10,6 @@ mod header;
 pub mod link;
 mod object;
 pub mod objects;
+pub mod pieces;
 mod slot;
 mod verb;

@@ -4,10 +4,10 @@
 //! that objects may begin with.
 ghost use Rattle.std.specs.Prelude.{⊤};
 
+use crate::ahead::ObjectsAhead;
 use checkpoint_lines::lines::Lines;
 use line_fields::cut::cut_at;
 use line_fields::number::natural;
-use object_lines::ahead::ObjectsAhead;
 use rayon::prelude::*;
 use std::alloc::{AllocError, Global};
 use std::thread::Threads;
@@ -32,7 +32,7 @@ struct Piece<'a> {
 }
 
 /// The objects of a text as they are read by several threads; none where there is no memory for all of them.
-pub(crate) fn read_ahead<'a, R: Threads + Sync>(
+pub fn read_ahead<'a, R: Threads + Sync>(
     rt: &R,
     alloc: Global,
     text: &'a [u8],
@@ -72,12 +72,11 @@ fn pieces<'a>(alloc: Global, text: &'a [u8]) -> Result<Vec<Piece<'a>>, AllocErro
     let mut pieces = Vec::with_capacity(alloc, starts.len())?;
     let mut lines: usize = 0;
     let mut before = text;
-    let mut left = starts.as_slice();
-    'pieces: while let [start, later @ ..] = left {
+    for (place, start) in starts.iter().enumerate() {
         lines = lines.saturating_add(line_count(front(before, start.len())));
-        let behind = match later {
-            [next, ..] => next.len(),
-            [] => 0,
+        let behind = match starts.get(place.saturating_add(1)) {
+            Some(next) => next.len(),
+            None => 0,
         };
         pieces.push(Piece {
             text: start,
@@ -85,7 +84,6 @@ fn pieces<'a>(alloc: Global, text: &'a [u8]) -> Result<Vec<Piece<'a>>, AllocErro
             behind,
         })?;
         before = start;
-        left = later;
     }
     Ok(pieces)
 }

@@ -109,8 +109,6 @@ pub fn object(alloc: Global, record: ObjectRecord, names: &[Text]) -> Result<Obj
         verbs,
     } = record;
     let slots = named(alloc, names, slots)?;
-    // A copy has no room to spare.
-    let slots = slots.clone()?;
     let verbs = Verbs::new(alloc, verbs)?;
     Object::new(alloc, header, lists, slots, verbs)
 }
@@ -118,7 +116,7 @@ pub fn object(alloc: Global, record: ObjectRecord, names: &[Text]) -> Result<Obj
 fn named(alloc: Global, names: &[Text], slots: Vec<Slot>) -> Result<Slots, AllocError>
     ensures { IfOk result (λ s. s ≡ all_named [] names.now slots.items) }
 {
-    let mut all = Slots::new(alloc);
+    let mut all = Slots::with_capacity(alloc, names.len())?;
     let mut left = names;
     for slot in slots {
         match left {

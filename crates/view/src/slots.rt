@@ -50,6 +50,15 @@ impl Slots {
         }
     }
 
+    /// No slots, with room for so many.
+    pub fn with_capacity(alloc: Global, count: usize) -> Result<Slots, AllocError>
+        ensures { IfOk result (λ s. s ≡ []) }
+    {
+        Ok(Slots {
+            entries: Vec::with_capacity(alloc, count)?,
+        })
+    }
+
     /// One slot, by its property's name in lower case.
     pub fn single(alloc: Global, name: Text, slot: Slot) -> Result<Slots, AllocError>
         ensures { IfOk result (λ s. s ≡ (name, slot) ∷ []) }

@@ -85,6 +85,16 @@ def least(measure):
     return Run(min(it.seconds for it in runs), min(it.processor for it in runs), min(it.memory for it in runs), runs[0].output)
 
 
+def by_one(measure):
+    """What is measured, held to one processor."""
+    all_of_them = os.sched_getaffinity(0)
+    os.sched_setaffinity(0, {min(all_of_them)})
+    try:
+        return measure()
+    finally:
+        os.sched_setaffinity(0, all_of_them)
+
+
 def script(name, lines):
     """A script of these steps, as a file."""
     path = folder.file(name)

@@ -24,7 +24,7 @@ group language 12
 group world 8
 group steps 19
 group parse 71
-group checkpoint 10
+group checkpoint 18
 group worst 80
 group telnet 6
 group server 5

@@ -18,6 +18,9 @@ const PIECES: usize = 8;
 // Shorter pieces are not worth a thread.
 const LEAST: usize = 16_384;
 
+// Lines are counted so many bytes at a time.
+const CHUNK: usize = 255;
+
 // The greatest number of an object.
 const LAST_OBJECT: u64 = 999_999;
 
@@ -136,8 +139,17 @@ fn front(text: &[u8], behind: usize) -> &[u8] {
 
 fn line_count(text: &[u8]) -> usize {
     let mut count: usize = 0;
-    for byte in text {
-        count = count.wrapping_add(usize::from(*byte == b'\n'));
+    for chunk in text.chunks(CHUNK) {
+        count = count.saturating_add(usize::from(few_lines(chunk)));
+    }
+    count
+}
+
+// Of a text of no more bytes than a number of 8 bits counts, so that many are looked at at once.
+fn few_lines(chunk: &[u8]) -> u8 {
+    let mut count: u8 = 0;
+    for byte in chunk {
+        count = count.wrapping_add(u8::from(*byte == b'\n'));
     }
     count
 }

@@ -1,7 +1,6 @@
 -- Objects that stand one behind another: none, one, and those of two stretches.
-use Rattle.std.proofs.Common.{◌≡◌, ◌≤◌, ◌<◌, ◌+◌, ◌-◌, ℕ, zero, suc, ℤ, List, [], ◌∷◌, ◌++◌, length, map, drop, Some, Result, Ok, Err, IsTrue, refl, ap, sym, subst, ◌∙◌, arith, append_assoc, slice_get}
-use Rattle.std.specs.List.{list_all}
-use Rattle.std.proofs.lemmas.List.{map-append, append-nil, length-append}
+use Rattle.std.proofs.Common.{◌≡◌, ◌≤◌, ◌<◌, ◌+◌, ◌-◌, ℕ, suc, ℤ, List, [], ◌∷◌, ◌++◌, length, map, drop, Some, IsTrue, refl, ap, sym, subst, ◌∙◌, arith, append_assoc}
+use Rattle.std.proofs.lemmas.List.{map-append, length-append}
 use Rattle.spec_value.specs.Datum.{Text}
 use Rattle.spec_world.specs.World.{World, Object, object_at}
 use Rattle.spec_world.specs.WellFormed.{IsWellFormed}
@@ -11,9 +10,8 @@ use Rattle.spec_faults.specs.Faults.{fault_among}
 use Rattle.spec_faults.specs.Awaited.{Awaited, again, group}
 use Rattle.spec_faults.specs.Awaited as awaited
 use Rattle.checkpoint_lines.specs.declared.lines.Lines.{Lines}
-use Rattle.checkpoint_lines.specs.declared.fault.DecodeError.{DecodeError}
-use Rattle.checkpoint_lines.specs.Rows.{Left, Reads}
-use Rattle.checkpoint_lines.specs.Told.{HasRoom, GoesOn, Tells, fault_left, lines_in}
+use Rattle.checkpoint_lines.specs.Rows.{Left}
+use Rattle.checkpoint_lines.specs.Told.{HasRoom, GoesOn, fault_left}
 use Rattle.checkpoint_lines.proofs.Telling.{goes_then, goes_behind}
 use Rattle.checkpoint_lines.proofs.Going.{Goes, Counts, once_more}
 use Rattle.named_objects.specs.declared.record.ObjectRecord.{ObjectRecord}

@@ -1,4 +1,4 @@
-use Rattle.std.proofs.Common.{◌≡◌, ◌++◌, IsTrue, sym, subst}
+use Rattle.std.proofs.Common.{IsTrue, sym, subst}
 use Rattle.object_lines.specs.Between.{AreBetween}
 use Rattle.object_lines.proofs.Between.{from_same, both_between}
 use Rattle.object_lines.proofs.ahead.ObjectsAhead.join.Goals as goal

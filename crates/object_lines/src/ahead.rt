@@ -1,5 +1,5 @@
 //! Objects that are read before their turn.
-ghost use Rattle.std.specs.Prelude.{◌≡◌, ◌≤◌, length};
+ghost use Rattle.std.specs.Prelude.{◌≡◌, ◌≤◌, length, IfOk};
 ghost use Rattle.object_lines.specs.Between.{AreBetween};
 
 use crate::object::next_object;
@@ -30,16 +30,21 @@ impl<'a> Model for ObjectsAhead<'a> {
 }
 
 impl<'a> ObjectsAhead<'a> {
-    /// No object yet, at a place of a text.
+    /// No object yet, at a place of a text, with room for so many.
     #[tactic(auto, using(crate::proofs::Between::none_between))]
-    pub(crate) fn none(alloc: Global, place: Lines<'a>) -> ObjectsAhead<'a>
-        ensures { result ≡ record { left = place.entry.left.now; lines = place.entry.count; many = 0 } }
+    pub(crate) fn none(
+        alloc: Global,
+        place: Lines<'a>,
+        room: usize,
+    ) -> Result<ObjectsAhead<'a>, AllocError>
+        ensures { IfOk result (λ o. o ≡ record { left = place.entry.left.now; lines = place.entry.count; many = 0 }) }
     {
-        ObjectsAhead {
+        let records = Vec::with_capacity(alloc, room)?;
+        Ok(ObjectsAhead {
             from: place,
             to: place,
-            records: Vec::new(alloc),
-        }
+            records,
+        })
     }
 
     /// The objects from a place on, up to where no more than so many bytes are left, or what comes next is read as no object.
@@ -48,14 +53,22 @@ impl<'a> ObjectsAhead<'a> {
         place: Lines<'a>,
         behind: usize,
     ) -> Result<ObjectsAhead<'a>, AllocError> {
-        let mut objects = ObjectsAhead::none(alloc, place);
+        let mut objects = ObjectsAhead::none(alloc, place, 0)?;
         // Each takes a byte at least.
         for _object in 0..place.len() {
             if objects.to.len() <= behind || !objects.grow(alloc)? {
                 break;
             }
         }
+        objects.records.shrink_to_fit();
         Ok(objects)
+    }
+
+    /// How many they are.
+    pub(crate) fn len(&self) -> usize
+        ensures { result ≡ self.now.many }
+    {
+        self.records.len()
     }
 
     // One more, if it is read: whether it was.

@@ -50,9 +50,18 @@ fn joined<'a>(
     ensures place { IfOk result (λ o. (o.left ≡ place.entry.left.now) × (o.lines ≡ place.entry.count)) }
     ensures most { IfOk result (λ o. o.many ≤ most) }
 {
-    let mut all = ObjectsAhead::none(alloc, place);
+    let mut all = ObjectsAhead::none(alloc, place, total(&ahead))?;
     for objects in ahead {
         all.join(objects, most)?;
     }
     Ok(all)
+}
+
+// How many objects were read ahead.
+fn total(ahead: &[ObjectsAhead<'_>]) -> usize {
+    let mut total: usize = 0;
+    for objects in ahead {
+        total = total.saturating_add(objects.len());
+    }
+    total
 }

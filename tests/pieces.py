@@ -11,7 +11,7 @@ import tempfile
 sys.path.insert(0, os.path.join(os.path.dirname(os.path.dirname(os.path.abspath(__file__))), "bench"))
 sys.dont_write_bytecode = True
 
-from worlds import Thing, World
+from worlds import Literal, Thing, World
 
 OBJECTS = 400
 # In each of so many places of the text lines are damaged.
@@ -24,6 +24,16 @@ def fail(text):
     global failures
     failures += 1
     print(f"tests/pieces.py: {text}", file=sys.stderr)
+
+
+def deep():
+    """The lines of a world in which some values nest as deep as they may, or have as many lists."""
+    world = World()
+    world.put(10, Thing("Kind")).defines["property"] = 0
+    for number in range(11, 11 + OBJECTS):
+        value = Literal("{" * 65535 + "}" * 65535) if number % 130 == 7 else Literal("{" + ", ".join(["{}"] * 30000) + "}") if number % 130 == 100 else "x" * 700
+        world.put(number, Thing("Thing", parent=10)).values = {"property": value}
+    return list(world.lines())
 
 
 def lines():
@@ -89,9 +99,10 @@ def main(play):
     with tempfile.TemporaryDirectory() as path:
         folder = Folder(path, play)
         for processors in (None, {min(os.sched_getaffinity(0))}):
-            status, told, written = folder.read(text, processors)
-            if (status, told) != (0, "") or written != text:
-                fail(f"the world is read with status {status}, told {told[:200]}, and another one is written")
+            for what in (text, "\n".join(deep()) + "\n"):
+                status, told, written = folder.read(what, processors)
+                if (status, told) != (0, "") or written != what:
+                    fail(f"a world of {len(what)} bytes is read with status {status}, told {told[:200]}, or another one is written")
         for place in range(PLACES):
             for pattern, damaged, name, behind in DAMAGE:
                 first = len(good) * place // PLACES + 60

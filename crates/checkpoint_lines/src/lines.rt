@@ -56,11 +56,11 @@ impl<'a> Lines<'a> {
         Lines { left, count }
     }
 
-    /// How many bytes are left.
-    pub fn len(&self) -> usize
-        ensures { result ≡ length self.now.left.now }
+    /// What is left.
+    pub fn left(&self) -> &'a [u8]
+        ensures { result.now ≡ self.now.left.now }
     {
-        self.left.len()
+        self.left
     }
 
     /// Whether the same is left of both, behind as many lines.

@@ -3,6 +3,7 @@ ghost use Rattle.std.specs.Prelude.{◌≡◌, ◌≤◌, length, IfOk};
 ghost use Rattle.object_lines.specs.Between.{AreBetween};
 
 use crate::object::next_object;
+use crate::shallow::is_next_shallow;
 use checkpoint_lines::lines::Lines;
 use named_objects::record::ObjectRecord;
 use std::alloc::{AllocError, Global};
@@ -47,7 +48,8 @@ impl<'a> ObjectsAhead<'a> {
         })
     }
 
-    /// The objects from a place on, up to where no more than so many bytes are left, or what comes next is read as no object.
+    /// The objects from a place on, up to where no more than so many bytes are left, or what comes next is read as no object, or has a line of very many
+    /// lists.
     pub fn read(
         alloc: Global,
         place: Lines<'a>,
@@ -55,8 +57,9 @@ impl<'a> ObjectsAhead<'a> {
     ) -> Result<ObjectsAhead<'a>, AllocError> {
         let mut objects = ObjectsAhead::none(alloc, place, 0)?;
         // Each takes a byte at least.
-        for _object in 0..place.len() {
-            if objects.to.len() <= behind || !objects.grow(alloc)? {
+        for _object in 0..place.left().len() {
+            let left = objects.to.left();
+            if left.len() <= behind || !is_next_shallow(left) || !objects.grow(alloc)? {
                 break;
             }
         }

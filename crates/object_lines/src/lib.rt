@@ -11,5 +11,6 @@ pub mod link;
 mod object;
 pub mod objects;
 pub mod pieces;
+mod shallow;
 mod slot;
 mod verb;

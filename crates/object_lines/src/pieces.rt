@@ -5,9 +5,9 @@
 ghost use Rattle.std.specs.Prelude.{⊤};
 
 use crate::ahead::ObjectsAhead;
+use crate::shallow::begins_object;
 use checkpoint_lines::lines::Lines;
 use line_fields::cut::cut_at;
-use line_fields::number::natural;
 use rayon::prelude::*;
 use std::alloc::{AllocError, Global};
 use std::thread::Threads;
@@ -20,9 +20,6 @@ const LEAST: usize = 16_384;
 
 // Lines are counted so many bytes at a time.
 const CHUNK: usize = 255;
-
-// The greatest number of an object.
-const LAST_OBJECT: u64 = 999_999;
 
 // A piece of a text, with all that stands behind it.
 #[derive(Clone, Copy)]
@@ -119,17 +116,6 @@ fn next_object_line(text: &[u8]) -> Option<&[u8]> {
         left = rest;
     }
     None
-}
-
-// No line of code is the word and a number.
-fn begins_object(text: &[u8]) -> bool {
-    let Some((line, _)) = cut_at(text, b'\n') else {
-        return false;
-    };
-    match line.strip_prefix(b"object ") {
-        Some(number) => natural(number, 0, LAST_OBJECT).is_some(),
-        None => false,
-    }
 }
 
 // A text without so many of its last bytes.

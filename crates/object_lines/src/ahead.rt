@@ -10,11 +10,21 @@ use std::alloc::{AllocError, Global};
 use std::marker::Model;
 
 /// Objects that stand one behind another in a text, with what is left of it before them and behind them.
-#[derive(Drop)]
 pub struct ObjectsAhead<'a> {
     from: Lines<'a>,
     to: Lines<'a>,
     records: Vec<ObjectRecord>,
+}
+
+// Written out, so that letting go of what was read is proved here and not in each crate that lets it go.
+impl<'a> Drop for ObjectsAhead<'a> {
+    fn drop(self) {
+        let ObjectsAhead {
+            from: _from,
+            to: _to,
+            records: _records,
+        } = self;
+    }
 }
 
 impl<'a> Model for ObjectsAhead<'a> {

@@ -20,7 +20,7 @@ use world::worlds::Snapshot;
 const PIECE: usize = 32;
 
 // A part has one of so many objects, and so many more.
-const PARTS: usize = 8;
+const PARTS: usize = 64;
 
 const FEW: usize = 64;
 

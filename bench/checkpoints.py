@@ -95,5 +95,5 @@ def figures(_peers):
 
 
 def longer(more, less):
-    """The seconds by the clock that one run takes longer than another."""
-    return max(more.seconds - less.seconds, 1e-9)
+    """The seconds by the clock that one run takes longer than another: a hundredth of one at least, since less is noise."""
+    return max(more.seconds - less.seconds, 0.01)

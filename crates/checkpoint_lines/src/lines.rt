@@ -26,6 +26,7 @@ use line_fields::cut::cut_at;
 use line_fields::fields::{split, split_first};
 use moo_compiler::program::Program as Compiled;
 use moo_value::text::Text;
+use quick_reader::room::Room;
 use std::alloc::Global;
 
 /// What is left of a text, each of whose lines ends with a line feed.
@@ -222,13 +223,18 @@ impl<'a> Lines<'a> {
     /// The program that so many next lines spell.
     ///
     /// Fault Code, of the first of them, where they are no program's spelling.
-    pub fn next_program(&mut self, alloc: Global, count: u64) -> Result<Compiled, DecodeError>
+    pub fn next_program(
+        &mut self,
+        alloc: Global,
+        room: &mut Room,
+        count: u64,
+    ) -> Result<Compiled, DecodeError>
         ensures reads { (p : Program) (rest : List datum.Text) → IsTrue (is_tree p) → count ≡ length (canonical_lines p) → Left self.old (canonical_lines p ++ rest) → Reads result self.new rest (λ program. program ≡ p) }
         ensures tells { (whose : Whose) → Tells result self.old self.new (code count [] whose ∷ []) (behind_code whose) }
     {
         let line = self.count.saturating_add(1);
         let text = self.next_lines(count)?;
-        let found = program_in(alloc, text)?;
+        let found = program_in(alloc, room, text)?;
         match found {
             Some(program) => Ok(program),
             None => Err(DecodeError::Line {

@@ -11,15 +11,20 @@ ghost use Rattle.spec_faults.specs.Codes.{program_of};
 use moo_compiler::program::Program;
 use moo_syntax::parse::answered;
 use moo_tree::statement::Tree;
+use quick_reader::room::Room;
 use spelled_text::is_spelling;
 use std::alloc::{AllocError, Global};
 
 /// The program whose canonical lines these are, each with its line feed.
-pub fn program_in(alloc: Global, text: &[u8]) -> Result<Option<Program>, AllocError>
+pub fn program_in(
+    alloc: Global,
+    room: &mut Room,
+    text: &[u8],
+) -> Result<Option<Program>, AllocError>
     ensures reads { (p : Source) → IsTrue (is_tree p) → text.now ≡ with_line_ends (canonical_lines p) → IfOk result (λ o. o ≡ Some p) }
     ensures tells { (ts : List Text) → IsTrue (are_lines ts) → text.now ≡ with_line_ends ts → IfOk result (λ o. o ≡ program_of ts) }
 {
-    let known = Program::read(alloc, text)?;
+    let known = Program::read(alloc, room, text)?;
     match known {
         Some(program) => Ok(Some(program)),
         None => compiled(alloc, text),

@@ -13,6 +13,7 @@ use moo_printer::print::print;
 use moo_program::program::Program as Whole;
 use moo_tree::statement::Tree;
 use moo_value::text::Text;
+use quick_reader::room::Room;
 use spelled_text::spelled;
 use std::alloc::{AllocError, Global};
 use std::marker::Model;
@@ -95,8 +96,8 @@ impl Program {
     }
 
     /// The program that a text spells in its canonical lines, each with its line feed. `None` says that no program was quickly found, not that there is
-    /// none.
-    pub fn read(alloc: Global, text: &[u8]) -> Result<Option<Program>, AllocError>
+    /// none. The room is that of the reading, for the next one too.
+    pub fn read(alloc: Global, room: &mut Room, text: &[u8]) -> Result<Option<Program>, AllocError>
         ensures spelling { IfOk result (λ found. IfSome found (λ p. text.now ≡ joined_lines (canonical_lines p))) }
         ensures tree { IfOk result (λ found. IfSome found (λ p. IsTrue (is_tree p))) }
         ensures parsed { IfOk result (λ found. IfSome found (λ p. parsed text.now ≡ program p)) }
@@ -104,7 +105,7 @@ impl Program {
         let Ok(characters) = str::from_utf8(text) else {
             return Ok(None);
         };
-        let found = spelled(alloc, text)?;
+        let found = spelled(alloc, room, text)?;
         let Some(found) = found else {
             return Ok(None);
         };
@@ -198,7 +199,8 @@ impl Program {
     fn tree_read(&self, alloc: Global) -> Result<Tree, AllocError>
         ensures { IfOk result (λ tree. tree ≡ self.now) }
     {
-        let found = spelled(alloc, self.kept.text.as_bytes())?;
+        let mut room = Room::new(alloc);
+        let found = spelled(alloc, &mut room, self.kept.text.as_bytes())?;
         match found {
             Some(found) => Ok(found.tree),
             None => Err(AllocError),

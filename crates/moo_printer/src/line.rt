@@ -7,7 +7,7 @@ ghost use Rattle.spec_program.specs.Spelling.{literal_text};
 use itoa::Buffer;
 use moo_value::text::Text;
 use moo_value::value::{Shown, Value};
-use moo_value::write::to_literal;
+use moo_value::write::Literal;
 use std::alloc::{AllocError, Global};
 use std::marker::Model;
 
@@ -28,14 +28,16 @@ impl Model for Line {
     ghost invariant = { λ a. IsTrue (is_text (string_bytes a.characters)) };
 }
 
+/// For how many characters a line has room at first: most lines of programs have fewer.
+const ROOM: usize = 64;
+
 impl Line {
     /// A line with nothing in it.
-    pub fn new(alloc: Global) -> Line
-        ensures { result ≡ [] }
+    pub fn new(alloc: Global) -> Result<Line, AllocError>
+        ensures { IfOk result (λ line. line ≡ []) }
     {
-        Line {
-            characters: String::new(alloc),
-        }
+        let characters = String::with_capacity(alloc, ROOM)?;
+        Ok(Line { characters })
     }
 
     /// Adds characters that are known to be allowed in texts.
@@ -76,14 +78,13 @@ impl Line {
     }
 
     // Adds a value as values are told.
-    #[tactic(auto, using(moo_value::proofs::Written::text_literal))]
+    #[tactic(auto, using(moo_value::proofs::Written::text_literal, crate::proofs::Digits::text_behind))]
     fn push_plain_literal(&mut self, value: &Value) -> Result<(), AllocError>
         ensures { OnOk result (self.new ≡ self.old ++ literal value.now) }
     {
         value.know();
-        let alloc = *self.characters.allocator();
-        let text = to_literal(alloc, value)?;
-        self.push_str(text.as_str())
+        let literal = Literal(value);
+        write!(self.characters, "{literal}")
     }
 
     /// The line as a text.

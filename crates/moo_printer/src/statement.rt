@@ -17,7 +17,7 @@ fn indented(alloc: Global, indent: &Text, text: &str) -> Result<Line, AllocError
     requires { IsTrue (is_text text.now) }
     ensures { IfOk result (λ line. line ≡ indent.now ++ text.now) }
 {
-    let mut line = Line::new(alloc);
+    let mut line = Line::new(alloc)?;
     line.push_text(indent)?;
     line.push_str(text)?;
     Ok(line)
@@ -27,7 +27,7 @@ fn indented(alloc: Global, indent: &Text, text: &str) -> Result<Line, AllocError
 fn deeper(alloc: Global, indent: &Text) -> Result<Text, AllocError>
     ensures { IfOk result (λ inner. inner ≡ spec.deeper indent.now) }
 {
-    let mut line = Line::new(alloc);
+    let mut line = Line::new(alloc)?;
     line.push_str("  ")?;
     line.push_text(indent)?;
     line.into_text()

@@ -6,6 +6,7 @@ use crate::object::next_object;
 use crate::shallow::is_next_shallow;
 use checkpoint_lines::lines::Lines;
 use named_objects::record::ObjectRecord;
+use quick_reader::room::Room;
 use std::alloc::{AllocError, Global};
 use std::marker::Model;
 
@@ -66,10 +67,11 @@ impl<'a> ObjectsAhead<'a> {
         behind: usize,
     ) -> Result<ObjectsAhead<'a>, AllocError> {
         let mut objects = ObjectsAhead::none(alloc, place, 0)?;
+        let mut room = Room::new(alloc);
         // Each takes a byte at least.
         for _object in 0..place.left().len() {
             let left = objects.to.left();
-            if left.len() <= behind || !is_next_shallow(left) || !objects.grow(alloc)? {
+            if left.len() <= behind || !is_next_shallow(left) || !objects.grow(alloc, &mut room)? {
                 break;
             }
         }
@@ -85,10 +87,10 @@ impl<'a> ObjectsAhead<'a> {
     }
 
     // One more, if it is read: whether it was.
-    fn grow(&mut self, alloc: Global) -> Result<bool, AllocError> {
+    fn grow(&mut self, alloc: Global, room: &mut Room) -> Result<bool, AllocError> {
         self.records.reserve(1)?;
         let mut lines = self.to;
-        match next_object(alloc, &mut lines) {
+        match next_object(alloc, room, &mut lines) {
             Ok(record) => {
                 self.records.push_reserved(record);
                 self.to = lines;

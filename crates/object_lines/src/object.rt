@@ -21,6 +21,7 @@ use crate::verb::next_verbs;
 use checkpoint_lines::fault::DecodeError;
 use checkpoint_lines::lines::Lines;
 use named_objects::record::ObjectRecord;
+use quick_reader::room::Room;
 use std::alloc::Global;
 use view::header::Header;
 use view::object::Lists;
@@ -28,14 +29,18 @@ use view::object::Lists;
 // The greatest number of an object.
 const LAST_OBJECT: i32 = 999_999;
 
-pub(crate) fn next_object(alloc: Global, lines: &mut Lines<'_>) -> Result<ObjectRecord, DecodeError>
+pub(crate) fn next_object(
+    alloc: Global,
+    room: &mut Room,
+    lines: &mut Lines<'_>,
+) -> Result<ObjectRecord, DecodeError>
     ensures reads { (w : World) (o : ℤ) (x : Meant) (rest : List datum.Text) → IsWellFormed w → object_at w o ≡ Some x → IsTrue (is_object_read (o, x)) → Left lines.old (object_lines w o x ++ rest) → Reads result lines.new rest (λ r. told r ≡ shown_object w (o, x)) }
     ensures tells { Tells result lines.old lines.new (group awaited.each_object) (λ _. []) }
 {
     let number = lines.next_integer(alloc, b"object", 0, LAST_OBJECT)?;
     let family = next_family(alloc, lines)?;
     let slots = next_slots(alloc, lines)?;
-    let verbs = next_verbs(alloc, lines)?;
+    let verbs = next_verbs(alloc, room, lines)?;
     let (header, lists) = family;
     Ok(ObjectRecord {
         number,

@@ -17,6 +17,7 @@ use crate::object::next_object;
 use checkpoint_lines::fault::DecodeError;
 use checkpoint_lines::lines::Lines;
 use named_objects::record::ObjectRecord;
+use quick_reader::room::Room;
 use std::alloc::{AllocError, Global};
 
 /// So many objects, from the next lines. Those that were read before their turn are not read again, where they stand here one behind another.
@@ -33,8 +34,9 @@ pub fn next_objects<'a>(
     let (_, behind, mut records) = joined.into_parts();
     *lines = behind;
     let done = records.len() as u64;
+    let mut room = Room::new(alloc);
     'reading: for _object in done..count {
-        let record = next_object(alloc, lines)?;
+        let record = next_object(alloc, &mut room, lines)?;
         records.push(record)?;
     }
     Ok(records)

@@ -27,6 +27,7 @@ use line_fields::bits::VerbBits;
 use line_fields::number::natural;
 use moo_compiler::program::Program;
 use moo_value::text::Text;
+use quick_reader::room::Room;
 use std::alloc::Global;
 use view::verb::{ObjectPart, PrepositionPart, Verb};
 
@@ -44,34 +45,43 @@ struct Head {
 }
 
 /// The verbs of an object, from the next lines.
-pub fn next_verbs(alloc: Global, lines: &mut Lines<'_>) -> Result<Vec<Verb>, DecodeError>
+pub fn next_verbs(
+    alloc: Global,
+    room: &mut Room,
+    lines: &mut Lines<'_>,
+) -> Result<Vec<Verb>, DecodeError>
     ensures reads { (vs : List meant.Verb) (rest : List datum.Text) → IsTrue (list_all is_verb_read vs) → Left lines.old (verb_lines vs ++ rest) → Reads result lines.new rest (λ v. v.items ≡ vs) }
     ensures tells { Tells result lines.old lines.new (counted (codes "verbs") awaited.each_verb ∷ []) (λ _. []) }
 {
     let count = lines.next_count(alloc, b"verbs")?;
-    so_many_verbs(alloc, lines, count)
+    so_many_verbs(alloc, room, lines, count)
 }
 
 // So many verbs, from the next lines.
-fn so_many_verbs(alloc: Global, lines: &mut Lines<'_>, count: u64) -> Result<Vec<Verb>, DecodeError>
+fn so_many_verbs(
+    alloc: Global,
+    room: &mut Room,
+    lines: &mut Lines<'_>,
+    count: u64,
+) -> Result<Vec<Verb>, DecodeError>
     ensures reads { (vs : List meant.Verb) (rest : List datum.Text) → IsTrue (list_all is_verb_read vs) → count ≡ length vs → Left lines.old (each_verb vs ++ rest) → Reads result lines.new rest (λ v. v.items ≡ vs) }
     ensures tells { Tells result lines.old lines.new (again count awaited.each_verb ∷ []) (λ _. []) }
 {
     let mut verbs = Vec::new(alloc);
     'reading: for _verb in 0..count {
-        let verb = next_verb(alloc, lines)?;
+        let verb = next_verb(alloc, room, lines)?;
         verbs.push(verb)?;
     }
     verbs.shrink_to_fit();
     Ok(verbs)
 }
 
-fn next_verb(alloc: Global, lines: &mut Lines<'_>) -> Result<Verb, DecodeError>
+fn next_verb(alloc: Global, room: &mut Room, lines: &mut Lines<'_>) -> Result<Verb, DecodeError>
     ensures reads { (v : meant.Verb) (rest : List datum.Text) → IsTrue (is_verb_read v) → Left lines.old (verb_line v (length (canonical_lines v.program)) ∷ (canonical_lines v.program ++ rest)) → Reads result lines.new rest (λ u. u ≡ v) }
     ensures tells { Tells result lines.old lines.new (awaited.verb ∷ []) (λ _. []) }
 {
     let head = next_head(alloc, lines)?;
-    let program = lines.next_program(alloc, head.lines)?;
+    let program = lines.next_program(alloc, room, head.lines)?;
     Ok(verb(head, program))
 }
 

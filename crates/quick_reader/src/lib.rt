@@ -14,6 +14,7 @@ mod literal;
 mod names;
 mod pair;
 mod reader;
+pub mod room;
 mod scatter;
 mod several;
 mod sign;

@@ -1,7 +1,8 @@
 //! A text that is read, and what was read of it.
 use crate::names::Names;
+use crate::room::Room;
 use moo_tree::expression::{Argument, Expression, Item};
-use moo_tree::statement::{Arm, Branch, Statement};
+use moo_tree::statement::{Arm, Branch, Statement, Tree};
 use std::alloc::{AllocError, Global};
 
 /// An expression, and how many nodes a path of it has at most.
@@ -36,21 +37,71 @@ pub struct Reader<'a> {
 
 impl<'a> Reader<'a> {
     /// A text of which nothing was read.
-    pub fn new(alloc: Global, text: &'a [u8]) -> Reader<'a> {
+    pub fn new(room: Room, text: &'a [u8]) -> Reader<'a> {
+        let Room {
+            alloc,
+            expressions,
+            arguments,
+            items,
+            statements,
+            branches,
+            arms,
+            names,
+        } = room;
         Reader {
             alloc,
             rest: text,
             is_refused: false,
             lacks_memory: false,
             below: 0,
-            expressions: Vec::new(alloc),
-            arguments: Vec::new(alloc),
-            items: Vec::new(alloc),
-            statements: Vec::new(alloc),
-            branches: Vec::new(alloc),
-            arms: Vec::new(alloc),
-            names: Names::new(alloc),
+            expressions,
+            arguments,
+            items,
+            statements,
+            branches,
+            arms,
+            names,
         }
+    }
+
+    /// The room, for the next text.
+    pub fn into_room(self) -> Room {
+        let Reader {
+            alloc,
+            rest: _,
+            is_refused: _,
+            lacks_memory: _,
+            below: _,
+            expressions,
+            arguments,
+            items,
+            statements,
+            branches,
+            arms,
+            names,
+        } = self;
+        Room {
+            alloc,
+            expressions,
+            arguments,
+            items,
+            statements,
+            branches,
+            arms,
+            names,
+        }
+    }
+
+    /// Takes the tree of the statements that were read, if they are the whole text.
+    pub fn take_tree(&mut self) -> Result<Option<Tree>, AllocError> {
+        if self.lacks_memory {
+            return Err(AllocError);
+        }
+        if self.is_refused || !self.rest.is_empty() {
+            return Ok(None);
+        }
+        let statements = self.statements.split_off(0)?;
+        Ok(Some(Tree::new(statements)))
     }
 
     /// Refuses the text.

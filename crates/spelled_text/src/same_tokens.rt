@@ -7,6 +7,7 @@ ghost use Rattle.tokens_ahead.specs.Bare.{bare};
 
 use moo_tree::statement::Tree;
 use quick_reader::guess::guess;
+use quick_reader::room::Room;
 use std::alloc::{AllocError, Global};
 use tokens_ahead::front::behind_blanks;
 use tree_grammar::is_of_grammar;
@@ -38,7 +39,8 @@ pub fn quickly_read(alloc: Global, text: &[u8]) -> Result<Option<Tree>, AllocErr
     ensures tree { IfOk result (λ found. IfSome found (λ tree. IsTrue (is_tree tree))) }
     ensures parsed { IfOk result (λ found. IfSome found (λ tree. parsed text.now ≡ program tree)) }
 {
-    let found = guess(alloc, text)?;
+    let mut room = Room::new(alloc);
+    let found = guess(&mut room, text)?;
     let Some(tree) = found else {
         return Ok(None);
     };

@@ -9,6 +9,7 @@ use moo_printer::print::print;
 use moo_tree::statement::Tree;
 use moo_value::text::Text;
 use quick_reader::guess::guess;
+use quick_reader::room::Room;
 use std::alloc::{AllocError, Global};
 use tree_grammar::is_of_grammar;
 
@@ -23,13 +24,13 @@ pub struct FoundTree {
 /// The tree of a text that is its canonical lines, each with its line feed. `None` says that no tree was quickly found, not that there is none: the tree
 /// is guessed, and given where it is one of the grammar that spells just this text.
 #[tactic(auto, using(crate::proofs::Known::known))]
-pub fn spelled(alloc: Global, text: &[u8]) -> Result<Option<FoundTree>, AllocError>
+pub fn spelled(alloc: Global, room: &mut Room, text: &[u8]) -> Result<Option<FoundTree>, AllocError>
     ensures spelling { IfOk result (λ found. IfSome found (λ s. text.now ≡ joined_lines (canonical_lines s.tree))) }
     ensures lines { IfOk result (λ found. IfSome found (λ s. s.lines ≡ length (canonical_lines s.tree))) }
     ensures tree { IfOk result (λ found. IfSome found (λ s. IsTrue (is_tree s.tree))) }
     ensures parsed { IfOk result (λ found. IfSome found (λ s. parsed text.now ≡ program s.tree)) }
 {
-    let found = guess(alloc, text)?;
+    let found = guess(room, text)?;
     let Some(tree) = found else {
         return Ok(None);
     };

@@ -24,6 +24,7 @@ use moo_task::moo_machine::call::Call;
 use moo_task::moo_machine::operands::Operands;
 use moo_task::moo_machine::verb::State;
 use moo_task::start::SharedStart;
+use quick_reader::room::Room;
 use std::alloc::Global;
 
 /// The verb of which this is the first line, from the next lines. One that was forked stands at its beginning, any other at a call.
@@ -37,7 +38,8 @@ pub fn next_frame(
     ensures tells { Tells result lines.old lines.new (code head.lines [] (of_frame is_fork) ∷ []) (λ _. []) }
 {
     let Head { call, lines: count } = head;
-    let kept = lines.next_program(alloc, count)?;
+    let mut room = Room::new(alloc);
+    let kept = lines.next_program(alloc, &mut room, count)?;
     let program = kept.whole()?;
     next_under_way(alloc, lines, call, program, is_fork)
 }

@@ -10,6 +10,7 @@ use moo_value::value::{Shown, Value};
 use moo_value::write::Literal;
 use std::alloc::{AllocError, Global};
 use std::marker::Model;
+use std::mem;
 
 /// A line that is being written: at each time its characters are those of texts.
 #[derive(Drop)]
@@ -83,8 +84,13 @@ impl Line {
         ensures { OnOk result (self.new ≡ self.old ++ literal value.now) }
     {
         value.know();
+        let alloc = *self.characters.allocator();
         let literal = Literal(value);
-        write!(self.characters, "{literal}")
+        // Nothing is left of the line where the writing fails.
+        let mut characters = mem::replace(&mut self.characters, String::new(alloc));
+        write!(characters, "{literal}")?;
+        self.characters = characters;
+        Ok(())
     }
 
     /// The line as a text.

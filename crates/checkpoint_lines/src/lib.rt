@@ -8,3 +8,4 @@ pub mod fault;
 pub mod lines;
 mod program;
 pub mod row;
+mod same;

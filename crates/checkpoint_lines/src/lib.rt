@@ -8,4 +8,3 @@ pub mod fault;
 pub mod lines;
 mod program;
 pub mod row;
-mod same;

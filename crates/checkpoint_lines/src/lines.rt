@@ -22,7 +22,6 @@ ghost use Rattle.checkpoint_lines.specs.Told.{HasRoom, NextLine, NextRow, NextWi
 use crate::fault::{DecodeError, FaultKind};
 use crate::program::program_in;
 use crate::row::Row;
-use crate::same::are_same;
 use line_fields::cut::cut_at;
 use line_fields::fields::{split, split_first};
 use moo_compiler::program::Program as Compiled;
@@ -274,4 +273,11 @@ impl<'a> Lines<'a> {
         };
         Err(DecodeError::Line { line, kind })
     }
+}
+
+// Long texts are sooner compared so than by `==`.
+fn are_same(text: &[u8], other: &[u8]) -> bool
+    ensures { IsTrue result → text.now ≡ other.now }
+{
+    text.len() == other.len() && text.starts_with(other)
 }

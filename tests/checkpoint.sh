@@ -148,8 +148,7 @@ lines=$(wc -l <"$work/fixture")
 run "$work/damaged" "$work/none"
 wants "the fixture without its last line" 2 '' "moo-play: world: line $lines: Ended\n"
 
-# Every byte of two small worlds altered in turn, and each of their beginnings, and of a world with a task that waits every seventh: refused with a line,
-# or its own text.
+# Every byte of two small worlds and of one with a task that waits altered in turn, and each of their beginnings: refused with a line, or its own text.
 if command -v python3 >/dev/null 2>&1; then
     python3 - "$play" "$work" "$small" <<'END' || fail "damaged worlds"
 import os, re, subprocess, sys, threading
@@ -157,10 +156,10 @@ play, work, small = sys.argv[1:]
 
 def texts():
     """Names of worlds that are altered, with their texts, and whether they are proper beginnings."""
-    for file, step, changes in ((small, 1, (1, 16)), (f"{work}/empty", 1, (1,)), (f"{work}/held", 7, (1, 16, 64))):
+    for file, changes in ((small, (1, 16)), (f"{work}/empty", (1,)), (f"{work}/held", (1, 16, 64))):
         with open(file, "rb") as it:
             whole = it.read()
-        for at in range(0, len(whole), step):
+        for at in range(len(whole)):
             yield f"{file}, the first {at} bytes", whole[:at], True
             for change in changes:
                 yield f"{file}, byte {at} changed by {change}", whole[:at] + bytes([whole[at] ^ change]) + whole[at + 1:], False

@@ -1,5 +1,5 @@
 //! Worlds as text, made by several threads.
-ghost use Rattle.std.specs.Prelude.{◌≡◌, ◌≤◌, ◌++◌, OnOk, IfOk, IsTrue, string_bytes};
+ghost use Rattle.std.specs.Prelude.{◌≡◌, ◌<◌, ◌≤◌, ◌++◌, OnOk, IfOk, IsTrue, string_bytes};
 ghost use Rattle.std.specs.List.{flat_map};
 ghost use Rattle.spec_value.specs.Table.{is_numbered};
 ghost use Rattle.spec_world.specs.Checkpoint.{checkpoint_text, with_line_ends};
@@ -10,21 +10,22 @@ use crate::checkpoint_fields::page::Page;
 use crate::checkpoint_objects::object::put_objects;
 use crate::checkpoint_objects::shortcut::{Shortcut, shortcuts};
 use crate::encode::{put_back, put_front};
+use rayon::current_num_threads;
 use rayon::prelude::*;
 use std::alloc::{AllocError, Global};
 use std::thread::Threads;
 use world::draft::Draft;
 use world::worlds::Snapshot;
 
-// So many objects at most are written as one piece.
+// So many objects at least are written as one piece.
 const PIECE: usize = 32;
 
 // A part has one of so many objects, and so many more.
-const PARTS: usize = 64;
+const PARTS: usize = 40;
 
 const FEW: usize = 64;
 
-/// The text of a snapshot's world. The lines of its objects are made by several threads where there are 64 objects or more, by two at most for each
+/// The text of a snapshot's world. The lines of its objects are made by several threads where there are 64 objects or more, by one at most for each
 /// processor, and stand in the objects' order. They are made a part of the objects at a time, so that little of the text is in memory twice.
 pub fn encode_by_threads<R: Threads + Sync>(
     rt: &R,
@@ -90,6 +91,15 @@ pub(crate) fn part_size(count: usize) -> usize
     (count / PARTS).saturating_add(FEW)
 }
 
+// How many of so many objects are one piece. There are no more pieces than processors: each takes a new thread.
+fn piece_size<R: Threads>(rt: &R, count: usize) -> usize
+    ensures { 0 < result }
+{
+    (count / current_num_threads(rt))
+        .saturating_add(1)
+        .max(PIECE)
+}
+
 /// The lines of the objects of these numbers, in pieces.
 pub(crate) fn pieces<R: Threads + Sync>(
     rt: &R,
@@ -101,8 +111,9 @@ pub(crate) fn pieces<R: Threads + Sync>(
     requires { ArePassed snapshot.now shortcuts.now }
     ensures { IfOk result (λ v. flat_map (λ t. string_bytes t) v.items ≡ objects_text snapshot.now numbers.now) }
 {
+    let size = piece_size(rt, numbers.len());
     numbers
-        .par_chunks(PIECE)
+        .par_chunks(size)
         .with_min_len(1)
         .map(
             |piece: &[i32]| -> Result<String, AllocError>

@@ -17,7 +17,7 @@ use world::draft::Draft;
 use world::worlds::Snapshot;
 
 /// Whether bytes are the text of a snapshot's world. The lines of its objects are made by several threads, a part of them at a time: no more of the text
-/// is in memory at once than a 64th of the objects and 64 more have.
+/// is in memory at once than a 40th of the objects and 64 more have.
 pub fn is_text_by_threads<R: Threads + Sync>(
     rt: &R,
     alloc: Global,

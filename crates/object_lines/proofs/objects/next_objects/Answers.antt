@@ -13,7 +13,7 @@ use Rattle.object_lines.specs.Between.{AreBetween}
 use Rattle.object_lines.proofs.Lists.{next_at, holds_at}
 use Rattle.object_lines.proofs.ObjectParts.{objects_on}
 use Rattle.object_lines.proofs.Between.{from_same, one_more_between, counts}
-use Rattle.checkpoint_lines.proofs.Going.{passed_on, one_fails, all_of_them}
+use Rattle.checkpoint_lines.proofs.Going.{passed_on, one_fails, all_of_them, no_memory}
 use Rattle.spec_faults.specs.Awaited.{again}
 use Rattle.spec_faults.specs.Awaited as awaited
 use Rattle.object_lines.proofs.objects.next_objects.Goals as goal
@@ -53,6 +53,11 @@ returns-in_err-record-clause-tells c =
     let passed = err_from_is_err_and c.from_residual-in_err-record.result c.from_residual-in_err-record.ensures.1 in
     passed_on c.from_residual-in_err-record.result passed.0 _ c.args.lines.now _ (again c.args.count awaited.each_object ∷ []) (λ _. []) passed.1 passed.2
     (one_fails _ c.args.lines.now c.reading.lines c.args.count c.reading._object awaited.each_object (omega arith) some c.in_err-record.ensures.tells)
+
+pub returns-in_err-push-clause-tells : goal.returns-in_err-push-clause-tells
+returns-in_err-push-clause-tells c =
+    let passed = err_from_is_err_and c.from_residual-in_err-push.result c.from_residual-in_err-push.ensures.1 in
+    no_memory c.from_residual-in_err-push.result passed.0 c.args.lines.now _ (again c.args.count awaited.each_object ∷ []) (λ _. []) passed.1 passed.2
 
 pub reading-preserved : goal.reading-preserved
 reading-preserved c =

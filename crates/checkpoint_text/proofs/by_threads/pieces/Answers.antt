@@ -30,7 +30,7 @@ returns g c =
     chain.1 ∙ ap (λ it. chunks_of (max (chunks_size (min_len_base it)) 1) (chunks_slice (min_len_base it))) c.map.ensures.base
     ∙ ap (λ it. chunks_of (max (chunks_size it) 1) (chunks_slice it)) c.with_min_len.ensures.base
     ∙ ap (λ (n : ℕ). chunks_of (max n 1) (chunks_slice c.par_chunks.result)) c.par_chunks.ensures.size
-    ∙ ap (λ (js : List ℤ). chunks_of (max c.piece_size.result 1) js) c.par_chunks.ensures.slice in
-    let some : 0 < max c.piece_size.result 1 = omega arith in
+    ∙ ap (λ (js : List ℤ). chunks_of (max c.piece_size-size.result 1) js) c.par_chunks.ensures.slice in
+    let some : 0 < max c.piece_size-size.result 1 = omega arith in
     all_gathered _ text (λ b. b.now) (λ t. string_bytes t) _ (λ x v e. rw c.map.ensures.f at e) c.in_ok-collect.field-0 (λ v. v.items) chain.0 h.0 chain.2 h.2
-    (text ks) (ap (λ kss. flat_map text kss) cut ∙ objects_in_pieces w (max c.piece_size.result 1) ks some)
+    (text ks) (ap (λ kss. flat_map text kss) cut ∙ objects_in_pieces w (max c.piece_size-size.result 1) ks some)

@@ -1,7 +1,7 @@
 //! The loop of the machine as far as it asks nothing of the world: instructions one after another, where a run stops, and the verbs
 //! that are then under way.
 mod ahead;
-mod append;
+pub mod append;
 pub mod argument;
 pub mod asked;
 mod item;

@@ -1,7 +1,8 @@
 -- A slot that gets a value twice: the first one plays no part.
-use Rattle.std.proofs.Common.{◌≡◌, ◌∙◌, ℕ, zero, suc, ◌-◌, ℤ, Bool, true, List, [], ◌∷◌, map, length, Option, Some, None, refl, sym, ap, subst, arith, get_or}
+use Rattle.std.proofs.Common.{◌≡◌, ◌∙◌, ℕ, zero, suc, ◌-◌, ◌<◌, ℤ, Bool, true, List, [], ◌∷◌, map, length, Option, Some, None, refl, sym, ap, subst, arith, get_or}
 use Rattle.std.proofs.Math.ListN.{set}
-use Rattle.std.specs.Prelude.{Result, Ok, Err, IfOk}
+use Rattle.std.proofs.lemmas.List.{map-set}
+use Rattle.std.specs.Prelude.{Result, Ok, Err, IfOk, slice_get}
 use Rattle.std.specs.declared.cmp.Ordering.{Ordering}
 use Rattle.std.specs.declared.cmp.Ordering.TheVariants.{Less, Equal, Greater}
 use Rattle.std.specs.Cmp.{int_cmp_total, IsTotalOrder, tied_itself}
@@ -14,7 +15,7 @@ use Rattle.spec_world.specs.World.{World, Object, Slot, object_at, with_object}
 use Rattle.spec_world.specs.Inherit.{slot_of, put_slot, with_slot}
 use Rattle.spec_world.specs.Questions.{Change, apply, new_value, put_value}
 use Rattle.spec_world.proofs.SlotChanges.{find-put_same}
-use Rattle.view.specs.Writing.{Gives, GoesFurther, IsRenewed}
+use Rattle.view.specs.Writing.{Gives, GoesFurther, IsRenewed, IsRevalued, AreRevalued}
 
 -- ---- tables
 
@@ -117,3 +118,20 @@ pub renewed_so : {X E : Type 0} (f : X → Change) (o : ℤ) (p : Text) (v : Dat
 renewed_so f o p v olds xs n x y (Err e) are count is h = tt
 renewed_so f o p v olds xs n x y (Ok b) are count is h = λ so.
     subst (λ (cs : List Change). GoesFurther o p v cs (map f (set xs (n - 1) y))) are (renewed_last f o p v xs (n - 1) x y count is (h so))
+
+there_mapped : {X : Type 0} (f : X → Change) (xs : List X) (n : ℕ) (x : X) → n < length xs → x ≡ get_or xs n x → slice_get (map f xs) n ≡ Some (f x)
+there_mapped f [] n x within is = absurd (omega (arith, within))
+there_mapped f (y ∷ ys) zero x within is = ap (λ z. Some (f z)) (sym is)
+there_mapped f (y ∷ ys) (suc n) x within is = there_mapped f ys n x (omega (arith, within)) is
+
+-- where the change at a place gives its slot another value
+pub revalued_so : {X : Type 0} (f : X → Change) (v : Datum) (olds : List Change) (xs : List X) (n : ℕ) (x y : X) → map f xs ≡ olds → n < length xs → x ≡ get_or xs n x → IsRevalued v (f x) (f y)
+    → AreRevalued v n olds (map f (set xs n y))
+revalued_so f v olds xs n x y are within is r =
+    record {
+      before = f x;
+      after = f y;
+      there = sym (ap (λ (cs : List Change). slice_get cs n) are) ∙ there_mapped f xs n x within is;
+      revalued = r;
+      is = map-set f xs n y ∙ ap (λ (cs : List Change). set cs n (f y)) are;
+    }

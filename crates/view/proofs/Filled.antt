@@ -1,5 +1,5 @@
 -- Slots with another value in one.
-use Rattle.std.proofs.Common.{◌≡◌, ℕ, ◌<◌, List, length, Option, Some, None, IsTrue, sym, ◌∙◌, ap, subst, get_or, option_map}
+use Rattle.std.proofs.Common.{◌≡◌, ℕ, ◌<◌, List, length, Some, IsTrue, sym, ◌∙◌, ap, subst, get_or, option_map}
 use Rattle.std.proofs.Math.ListN.{set}
 use Rattle.spec_value.specs.Datum.{Datum, Text}
 use Rattle.spec_world.specs.World.{Slot}

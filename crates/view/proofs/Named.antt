@@ -1,17 +1,17 @@
 -- Lists by name in rising order: what is found at an index, and what takes its place.
-use Rattle.std.proofs.Common.{◌≡◌, ◌≢◌, ℕ, zero, suc, ◌+◌, ◌<◌, List, [], ◌∷◌, length, map, Option, Some, None, Bool, true, false, cond, IsTrue, refl, sym, add-one, ◌∙◌, ap, subst, arith, get_or, drop, slice_get, ◌&&◌, T}
+use Rattle.std.proofs.Common.{◌≡◌, ℕ, zero, suc, ◌+◌, ◌<◌, List, [], ◌∷◌, length, Some, Bool, true, false, cond, IsTrue, refl, sym, add-one, ◌∙◌, ap, subst, arith, get_or, drop, T}
 use Rattle.std.proofs.Math.ListN.{set}
 use Rattle.std.specs.Char.{to_ascii_lowercase}
-use Rattle.std.specs.Ordering.{nat_cmp, eq_by_cmp, is_eq, is_lt, ordering_reverse}
+use Rattle.std.specs.Ordering.{nat_cmp, is_eq, is_lt, ordering_reverse}
 use Rattle.std.specs.declared.cmp.Ordering.{Ordering}
 use Rattle.std.specs.declared.cmp.Ordering.TheVariants.{Less, Equal, Greater}
-use Rattle.std.specs.Cmp.{IsTotalOrder, tied_itself}
+use Rattle.std.specs.Cmp.{tied_itself}
 use Rattle.std.specs.Cmp.Lexicographic.{slice_cmp, nat_list_cmp_total}
 use Rattle.std.specs.FinMap.Entries.{below_all, by_order, is_sorted-put}
 use Rattle.std.proofs.lemmas.Bool.{and_parts}
-use Rattle.std.specs.FinMap.{find, put, is_sorted, slice_cmp-IsAntisymmetric, nat_cmp-IsAntisymmetric}
+use Rattle.std.specs.FinMap.{is_sorted, slice_cmp-IsAntisymmetric, nat_cmp-IsAntisymmetric}
 use Rattle.spec_value.specs.Datum.{Text, fold_case}
-use Rattle.spec_value.specs.Table.{Named, named, with_name, is_named}
+use Rattle.spec_value.specs.Table.{named, with_name, is_named}
 
 to_T : {b : Bool} → IsTrue b → T b
 to_T {b = b} e = subst T (sym e) tt

@@ -1,10 +1,10 @@
 -- What worlds consist of, questions, answers and changes may go to other threads, and some be lent to them.
 use denote.Param.Send.{IsSend, IsSync, sendable}
-use denote.Param.SendFields.{as_row_send, declared_send, variants_send}
+use denote.Param.SendFields.{as_row_send, variants_send}
 use Rattle.std.proofs.Crossing.{crosses}
-use Rattle.moo_value.proofs.Crossing.{value_send, value_sync, text_send, text_sync}
+use Rattle.moo_value.proofs.Crossing.{value_send, text_send, text_sync}
 use Rattle.slot_content.proofs.Crossing.{content_send, content_sync}
-use Rattle.moo_task.proofs.Crossing.{task_send, task_sync}
+use Rattle.moo_task.proofs.Crossing.{task_send}
 use Rattle.moo_compiler.proofs.Crossing.{program_send, program_sync}
 use Rattle.view.specs.contracts.change.Change as change
 use Rattle.view.specs.contracts.header.Header as header

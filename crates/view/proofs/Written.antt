@@ -1,5 +1,5 @@
 -- Slots that programmers write.
-use Rattle.std.proofs.Common.{◌≡◌, ◌∙◌, ℤ, Bool, true, false, List, [], ◌∷◌, ◌++◌, Option, Some, None, refl, sym, ap, ℕ, IsTrue, get_or}
+use Rattle.std.proofs.Common.{◌≡◌, ◌∙◌, ℤ, Bool, true, false, List, Option, Some, None, refl, sym, ap, ℕ, IsTrue, get_or}
 use Rattle.std.specs.Prelude.{option_map}
 use Rattle.spec_value.specs.Datum.{Datum, Text, fold_case}
 use Rattle.spec_value.specs.Table.{named, with_name, is_named}

@@ -1,5 +1,5 @@
 -- Slots that programmers write.
-use Rattle.std.specs.Prelude.{◌≡◌, ℤ, Bool, true, false, List, Some, option_map}
+use Rattle.std.specs.Prelude.{◌≡◌, ℕ, ℤ, Bool, true, false, List, Some, option_map, slice_get, slice_set}
 use Rattle.spec_value.specs.Datum.{Datum, Text, fold_case}
 use Rattle.spec_value.specs.Table.{Named, named, with_name}
 use Rattle.spec_world.specs.World.{World, Object, Slot}
@@ -17,6 +17,13 @@ pub record MayWrite (programmer : ℤ) (object : ℤ) (name : Text) (w : World) 
 abbrev pub IsWrittenBy : ℤ → ℤ → Text → Datum → Bool → World → World → Type 0
 IsWrittenBy programmer object name value true before after = MayWrite programmer object name before × (after ≡ apply (new_value object name value) before)
 IsWrittenBy programmer object name value false before after = after ≡ before
+
+-- a programmer owns a slot that there is and that holds this value, or all may read it
+pub record IsReadBy (programmer : ℤ) (object : ℤ) (name : Text) (value : Datum) (w : World) : Type 0 where
+  pub slot : Slot
+  pub there : slot_at w object name ≡ Some slot
+  pub allowed : owns_or programmer slot.owner slot.readable ≡ true
+  pub held : slot.content ≡ Some value
 
 -- slots of which a programmer gave one another value
 pub record AreRewritten (programmer : ℤ) (name : Text) (value : Datum) (old new : Named Slot) : Type 0 where
@@ -50,3 +57,19 @@ pub record IsRenewed (object : ℤ) (name : Text) (value : Datum) (old new : Cha
   pub same : fold_case spelled ≡ fold_case name
   pub was : old ≡ new_value object spelled before
   pub is : new ≡ new_value object spelled value
+
+-- a change that gives a slot a value gives it this one
+pub record IsRevalued (value : Datum) (old new : Change) : Type 0 where
+  pub object : ℤ
+  pub name : Text
+  pub before : Datum
+  pub was : old ≡ new_value object name before
+  pub is : new ≡ new_value object name value
+
+-- changes of which the one at a place gives its slot this value
+pub record AreRevalued (value : Datum) (place : ℕ) (old new : List Change) : Type 0 where
+  pub before : Change
+  pub after : Change
+  pub there : slice_get old place ≡ Some before
+  pub revalued : IsRevalued value before after
+  pub is : new ≡ slice_set old place after

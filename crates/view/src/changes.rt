@@ -1,10 +1,10 @@
 //! What is to change.
-ghost use Rattle.std.specs.Prelude.{◌≡◌, ◌<◌, ℤ, ◌↔◌, ◌++◌, ◌∷◌, [], true, false, length, map, IsTrue, IfSome, IfOk, OnOk, OnErr};
+ghost use Rattle.std.specs.Prelude.{◌≡◌, ◌<◌, ℤ, ◌↔◌, ◌++◌, ◌∷◌, [], true, false, length, map, IsTrue, IsFalse, IfSome, IfOk, OnOk, OnErr};
 ghost use Rattle.spec_value.specs.Datum.{Datum, Text as Characters, fold_case};
 ghost use Rattle.spec_world.specs.Questions.{new_part, new_value};
 ghost use Rattle.view.specs.Facets.{facet, is_of_facet, is_beside_facet, AreTwo, IsBesideValue, DoesLast, TakesPlace};
 ghost use Rattle.view.specs.Meanings.{change_of, part_of};
-ghost use Rattle.view.specs.Writing.{Gives, GoesFurther, IsRenewed};
+ghost use Rattle.view.specs.Writing.{Gives, GoesFurther, IsRenewed, IsRevalued, AreRevalued};
 
 use crate::change::Change;
 use crate::part::Part;
@@ -78,6 +78,18 @@ impl Changes {
             return Ok(false);
         }
         renew_one(&mut self.items[count - 1], object, name, value)
+    }
+
+    /// The change at a place gives its slot this value, if it gives a slot a value; whether it does. Else nothing changes.
+    #[inline(always)]
+    pub fn set_value(&mut self, place: usize, value: Value) -> bool
+        ensures done { IsTrue result → AreRevalued value place self.old self.new }
+        ensures left { IsFalse result → self.new ≡ self.old }
+    {
+        if place >= self.items.len() {
+            return false;
+        }
+        revalue(&mut self.items[place], value)
     }
 
     /// One more change. Where an earlier one of the same whole part of an object, or of the value of the same slot, is near enough and nothing after it forbids
@@ -245,6 +257,21 @@ fn renew_one(
     let value = value.clone()?;
     put_value(change, value);
     Ok(true)
+}
+
+// A change that gives a slot a value gives it this one.
+#[inline(always)]
+fn revalue(change: &mut Change, value: Value) -> bool
+    ensures done { IsTrue result → IsRevalued value (change_of change.old) (change_of change.new) }
+    ensures left { IsFalse result → change.new ≡ change.old }
+{
+    match change {
+        Change::Value(_, _, held) => {
+            *held = value;
+            true
+        }
+        _ => false,
+    }
 }
 
 // Whether a change gives a slot a value.

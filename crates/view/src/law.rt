@@ -1,11 +1,11 @@
 //! What a view promises.
-ghost use Rattle.std.specs.Prelude.{◌≡◌, ℕ, option_map, IfOk, OnOk};
+ghost use Rattle.std.specs.Prelude.{◌≡◌, ℕ, option_map, IfOk, IfSome, OnOk};
 ghost use Rattle.spec_world.specs.World.{World};
 ghost use Rattle.spec_world.specs.Inherit.{slot_at};
 ghost use Rattle.spec_world.specs.Questions.{ask, apply, header_at, verbs_at, about_header, about_slot, about_verbs};
 ghost use Rattle.view.specs.Meanings.{question_of, answer_of, change_of};
 ghost use Rattle.view.specs.Law.{Goes, Keeps, Lasts, Tells};
-ghost use Rattle.view.specs.Writing.{IsWrittenBy};
+ghost use Rattle.view.specs.Writing.{IsReadBy, IsWrittenBy};
 
 use crate::change::Change;
 use crate::question::{Answer, Question};
@@ -61,6 +61,14 @@ pub trait View {
             Answer::Slot(None) => Ok(None),
             _ => unreachable!(),
         }
+    }
+
+    /// The value of a slot that a programmer owns or that all may read, if the view has it at hand, lent. It takes no question. Case is ignored.
+    #[inline(always)]
+    fn value_at_hand(&self, _programmer: i32, _object: i32, _name: &Text) -> Option<&Value>
+        ensures { IfSome result (λ v. (w : World) → holds self.now w → IsReadBy _programmer _object _name.now v.now (now self.now w)) }
+    {
+        None
     }
 
     /// The parent that an object names, or None where there is no such object, as `get` answers. A negative number names none.

@@ -34,6 +34,14 @@ impl Model for Slot {
 }
 
 impl Slot {
+    /// Whether a programmer owns the slot, or all may read it.
+    #[inline(always)]
+    pub fn is_read_by(&self, programmer: i32) -> bool
+        ensures { result ≡ owns_or programmer self.now.owner self.now.readable }
+    {
+        programmer == self.owner || self.readable
+    }
+
     /// Whether a programmer owns the slot, or all may write it.
     #[inline(always)]
     pub fn is_written_by(&self, programmer: i32) -> bool

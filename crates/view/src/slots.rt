@@ -86,6 +86,18 @@ impl Slots {
         }
     }
 
+    /// The slot of a property, with the property's name in lower case. Case is ignored.
+    #[inline(always)]
+    pub fn entry(&self, name: &Text) -> Option<&(Text, Slot)>
+        ensures { MatchOption result (named self.now (fold_case name.now) ≡ None)
+            (λ e. (fold_case name.now ≡ e.now.0) × (named self.now (fold_case name.now) ≡ Some e.now.1)) }
+    {
+        match position(&self.entries, name) {
+            Some(index) => Some(&self.entries[index]),
+            None => None,
+        }
+    }
+
     /// Another slot for a property, or one more. After an `Err` they are as they were.
     #[tactic(auto, using(crate::proofs::Spots::put_sorted))]
     pub fn put(&mut self, alloc: Global, name: &Text, slot: Slot) -> Result<(), AllocError>
@@ -316,8 +328,9 @@ fn compare(text: &[u8], folded: &[u8]) -> Ordering
     }
 }
 
-// Whether a name in lower case is that of a property.
-fn spells(name: &Text, stored: &Text) -> bool
+/// Whether a name in lower case is that of a property.
+#[inline(always)]
+pub fn spells(name: &Text, stored: &Text) -> bool
     ensures { IsTrue result ↔ (fold_case name.now ≡ stored.now) }
 {
     is_folded(name.as_str().as_bytes(), stored.as_str().as_bytes())

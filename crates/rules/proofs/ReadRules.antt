@@ -1,7 +1,7 @@
 -- What a read of a property answers, from what was asked.
 use Rattle.std.proofs.Common.{◌≡◌, ℤ, Bool, true, false, ◌||◌, Option, Some, None, refl, sym, ap, ◌∙◌, if◌then◌else◌}
 use Rattle.spec_value.specs.Datum.{Datum, object, text, Text, ErrorCode, permission_denied}
-use Rattle.spec_value.specs.Answer.{raises}
+use Rattle.spec_value.specs.Answer.{gives, raises}
 use Rattle.spec_world.specs.World.{World, Object, Slot, object_at}
 use Rattle.spec_world.specs.Inherit.{slot_of, slot_at, property_value}
 use Rattle.spec_world.specs.Permissions as act
@@ -9,6 +9,9 @@ use Rattle.spec_world.specs.Permissions.{may, is_wizard, owns_or, on_slot}
 use Rattle.spec_moo.specs.Properties.{BuiltInProperty, built_in, found, read, read_slot, read_valid, read_object}
 use Rattle.rules.specs.BuiltIn.{built_in_at}
 use Rattle.rules.specs.Reading.{missing_error, read_named}
+use Rattle.spec_world.specs.Agreeing.{ObjectsAgree}
+use Rattle.view.specs.Writing.{IsReadBy}
+use Rattle.rules.proofs.Walks.{settled_value}
 
 -- ---- which property it is
 
@@ -63,3 +66,13 @@ refused_read w who o p s is barred = answered w who o p s false is barred
 pub allowed_read : (w : World) (who o : ℤ) (p : Text) (s : Slot) (v : Option Datum) → slot_at w o p ≡ Some s → (is_wizard w who || owns_or who s.owner s.readable) ≡ true → property_value w o p ≡ v
     → read_named w who o p (object_at w o) ≡ found v
 allowed_read w who o p s v is granted value = answered w who o p s true is granted ∙ ap found value
+
+-- a value that its owner reads, or anyone by its bit
+pub read_by : (w : World) (who o : ℤ) (p : Text) (v : Datum) → ObjectsAgree w → IsReadBy who o p v w → read_named w who o p (object_at w o) ≡ gives v
+read_by w who o p v agree r =
+    allowed_read w who o p r.slot (Some v) r.there (ap (λ b. is_wizard w who || b) r.allowed ∙ or_true (is_wizard w who))
+    (settled_value w o p (Some r.slot) (Some v) agree r.there (r.held, refl))
+  where
+    or_true : (b : Bool) → (b || true) ≡ true
+    or_true true = refl
+    or_true false = refl

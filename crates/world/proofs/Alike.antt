@@ -43,9 +43,6 @@ same_slot (Some x) (Some y) p is = cc
 pub slot_by_answer : (v w : World) (o : ℤ) (p : Text) → ask v (about_slot o p) ≡ ask w (about_slot o p) → slot_at v o p ≡ slot_at w o p
 slot_by_answer v w o p is = same_slot (object_at v o) (object_at w o) p is
 
-pub slot_alike : (v w : World) (o : ℤ) (p : Text) → AnswersAlike v w → slot_at v o p ≡ slot_at w o p
-slot_alike v w o p alike = slot_by_answer v w o p (alike (about_slot o p))
-
 same_parent : (h k : Option Header) → the_header h ≡ the_header k → option_map (λ x. x.parent) h ≡ option_map (λ x. x.parent) k
 same_parent h k is = cc
 
@@ -73,10 +70,6 @@ pub verbs_lightly : (cs : List Change) (w : World) (o : ℤ) → AllLight cs →
 verbs_lightly cs w o all = same_verbs (verbs_at (apply_all cs w) o) (verbs_at w o) (all_unseen cs w (about_verbs o) all refl)
 
 --- a slot with a value that it may have got later
-pub slot_unchanged : (s : Option Slot) → option_map (λ t. with_later t None) s ≡ s
-slot_unchanged None = refl
-slot_unchanged (Some s) = refl
-
 pub slot_later : (cs : List Change) (w : World) (o : ℤ) (p : Text) (later : Option Datum) → AllLight cs
     → ((v : World) (s : Slot) → slot_on v o p ≡ Some (Some s) → slot_on (apply_all cs v) o p ≡ Some (Some (with_later s later)))
     → slot_at (apply_all cs w) o p ≡ option_map (λ t. with_later t later) (slot_at w o p)

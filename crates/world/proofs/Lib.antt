@@ -21,5 +21,6 @@ pub mod PairsWalks
 pub mod LinksKept
 pub mod DueWalks
 pub mod Alike
+pub mod AtHand
 pub mod Written
 pub mod Marked

@@ -1,5 +1,5 @@
 -- What is asked after light changes.
-use Rattle.std.proofs.Common.{◌≡◌, ℕ, zero, suc, ◌+◌, ◌<◌, ◌≤◌, ℤ, Bool, true, false, ◌&&◌, List, [], ◌∷◌, ◌++◌, map, length, take, get_or, Option, Some, None, option_map, IsTrue, Result, Ok, Err, IfOk, refl, sym, subst, ◌∙◌, ap, add-one, arith}
+use Rattle.std.proofs.Common.{◌≡◌, ℤ, Bool, true, false, ◌&&◌, List, [], ◌∷◌, ◌++◌, Option, Some, None, option_map, IsTrue, Result, Ok, Err, IfOk, refl, sym, subst, ◌∙◌, ap}
 use Rattle.std.specs.Ordering.{nat_cmp, int_cmp, ordering_reverse}
 use Rattle.std.specs.Cmp.{int_cmp_total, Equal-is, IsTotalOrder}
 use Rattle.std.specs.Cmp.Lexicographic.{slice_cmp, nat_list_cmp_total}
@@ -8,9 +8,7 @@ use Rattle.std.specs.declared.cmp.Ordering.TheVariants.{Less, Equal, Greater}
 use Rattle.spec_value.specs.Datum.{Datum, Text, fold_case}
 use Rattle.spec_world.specs.World.{World, Slot}
 use Rattle.spec_world.specs.Questions.{Question, about_header, about_children, about_contents, about_defines, about_slot, about_verbs, about_task, about_waiting, about_link, about_readers, about_connections, about_connected, about_greatest, about_ending, Answer, the_slot, ask, slot_on, Change, new_part, new_value, new_object, new_task, new_link, new_greatest, new_ending, new_next, apply, apply_all}
-use Rattle.view.specs.Meanings.{answer_of, change_of}
-use Rattle.view.specs.declared.change.Change as shown
-use Rattle.view.specs.declared.change.Change.TheVariants.{Value}
+use Rattle.view.specs.Meanings.{answer_of}
 use Rattle.view.specs.declared.question.Answer as answered
 use Rattle.world.specs.Late.{is_light, AllLight, is_about_slot, slot_told}
 use Rattle.world.proofs.History.{next_unseen}
@@ -24,28 +22,6 @@ light_last (d ∷ cs) c all one = (all.0, light_last cs c all.1 one)
 
 pub light_pushed : (c : Change) (cs ds : List Change) → ds ≡ cs ++ c ∷ [] → AllLight cs → IsTrue (is_light c) → AllLight ds
 light_pushed c cs ds is all one = subst AllLight (sym is) (light_last cs c all one)
-
-pub light_at : (cs : List shown.Change) (i : ℕ) (c : shown.Change) → i < length cs → c ≡ get_or cs i c → AllLight (map change_of cs) → IsTrue (is_light (change_of c))
-light_at [] i c lt is all = absurd (omega arith)
-light_at (d ∷ cs) zero c lt is all = ap (λ (x : shown.Change). is_light (change_of x)) is ∙ all.0
-light_at (d ∷ cs) (suc i) c lt is all = light_at cs i c (omega arith) is all.1
-
-taken_suc : (cs : List shown.Change) (i : ℕ) (c : shown.Change) (w : World) → i < length cs → c ≡ get_or cs i c
-    → apply_all (map change_of (take (suc i) cs)) w ≡ apply (change_of c) (apply_all (map change_of (take i cs)) w)
-taken_suc [] i c w lt is = absurd (omega arith)
-taken_suc (d ∷ cs) zero c w lt is = ap (λ (x : shown.Change). apply (change_of x) w) (sym is)
-taken_suc (d ∷ cs) (suc i) c w lt is = taken_suc cs i c (apply (change_of d) w) (omega arith) is
-
--- the first ones, and the one behind them
-pub taken_more : (cs : List shown.Change) (i : ℕ) (c : shown.Change) (w : World) → i < length cs → c ≡ get_or cs i c
-    → apply_all (map change_of (take (i + 1) cs)) w ≡ apply (change_of c) (apply_all (map change_of (take i cs)) w)
-taken_more cs i c w lt is = ap (λ (n : ℕ). apply_all (map change_of (take n cs)) w) (add-one i) ∙ taken_suc cs i c w lt is
-
-pub all_taken : (cs : List shown.Change) (i : ℕ) (w : World) → length cs ≤ i → apply_all (map change_of (take i cs)) w ≡ apply_all (map change_of cs) w
-all_taken [] zero w le = refl
-all_taken [] (suc i) w le = refl
-all_taken (c ∷ cs) zero w le = absurd (omega arith)
-all_taken (c ∷ cs) (suc i) w le = all_taken cs i (apply (change_of c) w) (omega arith)
 
 -- ---- what is no slot
 
@@ -144,16 +120,6 @@ absent_stays (new_next n) w q r s light none is = is
 pub all_absent : (cs : List Change) (w : World) (q : ℤ) (r : Text) (s : Option (Option Slot)) → AllLight cs → slot_told (the_slot s) ≡ None → slot_on w q r ≡ s → slot_on (apply_all cs w) q r ≡ s
 all_absent [] w q r s all none is = is
 all_absent (c ∷ cs) w q r s all none is = all_absent cs (apply c w) q r s all.1 none (absent_stays c w q r s all.0 none is)
-
--- the slot that is asked for is filled by the change
-pub refilled_at : (c : shown.Change) (o q : ℤ) (p r : Text) (v : Datum) (w : World) (s : Slot) → c ≡ Value o p v → q ≡ o → fold_case r ≡ fold_case p → slot_on w q r ≡ Some (Some s)
-    → slot_on (apply (change_of c) w) q r ≡ Some (Some (filled s v))
-refilled_at c o q p r v w s this number name is = ap (λ (x : shown.Change). slot_on (apply (change_of x) w) q r) this ∙ slot_hit o q p r v w s number name is
-
--- or left
-pub left_at : (c : shown.Change) (o q : ℤ) (p r : Text) (v : Datum) (w : World) (s : Slot) → c ≡ Value o p v → ((q ≡ o) × (fold_case r ≡ fold_case p) → ⊥) → slot_on w q r ≡ Some (Some s)
-    → slot_on (apply (change_of c) w) q r ≡ Some (Some s)
-left_at c o q p r v w s this other is = ap (λ (x : shown.Change). slot_on (apply (change_of x) w) q r) this ∙ slot_missed o q p r v w s other is
 
 -- ---- answers of a world
 

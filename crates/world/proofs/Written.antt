@@ -1,10 +1,10 @@
 -- Slots that programmers write.
-use Rattle.std.proofs.Common.{◌≡◌, ◌∙◌, ℤ, true, List, [], ◌∷◌, ◌++◌, Some, sym, ap}
+use Rattle.std.proofs.Common.{◌≡◌, ◌∙◌, ℤ, true, Some, sym, ap}
 use Rattle.spec_value.specs.Datum.{Datum, Text}
 use Rattle.spec_world.specs.World.{Slot}
 use Rattle.spec_world.specs.Inherit.{slot_at}
 use Rattle.spec_world.specs.Permissions.{owns_or}
-use Rattle.spec_world.specs.Questions.{Change, apply_all, new_value}
+use Rattle.spec_world.specs.Questions.{apply_all, new_value}
 use Rattle.view.specs.Facets.{DoesLast}
 use Rattle.view.specs.Writing.{MayWrite, IsWrittenBy, GoesFurther}
 use Rattle.world.specs.Amended.{Amended, amended_now}

@@ -1,5 +1,6 @@
 pub mod Besides
 pub mod Late
+pub mod Near
 pub mod Listed
 pub mod Seen
 pub mod Sought

@@ -67,7 +67,7 @@ impl<'w> Alone<'w> {
         overlay.finish()
     }
 
-    // A slot gets another value for a programmer in the records with the changes, if they are there and nobody shares the object.
+    // A slot gets another value for a programmer where it lies, in a change or in the records with the changes, if it is at hand there.
     #[inline(always)]
     #[tactic(auto, using(crate::proofs::Written::further_written))]
     fn write_there(
@@ -103,6 +103,10 @@ impl<'w> Alone<'w> {
         if !allowed {
             return Ok(false);
         }
+        let done = self.overlay.write_at_hand(programmer, object, name, value)?;
+        if done {
+            return Ok(true);
+        }
         let name = name.clone()?;
         let value = value.clone()?;
         self.overlay.put(Change::Value(object, name, value))?;
@@ -126,6 +130,11 @@ impl<'w> View for Alone<'w> {
     #[inline(always)]
     fn slot(&mut self, object: i32, name: &Text) -> Result<Option<Slot>, AllocError> {
         self.overlay.slot(object, name)
+    }
+
+    #[inline(always)]
+    fn value_at_hand(&self, programmer: i32, object: i32, name: &Text) -> Option<&Value> {
+        self.overlay.value_at_hand(programmer, object, name)
     }
 
     #[inline(always)]

@@ -1,5 +1,6 @@
 //! A world between two changes.
-ghost use Rattle.std.specs.Prelude.{◌≡◌, ◌↔◌, ◌<◌, ℕ, ℤ, pos, negsuc, true, false, [], max, IfOk, OnOk, OnErr, IsTrue, is_some, map, option_map, IsFalse, MatchOption};
+ghost use Rattle.std.specs.Prelude.{◌≡◌, ◌↔◌, ◌<◌, ℕ, ℤ, pos, negsuc, true, false, [], max, IfOk, OnOk, OnErr, IsTrue, is_some, map, option_map, IsFalse, MatchOption, Some, None};
+ghost use Rattle.spec_value.specs.Datum.{fold_case};
 ghost use Rattle.spec_value.specs.Table.{at, with};
 ghost use Rattle.spec_world.specs.World.{object_at, with_object};
 ghost use Rattle.spec_world.specs.Inherit.{slot_at};
@@ -245,13 +246,14 @@ impl Draft {
         Some(self.object(number)?.slots().get(name))
     }
 
-    /// The slot of a property on an object, if there are both. Case is ignored.
+    /// The slot of a property on an object, if there are both, with the property's name in lower case. Case is ignored.
     #[inline(always)]
     #[tactic(auto, using(crate::proofs::Alike::slot_found, crate::proofs::Alike::slot_nowhere))]
-    pub(crate) fn slot_there(&self, number: i32, name: &Text) -> Option<&Slot>
-        ensures { option_map (λ s. s.now) result ≡ slot_at self.now number name.now }
+    pub(crate) fn entry(&self, number: i32, name: &Text) -> Option<&(Text, Slot)>
+        ensures { MatchOption result (slot_at self.now number name.now ≡ None)
+            (λ e. (fold_case name.now ≡ e.now.0) × (slot_on self.now number name.now ≡ Some (Some e.now.1))) }
     {
-        self.slot(number, name)?
+        self.object(number)?.slots().entry(name)
     }
 
     /// The slot of a property on an object, if there are both, of its own. Case is ignored.

@@ -8,6 +8,7 @@ ghost use Rattle.world.specs.Late.{is_light as is_light_change, AllLight, slot_t
 
 use crate::answers::copied;
 use crate::draft::Draft;
+use crate::near::{last_place, value_at};
 use moo_value::text::Text;
 use moo_value::value::Value;
 use slot_content::content::Content;
@@ -138,51 +139,13 @@ pub(crate) fn slot_with(home: &Slot, later: Option<&Value>) -> Result<Slot, Allo
 }
 
 /// The value that a slot gets last by light changes, if it gets one.
-#[inline(never)]
 pub(crate) fn value_after<'c>(object: i32, name: &Text, changes: &'c [Change]) -> Option<&'c Value>
     requires { AllLight (map change_of changes.now) }
     ensures { (w : Plain) (s : SlotOf) → slot_on w object name.now ≡ Some (Some s) → slot_on (apply_all (map change_of changes.now) w) object name.now ≡ Some (Some (with_later s (option_map (λ v. v.now) result))) }
 {
-    let mut last = None;
-    for change in changes {
-        let next = value_by(object, name, change);
-        last = later_of(last, next);
+    let place = last_place(object, name, changes);
+    match place {
+        Some(place) => value_at(changes, place),
+        None => None,
     }
-    last
-}
-
-// The value that a slot gets by one light change, if it gets one.
-#[inline(always)]
-fn value_by<'c>(object: i32, name: &Text, change: &'c Change) -> Option<&'c Value>
-    requires { IsTrue (is_light_change (change_of change.now)) }
-    ensures { (w : Plain) (s : SlotOf) → slot_on w object name.now ≡ Some (Some s) → slot_on (apply (change_of change.now) w) object name.now ≡ Some (Some (with_later s (option_map (λ v. v.now) result))) }
-{
-    match change {
-        Change::Value(other, other_name, value) => {
-            if *other == object && same_name(name, other_name) {
-                Some(value)
-            } else {
-                None
-            }
-        }
-        _ => None,
-    }
-}
-
-// What is left of two values that may come into a slot one after the other.
-#[inline(always)]
-fn later_of<'c>(first: Option<&'c Value>, second: Option<&'c Value>) -> Option<&'c Value>
-    ensures { (s : SlotOf) → with_later (with_later s (option_map (λ v. v.now) first.entry)) (option_map (λ v. v.now) second.entry) ≡ with_later s (option_map (λ v. v.now) result) }
-{
-    match second {
-        Some(value) => Some(value),
-        None => first,
-    }
-}
-
-// Whether two names are the same, the case of letters ignored.
-fn same_name(name: &Text, other: &Text) -> bool
-    ensures { IsTrue result ↔ fold_case name.now ≡ fold_case other.now }
-{
-    name.as_str().eq_ignore_ascii_case(other.as_str())
 }

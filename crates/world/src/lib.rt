@@ -22,6 +22,7 @@ mod links;
 pub mod live;
 pub mod marking;
 mod moments;
+mod near;
 mod noted;
 mod overlay;
 mod pairs;

@@ -1,19 +1,22 @@
 //! Changes over records that stay as they are.
-ghost use Rattle.std.specs.Prelude.{◌≡◌, [], true, false, None, option_map, IsTrue, IfOk, OnOk, OnErr};
+ghost use Rattle.std.specs.Prelude.{◌≡◌, ℤ, [], true, false, Some, None, map, option_map, IsTrue, IsFalse, IfOk, IfSome, MatchOption, OnOk, OnErr};
+ghost use Rattle.spec_value.specs.Datum.{Text as Characters, fold_case};
 ghost use Rattle.std.specs.Option.{unwrap_or};
 ghost use Rattle.spec_world.specs.World.{World as Plain};
 ghost use Rattle.spec_world.specs.Inherit.{slot_at};
 ghost use Rattle.spec_world.specs.Questions.{ask, apply, apply_all, header_at, verbs_at};
 ghost use Rattle.view.specs.Facets.{DoesLast};
 ghost use Rattle.view.specs.Meanings.{question_of, answer_of, change_of};
-ghost use Rattle.view.specs.Writing.{MayWrite, GoesFurther};
-ghost use Rattle.world.specs.Late.{is_light as is_light_change, AllLight, with_later};
+ghost use Rattle.view.specs.Writing.{MayWrite, GoesFurther, IsReadBy};
+ghost use Rattle.world.specs.Late.{is_light as is_light_change, AllLight};
+ghost use Rattle.world.specs.Near.{last_given, value_given, IsNear};
 ghost use Rattle.world.specs.Amended.{amended_now};
 ghost use Rattle.world.specs.Trace.{AnswersAlike};
 
 use crate::answers::copied;
 use crate::draft::Draft;
-use crate::late::{answer_after, asked_after, is_light, slot_with, value_after};
+use crate::late::{answer_after, asked_after, is_light, slot_with};
+use crate::near::{Near, last_place, lent, value_at};
 use moo_value::text::Text;
 use moo_value::value::Value;
 use std::alloc::{AllocError, Global};
@@ -25,7 +28,7 @@ use view::slot::Slot;
 use view::verb::Verbs;
 
 // So many changes are asked through, one after another, before records are made of them.
-const FEW: usize = 4;
+const FEW: usize = 16;
 
 /// Changes over the records of a world, its home, which stay as they are.
 pub(crate) struct Overlay<'h> {
@@ -35,6 +38,8 @@ pub(crate) struct Overlay<'h> {
     // Whether a question may see that there are changes.
     seen: bool,
     changes: Changes,
+    // A slot of the home that was asked for, where no records are made of the changes.
+    near: Option<Near<'h>>,
     alloc: Global,
 }
 
@@ -46,15 +51,17 @@ impl<'h> Drop for Overlay<'h> {
             fork: _fork,
             seen: _seen,
             changes: _changes,
+            near: _,
             alloc: _alloc,
         } = self;
     }
 }
 
 impl<'h> Model for Overlay<'h> {
-    ghost use Rattle.std.specs.Prelude.{◌≡◌, false, None};
+    ghost use Rattle.std.specs.Prelude.{◌≡◌, false, None, IfSome};
     ghost use Rattle.std.specs.Option.{unwrap_or};
     ghost use Rattle.world.specs.Late.{AllLight};
+    ghost use Rattle.world.specs.Near.{IsNear};
     ghost use Rattle.world.specs.Amended.{Amended, amended_code};
     ghost use Rattle.world.specs.Trace.{AnswersAlike};
     ghost use Rattle.spec_world.specs.Questions.{apply_all};
@@ -65,7 +72,7 @@ impl<'h> Model for Overlay<'h> {
 
     ghost view = { λ a. record { home = a.home.now; changes = a.changes } };
 
-    ghost invariant = { λ a. (unwrap_or a.fork (apply_all a.changes a.home.now) ≡ apply_all a.changes a.home.now) × (a.fork ≡ None → AllLight a.changes) × (a.seen ≡ false → AnswersAlike (apply_all a.changes a.home.now) a.home.now) };
+    ghost invariant = { λ a. (unwrap_or a.fork (apply_all a.changes a.home.now) ≡ apply_all a.changes a.home.now) × (a.fork ≡ None → AllLight a.changes) × (a.seen ≡ false → AnswersAlike (apply_all a.changes a.home.now) a.home.now) × IfSome a.near (λ n. (a.fork ≡ None) × IsNear a.home.now a.changes n.object n.name.now n.slot.now n.place) };
 }
 
 impl<'h> Overlay<'h> {
@@ -80,6 +87,7 @@ impl<'h> Overlay<'h> {
             fork: None,
             seen: false,
             changes,
+            near: None,
             alloc,
         }
     }
@@ -95,6 +103,7 @@ impl<'h> Overlay<'h> {
             fork,
             seen: _,
             changes,
+            near: _,
             alloc: _,
         } = self;
         (changes, fork)
@@ -122,35 +131,64 @@ impl<'h> Overlay<'h> {
         }
     }
 
-    /// The slot now of a property on an object, if there are both. Case is ignored.
+    /// The slot now of a property on an object, if there are both. Case is ignored. It is then at hand, unless records are made of the changes.
     #[inline(always)]
-    pub(crate) fn slot(&self, object: i32, name: &Text) -> Result<Option<Slot>, AllocError>
-        ensures { IfOk result (λ s. s ≡ slot_at (amended_now self.now) object name.now) }
+    pub(crate) fn slot(&mut self, object: i32, name: &Text) -> Result<Option<Slot>, AllocError>
+        ensures stays { self.new ≡ self.old }
+        ensures slot { IfOk result (λ s. s ≡ slot_at (amended_now self.old) object name.now) }
     {
-        let (records, later) = self.held(object, name);
-        let Some(slot) = records.slot_there(object, name) else {
+        if let Some(draft) = &self.fork {
+            return draft.own_slot(object, name);
+        }
+        self.near = self.nearest(object, name);
+        let Some(near) = &self.near else {
             return Ok(None);
         };
-        let slot = slot_with(slot, later)?;
+        let slot = slot_with(near.slot, value_later(near, self.changes.as_slice()))?;
         Ok(Some(slot))
     }
 
-    // Records, and the value that a slot has now in place of the one that it has there.
+    // The slot of a property on an object of the home, if there are both, as it comes to hand or is there.
     #[inline(always)]
-    #[tactic(auto, using(crate::proofs::Alike::slot_alike, crate::proofs::Alike::slot_unchanged, crate::proofs::Alike::slot_later))]
-    fn held(&self, object: i32, name: &Text) -> (&Draft, Option<&Value>)
-        ensures { slot_at (amended_now self.now) object name.now ≡ option_map (λ s. with_later s (option_map (λ v. v.now) result.1)) (slot_at result.0.now object name.now) }
+    fn nearest(&self, object: i32, name: &Text) -> Option<Near<'h>>
+        ensures { MatchOption result (slot_at self.now.home object name.now ≡ None)
+            (λ n. (n.object ≡ object) × (fold_case name.now ≡ n.name.now) × IsNear self.now.home self.now.changes n.object n.name.now n.slot.now n.place) }
     {
-        if let Some(draft) = &self.fork {
-            return (draft, None);
+        if let Some(near) = &self.near
+            && near.is_of(object, name)
+        {
+            return Some(*near);
         }
-        if !self.seen {
-            return (self.home, None);
+        near_of(self.home, object, name, self.changes.as_slice())
+    }
+
+    /// The value that a slot has now, if the slot is at hand and a programmer owns it or all may read it. Case is ignored.
+    #[inline(always)]
+    pub(crate) fn value_at_hand(&self, programmer: i32, object: i32, name: &Text) -> Option<&Value>
+        ensures { IfSome result (λ v. IsReadBy programmer object name.now v.now (amended_now self.now)) }
+    {
+        let near = self.near.as_ref()?;
+        let slot = near.slot;
+        if !near.is_of(object, name) || !slot.is_read_by(programmer) {
+            return None;
         }
-        (
-            self.home,
-            value_after(object, name, self.changes.as_slice()),
-        )
+        match near.place {
+            Some(place) => value_at(self.changes.as_slice(), place),
+            None => lent(&slot.content),
+        }
+    }
+
+    // Where the change stands that gave a slot its value, if the slot is at hand and a programmer owns it or all may write it.
+    #[inline(always)]
+    fn place_at_hand(&self, programmer: i32, object: i32, name: &Text) -> Option<usize>
+        ensures { IfSome result (λ n. MayWrite programmer object name.now (amended_now self.now)
+            × (last_given object (fold_case name.now) self.now.changes ≡ Some n)) }
+    {
+        let near = self.near.as_ref()?;
+        if !near.is_of(object, name) || !near.slot.is_written_by(programmer) {
+            return None;
+        }
+        near.place
     }
 
     /// The parent now that an object names, if there is the object.
@@ -200,10 +238,69 @@ impl<'h> Overlay<'h> {
         }
     }
 
-    /// A slot gets another value for a programmer in the records with the changes, if they are there; whether it does. Else nothing changes: it does not where there is
-    /// no such slot, nor where the programmer may not write it, nor where another world shares the object. After an `Err` nothing is known of the changes.
+    /// A slot gets another value for a programmer where it lies: in the change that gave it its value, if the slot is at hand, or in the records with the changes, if
+    /// they are there; whether it does. Else nothing changes: it does not where there is no such slot, nor where the programmer may not write it, nor where another world
+    /// shares the object. After an `Err` nothing is known of the changes.
     #[inline(always)]
     pub(crate) fn write(
+        &mut self,
+        programmer: i32,
+        object: i32,
+        name: &Text,
+        value: &Value,
+    ) -> Result<bool, AllocError>
+        ensures home { self.new.home ≡ self.old.home }
+        ensures done { IfOk result (λ b. b ≡ true → MayWrite programmer object name.now (amended_now self.old) × GoesFurther object name.now value.now self.old.changes self.new.changes) }
+        ensures left { IfOk result (λ b. b ≡ false → self.new ≡ self.old) }
+    {
+        let done = self.write_at_hand(programmer, object, name, value)?;
+        if done {
+            return Ok(true);
+        }
+        self.write_there(programmer, object, name, value)
+    }
+
+    /// The same in the change alone.
+    #[inline(always)]
+    pub(crate) fn write_at_hand(
+        &mut self,
+        programmer: i32,
+        object: i32,
+        name: &Text,
+        value: &Value,
+    ) -> Result<bool, AllocError>
+        ensures home { self.new.home ≡ self.old.home }
+        ensures done { IfOk result (λ b. b ≡ true → MayWrite programmer object name.now (amended_now self.old) × GoesFurther object name.now value.now self.old.changes self.new.changes) }
+        ensures left { IfOk result (λ b. b ≡ false → self.new ≡ self.old) }
+    {
+        let Some(place) = self.place_at_hand(programmer, object, name) else {
+            return Ok(false);
+        };
+        let value = value.clone()?;
+        let done = self.give_again(place, value);
+        Ok(done)
+    }
+
+    // A slot to which the change at a place gave its value gets another one by that change, unless records are made of the changes; whether it does.
+    #[inline(always)]
+    fn give_again(&mut self, place: usize, value: Value) -> bool
+        ensures home { self.new.home ≡ self.old.home }
+        ensures done { IsTrue result → (o : ℤ) (p : Characters) → last_given o (fold_case p) self.old.changes ≡ Some place → GoesFurther o p value self.old.changes self.new.changes }
+        ensures left { IsFalse result → self.new ≡ self.old }
+    {
+        if self.fork.is_some() {
+            return false;
+        }
+        let done = self.changes.set_value(place, value);
+        if done {
+            self.seen = true;
+        }
+        done
+    }
+
+    // The same as `write` in the records alone.
+    #[inline(never)]
+    fn write_there(
         &mut self,
         programmer: i32,
         object: i32,
@@ -237,6 +334,7 @@ impl<'h> Overlay<'h> {
         ensures changes { OnOk result (DoesLast (change_of change) self.old.changes self.new.changes) }
     {
         put_on(self.home, &mut self.fork, &self.changes, &change)?;
+        self.near = None;
         let seen = self.seen || is_seen(&change);
         let is_forked = self.fork.is_some();
         if add(&mut self.changes, change, is_forked).is_err() {
@@ -245,6 +343,33 @@ impl<'h> Overlay<'h> {
         }
         self.seen = seen;
         Ok(())
+    }
+}
+
+// The slot of a property on an object of a home, if there are both, and which of some changes gave it its value.
+#[inline(always)]
+fn near_of<'h>(home: &'h Draft, object: i32, name: &Text, changes: &[Change]) -> Option<Near<'h>>
+    ensures { MatchOption result (slot_at home.now object name.now ≡ None)
+        (λ n. (n.object ≡ object) × (fold_case name.now ≡ n.name.now) × IsNear home.now (map change_of changes.now) n.object n.name.now n.slot.now n.place) }
+{
+    let (stored, slot) = home.entry(object, name)?;
+    let place = last_place(object, name, changes);
+    Some(Near {
+        object,
+        name: stored,
+        slot,
+        place,
+    })
+}
+
+// The value that a slot at hand got by a change, if it got one.
+#[inline(always)]
+fn value_later<'c>(near: &Near<'_>, changes: &'c [Change]) -> Option<&'c Value>
+    ensures { option_map (λ v. v.now) result ≡ value_given (map change_of changes.now) near.now.place }
+{
+    match near.place {
+        Some(place) => value_at(changes, place),
+        None => None,
     }
 }
 

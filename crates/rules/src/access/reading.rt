@@ -1,11 +1,12 @@
 //! Properties read by programs.
-ghost use Rattle.std.specs.Prelude.{◌≡◌, IfOk, OnOk};
-ghost use Rattle.spec_world.specs.World.{object_at};
+ghost use Rattle.std.specs.Prelude.{◌≡◌, IfOk, IfSome, OnOk};
+ghost use Rattle.spec_world.specs.World.{World, object_at};
 ghost use Rattle.spec_moo.specs.Properties.{read, read_object, found as found_of};
 ghost use Rattle.moo_value.specs.Answers.{answer_of};
 ghost use Rattle.moo_value.specs.Errors.{code_of};
 ghost use Rattle.rules.specs.Lines.{AreAgreeing};
 ghost use Rattle.view.specs.Law.{Lasts, StaysSound, Tells};
+ghost use Rattle.view.specs.Writing.{IsReadBy};
 ghost use Rattle.rules.specs.Reading.{missing_error, read_named};
 
 use crate::access::built_in::{named, read_built_in};
@@ -63,12 +64,52 @@ pub fn read_by_name<V: View>(
     let property = named(name.as_str());
     match property {
         Some(property) => read_built_in(alloc, view, object, property),
+        None => read_plain(view, programmer, object, name),
+    }
+}
+
+// Of a property that is no built-in one. What the view has at hand is not asked for.
+#[inline(always)]
+fn read_plain<V: View>(
+    view: &mut V,
+    programmer: i32,
+    object: i32,
+    name: &Text,
+) -> Result<Answer, AllocError>
+    requires home { V.holds view.old (V.home view.old) }
+    requires well_formed { AreAgreeing V.holds V.now view.old }
+    ensures lasts { Lasts V.holds V.home V.anchor view.old view.new result }
+    ensures left { IfOk result (λ a. Tells V.holds V.now view.old view.new
+        (λ w. read_named w programmer object name.now (object_at w object) ≡ answer_of a)) }
+{
+    let value = at_hand(view, programmer, object, name)?;
+    match value {
+        Some(value) => Ok(Ok(value)),
         None => read_own(view, programmer, object, name),
     }
 }
 
-// Of a property that is no built-in one. A slot shows that its object is there.
+// The value of a property that the view has at hand, if the programmer owns it or all may read it.
 #[inline(always)]
+fn at_hand<V: View>(
+    view: &V,
+    programmer: i32,
+    object: i32,
+    name: &Text,
+) -> Result<Option<Value>, AllocError>
+    ensures { IfOk result (λ o. IfSome o (λ v. (w : World) → V.holds view.now w → IsReadBy programmer object name.now v (V.now view.now w))) }
+{
+    match view.value_at_hand(programmer, object, name) {
+        Some(value) => {
+            let value = value.clone()?;
+            Ok(Some(value))
+        }
+        None => Ok(None),
+    }
+}
+
+// The same by what is asked. A slot shows that its object is there.
+#[inline(never)]
 fn read_own<V: View>(
     view: &mut V,
     programmer: i32,

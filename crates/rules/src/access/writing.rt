@@ -70,9 +70,9 @@ pub fn write_simply<V: View>(
     }
 }
 
-// The same by an object's number and a text.
+/// The same by an object's number and a text.
 #[inline(always)]
-fn write_named<V: View>(
+pub fn write_named<V: View>(
     view: &mut V,
     programmer: i32,
     object: i32,
@@ -82,6 +82,7 @@ fn write_named<V: View>(
     requires { V.holds view.old (V.home view.old) }
     ensures lasts { Lasts V.holds V.home V.anchor view.old view.new result }
     ensures left { IfOk result (λ b. Goes V.holds V.now view.old view.new (IsSimplyWritten b programmer (object_of object) (text name.now) value.now)) }
+    ensures well_formed { AreAgreeing V.holds V.now view.old → OnOk result (AreAgreeing V.holds V.now view.new) }
 {
     let property = named(name.as_str());
     match property {

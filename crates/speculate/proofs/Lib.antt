@@ -15,3 +15,4 @@ pub mod Verbs
 pub mod Woven
 pub mod Tables
 pub mod Elsewhere
+pub mod Taken

@@ -12,7 +12,7 @@ use Rattle.view.specs.declared.change.Change.TheVariants.{Value}
 use Rattle.world.specs.Late.{is_about_slot}
 use Rattle.world.specs.Trace.{Trace, IsStart, world_now}
 use Rattle.world.proofs.History.{next_unseen, answered_now}
-use Rattle.world.proofs.Lightly.{all_unseen, taken_more, all_taken}
+use Rattle.world.proofs.Lightly.{all_unseen}
 use Rattle.speculate.specs.declared.held.Held.{Held}
 use Rattle.speculate.specs.declared.held.Held.TheVariants.{Empty, Loss, Holds}
 use Rattle.speculate.specs.declared.slots_read.SlotsRead.{SlotsRead}
@@ -23,6 +23,7 @@ use Rattle.speculate.specs.Known.{AreStamped, KnowsFresh}
 use Rattle.speculate.proofs.Elsewhere.{value_elsewhere}
 use Rattle.speculate.proofs.Places.{held_at}
 use Rattle.speculate.proofs.Plays.{play_none}
+use Rattle.speculate.proofs.Taken.{taken_more, all_taken}
 
 -- ---- stamps
 

@@ -1,7 +1,7 @@
 use Rattle.std.proofs.Common.{◌∙◌, refl, sym, ap, arith}
 use Rattle.spec_world.specs.Questions.{new_next, apply, apply_all}
 use Rattle.view.specs.Meanings.{change_of}
-use Rattle.world.proofs.Lightly.{taken_more, all_taken}
+use Rattle.speculate.proofs.Taken.{taken_more, all_taken}
 use Rattle.speculate.proofs.Strands.{own_more, own_all}
 use Rattle.speculate.proofs.Tables.{grows_still, grows_on}
 use Rattle.speculate.proofs.lane.note_changes.Goals as goal

@@ -1,7 +1,7 @@
 use Rattle.std.proofs.Common.{◌∙◌, refl, sym, ap, arith}
 use Rattle.spec_world.specs.Questions.{apply, apply_all}
 use Rattle.view.specs.Meanings.{change_of}
-use Rattle.world.proofs.Lightly.{taken_more, all_taken}
+use Rattle.speculate.proofs.Taken.{taken_more, all_taken}
 use Rattle.speculate.proofs.weaving.add_changes.Goals as goal
 
 pub loop-change-init : goal.loop-change-init

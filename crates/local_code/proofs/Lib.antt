@@ -17,6 +17,7 @@ pub mod Traces
 pub mod Tops
 pub mod Onward
 pub mod Appending
+pub mod Joining
 pub mod Items
 pub mod Arguments
 pub mod Numbers

@@ -9,6 +9,7 @@ pub mod Steps
 pub mod Stopping
 pub mod Onward
 pub mod Appending
+pub mod Joining
 pub mod Items
 pub mod Arguments
 pub mod Numbers

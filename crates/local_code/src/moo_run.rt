@@ -5,6 +5,7 @@ pub mod append;
 pub mod argument;
 pub mod asked;
 mod item;
+mod joining;
 mod numbers;
 pub mod onward;
 pub mod parts;

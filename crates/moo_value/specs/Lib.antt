@@ -7,3 +7,4 @@ pub mod Parts
 pub mod Read
 pub mod Shown
 pub mod View
+pub mod Appended

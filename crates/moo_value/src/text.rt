@@ -1,14 +1,15 @@
 //! Texts, the strings of the language.
-ghost use Rattle.std.specs.Prelude.{◌≡◌, ◌↔◌, ◌≤◌, ◌++◌, take, drop, IfOk, MatchOption, IsTrue, IsFalse, length, string_bytes};
+ghost use Rattle.std.specs.Prelude.{◌≡◌, ◌↔◌, ◌≤◌, ◌++◌, take, drop, is_ok, if◌then◌else◌, IfOk, MatchOption, IsTrue, IsFalse, length, string_bytes};
+ghost use Rattle.std.specs.Arc.{arc_value};
 ghost use Rattle.spec_value.specs.Datum.{is_text as is_text_of};
 
 use std::alloc::{AllocError, Global};
 use std::marker::Model;
-use std::sync::ArcStr;
+use std::sync::Arc;
 
 /// A text of printing ASCII, spaces and tabs, shared by its owners: a clone is a count.
 pub struct Text {
-    bytes: ArcStr,
+    bytes: Arc<String>,
 }
 
 // Written out, so that letting go of the characters is proved here and not in each crate that lets a text go.
@@ -19,16 +20,16 @@ impl Drop for Text {
 }
 
 impl Model for Text {
-    ghost use Rattle.std.specs.Prelude.{ℕ, List, IsTrue};
-    ghost use Rattle.std.specs.Arc.{arc_str_bytes};
+    ghost use Rattle.std.specs.Prelude.{ℕ, List, IsTrue, string_bytes};
+    ghost use Rattle.std.specs.Arc.{arc_value};
 
     ghost Value = { List ℕ };
 
     ghost use Rattle.spec_value.specs.Datum.{is_text};
 
-    ghost view = { λ a. arc_str_bytes a.bytes };
+    ghost view = { λ a. string_bytes (arc_value a.bytes) };
 
-    ghost invariant = { λ a. IsTrue (is_text (arc_str_bytes a.bytes)) };
+    ghost invariant = { λ a. IsTrue (is_text (string_bytes (arc_value a.bytes))) };
 }
 
 impl Text {
@@ -39,7 +40,7 @@ impl Text {
         if !is_allowed(text.as_bytes()) {
             return Ok(None);
         }
-        let bytes = ArcStr::from_string(text)?;
+        let bytes = shared(text)?;
         Ok(Some(Text { bytes }))
     }
 
@@ -48,7 +49,7 @@ impl Text {
         requires { IsTrue (is_text_of text.now) }
         ensures { IfOk result (λ t. t ≡ text.now) }
     {
-        let bytes = ArcStr::from_str(alloc, text)?;
+        let bytes = shared(String::from_str(alloc, text)?)?;
         Ok(Text { bytes })
     }
 
@@ -57,7 +58,7 @@ impl Text {
         requires { IsTrue (is_text_of (string_bytes text)) }
         ensures { IfOk result (λ t. t ≡ string_bytes text) }
     {
-        let bytes = ArcStr::from_string(text)?;
+        let bytes = shared(text)?;
         Ok(Text { bytes })
     }
 
@@ -73,6 +74,19 @@ impl Text {
         text.push_str(second)?;
         text.push_str(third)?;
         Text::from_string(text)
+    }
+
+    /// Puts characters that are known to be allowed at the end, in place where no other owner shares the text.
+    pub fn push_str(&mut self, more: &str) -> Result<(), AllocError>
+        requires { IsTrue (is_text_of more.now) }
+        ensures { self.new ≡ (if is_ok result then self.old ++ more.now else self.old) }
+    {
+        if let Some(own) = Arc::get_mut(&mut self.bytes) {
+            return push_on(own, more);
+        }
+        let alloc = *self.bytes.allocator();
+        *self = Text::joined(alloc, self.as_str(), more, "")?;
+        Ok(())
     }
 
     /// Whether it has no character.
@@ -102,6 +116,25 @@ impl Text {
     {
         self.bytes.len()
     }
+}
+
+// Allowed characters behind others.
+fn push_on(text: &mut String, more: &str) -> Result<(), AllocError>
+    requires text { IsTrue (is_text_of (string_bytes text.old)) }
+    requires more { IsTrue (is_text_of more.now) }
+    ensures bytes { string_bytes text.new ≡ (if is_ok result then string_bytes text.old ++ more.now else string_bytes text.old) }
+    ensures allowed { IsTrue (is_text_of (string_bytes text.new)) }
+{
+    text.push_str(more)
+}
+
+// Characters to be shared.
+fn shared(text: String) -> Result<Arc<String>, AllocError>
+    ensures { IfOk result (λ a. string_bytes (arc_value a) ≡ string_bytes text) }
+{
+    let alloc = *text.allocator();
+    let shared = Arc::new(alloc, text)?;
+    Ok(shared)
 }
 
 /// The first characters of a text whose characters are known to be allowed.

@@ -247,6 +247,7 @@ impl Value {
 }
 
 impl Value {
+    ghost use Rattle.moo_value.specs.Appended.{text_appended};
     ghost use Rattle.spec_value.specs.Places.{length_of_list, list_item, list_with, list_inserted, list_without, list_appended};
 
     /// Puts an item at the end of a list, in place where no other owner shares the list. Another kind of value stays.
@@ -265,6 +266,25 @@ impl Value {
             Node::Empty(alloc) => {
                 *self = Value::of_one(*alloc, item)?;
                 Ok(())
+            }
+            _ => Ok(()),
+        }
+    }
+
+    /// Puts the characters of a text behind those of this one, in place where no other owner shares it. Another kind of value stays.
+    #[inline(always)]
+    pub fn push_text(&mut self, more: &Value) -> Result<(), AllocError>
+        ensures { self.new ≡ (if is_ok result then text_appended self.old more.now else self.old) }
+    {
+        let Node::Text(more) = &more.node else {
+            return Ok(());
+        };
+        more.know();
+        match &mut self.node {
+            Node::Text(text) => {
+                let pushed = text.push_str(more.as_str());
+                text.know();
+                pushed
             }
             _ => Ok(()),
         }

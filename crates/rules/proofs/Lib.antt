@@ -1,6 +1,5 @@
 pub mod Places
 pub mod Changes
-pub mod Spelling
 pub mod VerbMatchStanding
 pub mod Walks
 pub mod Tellings
@@ -16,3 +15,4 @@ pub mod CallRules
 pub mod StaysSound
 pub mod WritesKeep
 pub mod Others
+pub mod Passing

@@ -1,5 +1,5 @@
 -- What the records of this crate mean.
-use Rattle.std.specs.Prelude.{◌≡◌, ◌<◌, ℕ, ◌+◌, List, length, get_or, Option, option_map}
+use Rattle.std.specs.Prelude.{ℕ, ◌+◌, Option, option_map}
 use Rattle.spec_world.specs.Prepositions as meant
 use Rattle.rules.specs.declared.verb_match.prepositions.Preposition.{Preposition}
 use Rattle.rules.specs.declared.verb_match.prepositions.Begun.{Begun}
@@ -13,9 +13,3 @@ begun_of b = record { size = b.size; set = b.set }
 -- behind so many words more
 abbrev pub moved : ℕ → Option meant.Preposition → Option meant.Preposition
 moved n p = option_map (λ (q : meant.Preposition). record q { start = q.start + n }) p
-
--- one name, without a star
-pub record IsPlain (names : List ℕ) : Type 0 where
-  pub some : 0 < length names
-  pub no_space : (j : ℕ) → j < length names → get_or names j 0 ≡ 32 → ⊥
-  pub no_star : (j : ℕ) → j < length names → get_or names j 0 ≡ 42 → ⊥

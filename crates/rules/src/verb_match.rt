@@ -1,4 +1,3 @@
 //! Which words name a verb, and which stand for a preposition. None of it takes memory.
-pub mod names;
 pub mod prepositions;
 pub mod words;

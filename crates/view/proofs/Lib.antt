@@ -12,3 +12,6 @@ pub mod SoundKeeps
 pub mod Wholes
 pub mod Written
 pub mod Again
+pub mod Spelling
+pub mod Reach
+pub mod Passed

@@ -2,6 +2,7 @@ pub mod Facets
 pub mod Keeping
 pub mod Law
 pub mod Meanings
+pub mod Naming
 pub mod Parts
 pub mod QuestionCode
 pub mod Shared

@@ -19,3 +19,5 @@ mod same;
 pub mod slot;
 pub mod slots;
 pub mod verb;
+pub mod verb_names;
+mod verb_reach;

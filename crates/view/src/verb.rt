@@ -1,6 +1,8 @@
 //! Verbs of objects.
-ghost use Rattle.std.specs.Prelude.{◌≡◌, IfOk};
+ghost use Rattle.std.specs.Prelude.{◌≡◌, ◌<◌, ◌≤◌, length, IfOk, MatchOption};
+ghost use Rattle.view.specs.Naming.{AreOthers, IsShelf};
 
+use crate::verb_reach::{first_bit, fronts_of, may_have, next_with, reaches_of, second_bit};
 use moo_compiler::program::Program;
 use moo_value::text::Text;
 use std::alloc::{AllocError, Global};
@@ -90,14 +92,26 @@ impl Clone for Verb {
 /// The verbs of an object in their order, shared by their owners: a clone is a count. None take no memory.
 #[derive(Drop)]
 pub struct Verbs {
-    items: Option<Arc<Vec<Verb>>>,
+    shelf: Option<Arc<Shelf>>,
+}
+
+/// Verbs, each with the bits of the words that it may be named by.
+#[derive(Drop)]
+pub struct Shelf {
+    /// The verbs.
+    pub verbs: Vec<Verb>,
+    /// Their bits.
+    pub reaches: Vec<u64>,
+    /// For each bit of a first character those of all verbs that have it, unless the verbs are few.
+    pub fronts: Vec<u64>,
 }
 
 impl Model for Verbs {
-    ghost use Rattle.std.specs.Prelude.{List, option_map};
+    ghost use Rattle.std.specs.Prelude.{List, option_map, IfSome};
     ghost use Rattle.std.specs.Coded.{coded_list};
     ghost use Rattle.std.specs.Arc.{arc_value};
-    ghost use Rattle.view.specs.Shared.{shared_items};
+    ghost use Rattle.view.specs.Shared.{shelved};
+    ghost use Rattle.view.specs.Naming.{IsShelf};
     ghost use Rattle.spec_world.specs.World.{Verb as Meant};
     ghost use Rattle.spec_world.specs.WorldCode.{verb_code};
 
@@ -105,7 +119,9 @@ impl Model for Verbs {
 
     ghost coded = { coded_list verb_code };
 
-    ghost view = { λ a. shared_items (option_map arc_value a.items) };
+    ghost view = { λ a. shelved (option_map arc_value a.shelf) };
+
+    ghost invariant = { λ a. IfSome (option_map arc_value a.shelf) IsShelf };
 }
 
 impl Verbs {
@@ -114,32 +130,65 @@ impl Verbs {
         ensures { IfOk result (λ vs. vs ≡ verbs.items) }
     {
         if verbs.is_empty() {
-            return Ok(Verbs { items: None });
+            return Ok(Verbs { shelf: None });
         }
-        Ok(Verbs {
-            items: Some(Arc::new(alloc, verbs)?),
-        })
+        let reaches = reaches_of(alloc, &verbs)?;
+        let fronts = fronts_of(alloc, &reaches)?;
+        let shelf = Arc::new(
+            alloc,
+            Shelf {
+                verbs,
+                reaches,
+                fronts,
+            },
+        )?;
+        Ok(Verbs { shelf: Some(shelf) })
     }
 
     /// The verbs, in their order.
     pub fn as_slice(&self) -> &[Verb]
         ensures { result.now ≡ self.now }
     {
-        match &self.items {
-            Some(items) => items.as_slice(),
+        match &self.shelf {
+            Some(shelf) => shelf.verbs.as_slice(),
             None => &[],
         }
     }
+
+    /// The first place, from one on, at which a verb stands that a word may name: those before it are not named by it.
+    #[inline(always)]
+    pub fn next_named(&self, from: usize, word: &[u8]) -> Option<usize>
+        ensures { MatchOption result (AreOthers word.now self.now from (length self.now))
+            (λ n. (from ≤ n) × (n < length self.now) × AreOthers word.now self.now from n) }
+    {
+        let shelf = self.shelf.as_ref()?;
+        next_on(shelf, from, word)
+    }
+}
+
+// The same of verbs that are kept.
+#[inline(always)]
+fn next_on(shelf: &Shelf, from: usize, word: &[u8]) -> Option<usize>
+    requires { IsShelf shelf.now }
+    ensures { MatchOption result (AreOthers word.now shelf.now.verbs.items from (length shelf.now.verbs.items))
+        (λ n. (from ≤ n) × (n < length shelf.now.verbs.items) × AreOthers word.now shelf.now.verbs.items from n) }
+{
+    let first = first_bit(word);
+    let second = second_bit(word);
+    if !may_have(&shelf.fronts, first, second) {
+        return None;
+    }
+    next_with(&shelf.reaches, from, first, second)
 }
 
 impl Clone for Verbs {
     ghost is_clone = { λ verbs copy. copy ≡ verbs };
 
     fn clone(&self) -> Result<Verbs, AllocError> {
-        let items = match &self.items {
-            Some(items) => Some(items.clone()?),
+        let shelf = match &self.shelf {
+            Some(shelf) => Some(shelf.clone()?),
             None => None,
         };
-        Ok(Verbs { items })
+        Ok(Verbs { shelf })
     }
 }

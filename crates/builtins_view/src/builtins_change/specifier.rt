@@ -6,7 +6,7 @@ ghost use Rattle.view.specs.Parts.{object_part_of, preposition_part_of};
 ghost use Rattle.builtins_view.specs.Specifiers.{specifier_of, has_member as has_member_of, first_with as first_with_of};
 
 use moo_value::text::Text;
-use rules::verb_match::names::is_same;
+use view::verb_names::is_same;
 use view::verb::{ObjectPart, PrepositionPart};
 
 /// A direct object, a preposition and an indirect object, as texts.

@@ -20,7 +20,7 @@ use rules::family::below::below;
 use rules::family::losing::lose_slots;
 use rules::permissions::act::Act;
 use rules::permissions::may::may;
-use rules::verb_match::names::is_same;
+use view::verb_names::is_same;
 use std::alloc::{AllocError, Global};
 use view::law::View;
 use view::lists::Names;

@@ -5,7 +5,7 @@ ghost use Rattle.spec_moo.specs.Natives.Verbs.{verb_place, place_of_word as plac
 
 use moo_arith::index::natural;
 use moo_value::value::{Shown, Value};
-use rules::verb_match::names::matches;
+use view::verb_names::matches;
 use view::verb::Verb;
 
 #[tactic(auto, using(rules::proofs::Places::stands_there, crate::proofs::Places::placed_there, crate::proofs::Places::placed_nowhere))]

@@ -22,7 +22,7 @@ use moo_value::text::Text;
 use moo_value::value::Value;
 use rules::permissions::act::Act;
 use rules::permissions::may::may;
-use rules::verb_match::names::is_same;
+use view::verb_names::is_same;
 use slot_content::content::Content;
 use std::alloc::{AllocError, Global};
 use view::law::View;

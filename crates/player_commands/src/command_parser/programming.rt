@@ -17,7 +17,7 @@ use crate::object_match::naming::name_object;
 use moo_value::text::Text;
 use rules::permissions::act::Act;
 use rules::permissions::may::may;
-use rules::verb_match::names::matches;
+use view::verb_names::matches;
 use std::alloc::{AllocError, Global};
 use view::law::View;
 use view::readers::read_verbs;

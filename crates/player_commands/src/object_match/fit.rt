@@ -5,7 +5,7 @@ ghost use Rattle.spec_world.specs.Naming.{aliases_in, texts_in};
 ghost use Rattle.player_commands.specs.Fits.{fit_of, either_fit, some_fit, text_in};
 
 use moo_value::value::{Shown, Value};
-use rules::verb_match::names::{begins_with, is_same};
+use view::verb_names::{begins_with, is_same};
 
 /// Whether a text is a name, and whether it begins one. Case is ignored.
 #[derive(Clone, Copy)]

@@ -9,7 +9,7 @@ use crate::object_match::place::location;
 use crate::object_match::reach::with_contents;
 use crate::object_match::tally::NO_MATCHES;
 use moo_value::text::Text;
-use rules::verb_match::names::is_same;
+use view::verb_names::is_same;
 use std::alloc::{AllocError, Global};
 use view::law::View;
 use view::readers::read_header;

@@ -9,12 +9,12 @@ ghost use Rattle.rules.specs.Lines.{AreAgreeing};
 ghost use Rattle.rules.specs.Sought.{parts_of, passes as passes_of, first_among as first_among_of, placed};
 
 use crate::inherit::line::parent;
-use crate::verb_match::names::matches;
 use std::alloc::AllocError;
 use std::marker::Model;
 use view::law::View;
 use view::readers::read_verbs;
 use view::verb::{ObjectPart, PrepositionPart, Verb, Verbs};
+use view::verb_names::matches;
 
 /// A verb that was found, with the object that it stands on. It is shared with its owner, not copied.
 #[derive(Drop)]
@@ -146,7 +146,7 @@ fn first_among(
     ensures { result ≡ first_among_of definer (passes_of purpose.now word.now) verbs }
 {
     let verbs = verbs?;
-    let place = first_place(verbs.as_slice(), word, purpose)?;
+    let place = first_place(&verbs, word, purpose)?;
     Some(FoundVerb {
         definer,
         verbs,
@@ -155,14 +155,18 @@ fn first_among(
 }
 
 // Where the first of several verbs stands that serves a purpose.
-fn first_place(verbs: &[Verb], word: &str, purpose: &Purpose) -> Option<usize>
+#[inline(always)]
+#[tactic(auto, using(crate::proofs::Passing::passed_at))]
+fn first_place(verbs: &Verbs, word: &str, purpose: &Purpose) -> Option<usize>
     ensures inside { IfSome result (λ i. i < length verbs.now) }
     ensures found { (o : ℤ) → first_passing o (passes_of purpose.now word.now) verbs.now ≡ option_map (λ i. record { definer = o; verb = placed verbs.now i }) result }
 {
-    for (place, verb) in verbs.iter().enumerate() {
-        if passes(verb, word, purpose) {
+    let mut from = 0;
+    while let Some(place) = verbs.next_named(from, word.as_bytes()) {
+        if passes(&verbs.as_slice()[place], word, purpose) {
             return Some(place);
         }
+        from = place + 1;
     }
     None
 }

@@ -2,8 +2,8 @@ use Rattle.std.proofs.Common.{length, true, rules, ap, sym, ◌∙◌, arith}
 use Rattle.std.proofs.lemmas.List.{take_rest}
 use Rattle.spec_value.specs.Datum.{fold_case}
 use Rattle.spec_value.specs.TextSearch.{begins}
-use Rattle.rules.proofs.Spelling.{same_front}
-use Rattle.rules.proofs.verb_match.names.is_between.Goals as goal
+use Rattle.view.proofs.Spelling.{same_front}
+use Rattle.view.proofs.verb_names.is_between.Goals as goal
 
 pub returns : goal.returns
 returns c =

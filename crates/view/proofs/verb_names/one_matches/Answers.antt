@@ -1,7 +1,7 @@
 use Rattle.std.proofs.Common.{sym, ◌∙◌, arith}
-use Rattle.rules.proofs.Spelling.{name_found, no_name, other_name, none_behind}
-use Rattle.rules.proofs.verb_match.names.one_matches.Goals as goal
-use Rattle.rules.proofs.verb_match.names.one_matches.Goals.{else-size-gt0-via-then-size-gt0+else-spells, else-size-gt0-via-else-size-gt0}
+use Rattle.view.proofs.Spelling.{name_found, no_name, other_name, none_behind}
+use Rattle.view.proofs.verb_names.one_matches.Goals as goal
+use Rattle.view.proofs.verb_names.one_matches.Goals.{else-size-gt0-via-then-size-gt0+else-spells, else-size-gt0-via-else-size-gt0}
 
 pub returns-then-spells : goal.returns-then-spells
 returns-then-spells c =

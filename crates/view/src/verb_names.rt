@@ -3,7 +3,7 @@ ghost use Rattle.std.specs.Prelude.{◌≡◌, ◌↔◌, ◌<◌, ◌≤◌, �
 ghost use Rattle.std.specs.Char.{to_ascii_lowercase};
 ghost use Rattle.spec_value.specs.Datum.{fold_case, same_text};
 ghost use Rattle.spec_value.specs.TextSearch.{begins};
-ghost use Rattle.rules.specs.VerbMatchMeant.{IsPlain};
+ghost use Rattle.view.specs.Naming.{IsPlain};
 ghost use Rattle.spec_world.specs.VerbNames.{any_spells, spells as spells_of, spelled, before_star, after_star, cut_at_spaces, names_in};
 
 /// Whether one of a verb's names, cut at spaces, spells a word. A name without a star spells itself, `a*` each word that `a`
@@ -58,7 +58,7 @@ fn is_plain(names: &[u8]) -> bool
 }
 
 // How many characters stand before the first space.
-fn name_size(names: &[u8]) -> usize
+pub(crate) fn name_size(names: &[u8]) -> usize
     ensures within { result ≤ length names.now }
     ensures cut { cut_at_spaces names.now ≡ (take result names.now, names_in (drop (result + 1) names.now)) }
 {

@@ -2,8 +2,8 @@ use Rattle.std.proofs.Common.{Some, take, drop, ◌+◌, ap, ◌∙◌}
 use Rattle.std.proofs.lemmas.List.{take_rest}
 use Rattle.spec_value.specs.Datum.{fold_case}
 use Rattle.spec_world.specs.VerbNames.{spelled}
-use Rattle.rules.proofs.Spelling.{spells_by_parts}
-use Rattle.rules.proofs.verb_match.names.spells.Goals as goal
+use Rattle.view.proofs.Spelling.{spells_by_parts}
+use Rattle.view.proofs.verb_names.spells.Goals as goal
 
 pub returns-in-Some : goal.returns-in-Some
 returns-in-Some c =

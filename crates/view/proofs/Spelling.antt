@@ -10,7 +10,7 @@ use Rattle.std.proofs.lemmas.List.{length-map, take_rest, drop-drop, take-map, d
 use Rattle.std.proofs.Math.Seq.{drop-nil, take-length}
 use Rattle.spec_value.specs.Datum.{Text, fold_case, same_text}
 use Rattle.spec_value.specs.TextSearch.{begins}
-use Rattle.rules.specs.VerbMatchMeant.{IsPlain}
+use Rattle.view.specs.Naming.{IsPlain}
 use Rattle.spec_world.specs.VerbNames.{before_star, after_star, spelled, spells, unless_empty, cut_at_spaces, names_in}
 
 -- ---- names cut at spaces
@@ -76,7 +76,7 @@ none_behind word s from h = ap (λ r. list_any (λ n. spells n word) (unless_emp
 
 -- ---- stars
 
-star_stays : (c : ℕ) → (c ≡ 42 → ⊥) → to_ascii_lowercase c ≡ 42 → ⊥
+pub star_stays : (c : ℕ) → (c ≡ 42 → ⊥) → to_ascii_lowercase c ≡ 42 → ⊥
 star_stays c other e =
     let known = lowercase_is c in
     let upper : 65 ≤ c → c ≤ 90 → ⊥ = λ low high. let is = known.0 (low, high) in omega arith in

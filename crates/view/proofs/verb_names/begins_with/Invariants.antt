@@ -1,7 +1,7 @@
 use Rattle.std.proofs.Common.{◌≡◌, drop, true}
 use Rattle.spec_value.specs.Datum.{fold_case}
 use Rattle.spec_value.specs.TextSearch.{begins}
-use Rattle.rules.proofs.verb_match.names.begins_with.Given as goal
+use Rattle.view.proofs.verb_names.begins_with.Given as goal
 
 abbrev pub invariant-loop-index : goal.invariant-loop-index
 invariant-loop-index l =

@@ -1,6 +1,6 @@
 use Rattle.std.proofs.Common.{length, add-one, arith}
-use Rattle.rules.proofs.Spelling.{cut_here}
-use Rattle.rules.proofs.verb_match.names.name_size.Goals as goal
+use Rattle.view.proofs.Spelling.{cut_here}
+use Rattle.view.proofs.verb_names.name_size.Goals as goal
 
 pub returns-then-byte-eq32-clause-cut : goal.returns-then-byte-eq32-clause-cut
 returns-then-byte-eq32-clause-cut c =

@@ -1,6 +1,6 @@
 use Rattle.std.proofs.Common.{add-one, arith}
-use Rattle.rules.proofs.Spelling.{star_here, no_star}
-use Rattle.rules.proofs.verb_match.names.star.Goals as goal
+use Rattle.view.proofs.Spelling.{star_here, no_star}
+use Rattle.view.proofs.verb_names.star.Goals as goal
 
 pub returns-then-byte-eq42 : goal.returns-then-byte-eq42
 returns-then-byte-eq42 c =

@@ -16,3 +16,4 @@ pub mod StaysSound
 pub mod WritesKeep
 pub mod Others
 pub mod Passing
+pub mod Lent

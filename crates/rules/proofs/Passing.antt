@@ -1,12 +1,12 @@
 -- Verbs that are passed over.
-use Rattle.std.proofs.Common.{◌≡◌, ℕ, zero, suc, ◌+◌, ℤ, ◌<◌, ◌≤◌, Bool, true, false, List, [], ◌∷◌, length, drop, Option, None, Some, refl, sym, ap, ◌∙◌, arith, if◌then◌else◌}
+use Rattle.std.proofs.Common.{◌≡◌, ℕ, zero, suc, ◌+◌, ℤ, ◌<◌, ◌≤◌, true, false, List, [], ◌∷◌, length, drop, None, Some, refl, sym, ap, ◌∙◌, arith, if◌then◌else◌}
 use Rattle.std.specs.Prelude.{slice_index_or}
 use Rattle.std.proofs.lemmas.Bool.{and_left, and_right}
 use Rattle.std.proofs.lemmas.List.{drop_all}
 use Rattle.spec_value.specs.Datum.{Text}
 use Rattle.spec_world.specs.World.{Verb}
 use Rattle.spec_world.specs.VerbNames.{any_spells}
-use Rattle.spec_world.specs.VerbsSought.{Sought, first_passing}
+use Rattle.spec_world.specs.VerbsSought.{first_passing}
 use Rattle.view.specs.Naming.{AreOthers}
 use Rattle.rules.specs.Sought.{passes, placed}
 use Rattle.rules.specs.declared.inherit.verb.Purpose.{Purpose}
@@ -16,6 +16,12 @@ use Rattle.rules.specs.declared.inherit.verb.Purpose.TheVariants.{Call, Command}
 not_passing : (p : Purpose) (word : Text) (v : Verb) → any_spells v.names word ≡ false → passes p word v ≡ false
 not_passing Call word v h = and_right v.callable (any_spells v.names word) h
 not_passing (Command searched n) word v h = and_left (any_spells v.names word) _ h
+
+-- a verb by its place
+pub there : (vs : List Verb) (place : ℕ) (v : Verb) → place < length vs → v ≡ slice_index_or vs place v → placed vs place ≡ v
+there [] place v h is = absurd (omega arith)
+there (u ∷ vs) zero v h is = sym is
+there (u ∷ vs) (suc place) v h is = there vs place v (omega arith) is
 
 module _ (o : ℤ) (p : Purpose) (word : Text) where
   pub skipped : (vs : List Verb) (from to : ℕ) → from ≤ to → to ≤ length vs → AreOthers word vs from to → first_passing o (passes p word) (drop from vs) ≡ first_passing o (passes p word) (drop to vs)
@@ -39,11 +45,6 @@ module _ (o : ℤ) (p : Purpose) (word : Text) where
       skipped vs from place h (omega arith) others
       ∙ passed vs place k
       ∙ ap (λ b. if b then Some (record { definer = o; verb = placed vs place }) else first_passing o (passes p word) (drop (suc place) vs)) e
-
-  there : (vs : List Verb) (place : ℕ) (v : Verb) → place < length vs → v ≡ slice_index_or vs place v → placed vs place ≡ v
-  there [] place v h is = absurd (omega arith)
-  there (u ∷ vs) zero v h is = sym is
-  there (u ∷ vs) (suc place) v h is = there vs place v (omega arith) is
 
   -- one that does not
   pub passed_by : (vs : List Verb) (from place : ℕ) (v : Verb) → from ≤ place → place < length vs → AreOthers word vs from place → v ≡ slice_index_or vs place v → passes p word v ≡ false

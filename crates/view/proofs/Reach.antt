@@ -1,6 +1,5 @@
 -- Which bits the words have that a name spells.
-use Rattle.std.proofs.Common.{◌≡◌, ℕ, zero, suc, ◌+◌, ◌^◌, ◌%◌, ◌<◌, ◌≤◌, max, Bool, true, false, ◌&&◌, List, [], ◌∷◌, ◌++◌, length, get_or, Option, Some, None, refl, sym, ap, ◌∙◌, arith, if◌then◌else◌, inl, inr}
-use Rattle.std.specs.Prelude.{◌==◌}
+use Rattle.std.proofs.Common.{◌≡◌, ℕ, zero, suc, ◌+◌, ◌^◌, ◌%◌, ◌<◌, ◌≤◌, max, true, false, [], ◌∷◌, ◌++◌, length, get_or, Option, Some, None, refl, sym, ap, ◌∙◌, arith, if◌then◌else◌, inl, inr}
 use Rattle.std.specs.Int.{bit_at}
 use Rattle.std.specs.Int.Bits.{bit_or}
 use Rattle.std.specs.Char.{to_ascii_lowercase}
@@ -11,7 +10,7 @@ use Rattle.std.proofs.lemmas.Nat.{mod_below}
 use Rattle.spec_value.specs.Datum.{Text, fold_case}
 use Rattle.spec_value.specs.TextSearch.{begins}
 use Rattle.spec_world.specs.VerbNames.{before_star, after_star, spelled, spells}
-use Rattle.view.specs.Naming.{first_bit, second_bit, has_both, begins_in, ReachesName}
+use Rattle.view.specs.Naming.{first_bit, second_bit, has_both, ReachesName}
 use Rattle.view.proofs.Spelling.{star_stays}
 
 -- ---- bits of sets

@@ -1,5 +1,6 @@
 pub mod Facets
 pub mod Keeping
+pub mod Kin
 pub mod Law
 pub mod Meanings
 pub mod Naming

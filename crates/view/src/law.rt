@@ -5,6 +5,7 @@ ghost use Rattle.spec_world.specs.Inherit.{slot_at};
 ghost use Rattle.spec_world.specs.Questions.{ask, apply, header_at, verbs_at, about_header, about_slot, about_verbs};
 ghost use Rattle.view.specs.Meanings.{question_of, answer_of, change_of};
 ghost use Rattle.view.specs.Law.{Goes, Keeps, Lasts, Tells};
+ghost use Rattle.view.specs.Kin.{IsKin};
 ghost use Rattle.view.specs.Writing.{IsReadBy, IsWrittenBy};
 
 use crate::change::Change;
@@ -104,6 +105,14 @@ pub trait View {
             Answer::Verbs(verbs) => Ok(verbs),
             _ => unreachable!(),
         }
+    }
+
+    /// The parent that an object names, and its own verbs, lent, if there is the object and the view has both at hand. It takes no question.
+    #[inline(always)]
+    fn kin_at_hand(&self, _object: i32) -> Option<(i32, &Verbs)>
+        ensures { IfSome result (λ k. (w : World) → holds self.now w → IsKin (now self.now w) _object k.0 k.1.now) }
+    {
+        None
     }
 
     /// A property's slot on an object gets another value for a programmer, if there is the slot and the programmer owns it or all may write it; whether it

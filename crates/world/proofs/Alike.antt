@@ -6,6 +6,7 @@ use Rattle.spec_value.specs.Table.{named}
 use Rattle.spec_world.specs.World.{World, Object, Header, Slot, Verb, object_at}
 use Rattle.spec_world.specs.Inherit.{slot_of, slot_at}
 use Rattle.spec_world.specs.Questions.{ask, header_at, verbs_at, slot_on, the_header, the_slot, the_verbs, about_header, about_slot, about_verbs, Change, apply_all}
+use Rattle.view.specs.Kin.{IsKin}
 use Rattle.view.proofs.SlotsTold.{slot_told, no_object_told}
 use Rattle.world.specs.Late.{AllLight, with_later}
 use Rattle.world.specs.Trace.{AnswersAlike}
@@ -85,3 +86,7 @@ slot_later cs w o p later all becomes = go (slot_on w o p) refl
     go (Some (Some s)) is =
         slot_found (apply_all cs w) o p (Some (with_later s later)) (becomes w s is)
         ∙ ap (option_map (λ t. with_later t later)) (sym (slot_found w o p (Some s) is))
+
+--- no light change gives an object another parent or other verbs
+pub kin_lightly : (cs : List Change) (w : World) (o parent : ℤ) (vs : List Verb) → AllLight cs → IsKin w o parent vs → IsKin (apply_all cs w) o parent vs
+kin_lightly cs w o parent vs all kin = record { above = parent_lightly cs w o all ∙ kin.above; own = verbs_lightly cs w o all ∙ kin.own }

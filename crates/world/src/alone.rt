@@ -138,6 +138,11 @@ impl<'w> View for Alone<'w> {
     }
 
     #[inline(always)]
+    fn kin_at_hand(&self, object: i32) -> Option<(i32, &Verbs)> {
+        self.overlay.kin(object)
+    }
+
+    #[inline(always)]
     fn write(
         &mut self,
         programmer: i32,

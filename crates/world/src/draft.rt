@@ -1,11 +1,12 @@
 //! A world between two changes.
-ghost use Rattle.std.specs.Prelude.{◌≡◌, ◌↔◌, ◌<◌, ℕ, ℤ, pos, negsuc, true, false, [], max, IfOk, OnOk, OnErr, IsTrue, is_some, map, option_map, IsFalse, MatchOption, Some, None};
+ghost use Rattle.std.specs.Prelude.{◌≡◌, ◌↔◌, ◌<◌, ℕ, ℤ, pos, negsuc, true, false, [], max, IfOk, OnOk, OnErr, IsTrue, is_some, map, option_map, IsFalse, IfSome, MatchOption, Some, None};
 ghost use Rattle.spec_value.specs.Datum.{fold_case};
 ghost use Rattle.spec_value.specs.Table.{at, with};
 ghost use Rattle.spec_world.specs.World.{object_at, with_object};
 ghost use Rattle.spec_world.specs.Inherit.{slot_at};
 ghost use Rattle.spec_world.specs.Listings.{waiting_ids, readers_on, connections_of, connected};
 ghost use Rattle.spec_world.specs.Questions.{header_at, children_at, contents_at, defines_at, slot_on, verbs_at, the_waiting, the_readers, the_connections, the_connected, ask, Agrees, apply, apply_all, new_part, new_value, new_next};
+ghost use Rattle.view.specs.Kin.{IsKin};
 ghost use Rattle.view.specs.Meanings.{question_of, answer_of, part_of, change_of};
 ghost use Rattle.world.specs.Besides.{is_about_verbs, AgreesBesides};
 ghost use Rattle.world.specs.Listed.{is_listed};
@@ -283,6 +284,15 @@ impl Draft {
         ensures { option_map (λ v. v.now) result ≡ verbs_at self.now number }
     {
         Some(self.object(number)?.verbs())
+    }
+
+    /// The parent that an object names, and its own verbs, if there is the object.
+    #[inline(always)]
+    pub(crate) fn kin(&self, number: i32) -> Option<(i32, &Verbs)>
+        ensures { IfSome result (λ k. IsKin self.now number k.0 k.1.now) }
+    {
+        let object = self.object(number)?;
+        Some((object.header().parent, object.verbs()))
     }
 
     /// What a link is.

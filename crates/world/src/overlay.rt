@@ -6,6 +6,7 @@ ghost use Rattle.spec_world.specs.World.{World as Plain};
 ghost use Rattle.spec_world.specs.Inherit.{slot_at};
 ghost use Rattle.spec_world.specs.Questions.{ask, apply, apply_all, header_at, verbs_at};
 ghost use Rattle.view.specs.Facets.{DoesLast};
+ghost use Rattle.view.specs.Kin.{IsKin};
 ghost use Rattle.view.specs.Meanings.{question_of, answer_of, change_of};
 ghost use Rattle.view.specs.Writing.{MayWrite, GoesFurther, IsReadBy};
 ghost use Rattle.world.specs.Late.{is_light as is_light_change, AllLight};
@@ -220,6 +221,22 @@ impl<'h> Overlay<'h> {
             Some(draft) => draft.verbs(object),
             // No light change gives an object other verbs.
             None => self.home.verbs(object),
+        }
+    }
+
+    /// The parent now that an object names, and its own verbs, if there is the object.
+    #[inline(always)]
+    #[tactic(auto, using(crate::proofs::Alike::kin_lightly))]
+    pub(crate) fn kin(&self, object: i32) -> Option<(i32, &Verbs)>
+        ensures { IfSome result (λ k. IsKin (amended_now self.now) object k.0 k.1.now) }
+    {
+        match &self.fork {
+            Some(draft) => draft.kin(object),
+            // No light change gives an object another parent or other verbs.
+            None => {
+                let (parent, verbs) = self.home.kin(object)?;
+                Some((parent, verbs))
+            }
         }
     }
 

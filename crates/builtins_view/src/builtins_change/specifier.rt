@@ -6,8 +6,8 @@ ghost use Rattle.view.specs.Parts.{object_part_of, preposition_part_of};
 ghost use Rattle.builtins_view.specs.Specifiers.{specifier_of, has_member as has_member_of, first_with as first_with_of};
 
 use moo_value::text::Text;
-use view::verb_names::is_same;
 use view::verb::{ObjectPart, PrepositionPart};
+use view::verb_names::is_same;
 
 /// A direct object, a preposition and an indirect object, as texts.
 #[derive(Drop)]

@@ -20,12 +20,12 @@ use rules::family::below::below;
 use rules::family::losing::lose_slots;
 use rules::permissions::act::Act;
 use rules::permissions::may::may;
-use view::verb_names::is_same;
 use std::alloc::{AllocError, Global};
 use view::law::View;
 use view::lists::Names;
 use view::part::Part;
 use view::readers::{read_defines, write_part};
+use view::verb_names::is_same;
 
 /// `delete_property`. `E_INVARG` where the object is not there, `E_PROPNF` where it does not define the property itself, `E_PERM`
 /// where the programmer may not take from it.

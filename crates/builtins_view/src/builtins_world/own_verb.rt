@@ -5,8 +5,8 @@ ghost use Rattle.spec_moo.specs.Natives.Verbs.{verb_place, place_of_word as plac
 
 use moo_arith::index::natural;
 use moo_value::value::{Shown, Value};
-use view::verb_names::matches;
 use view::verb::Verb;
+use view::verb_names::matches;
 
 #[tactic(auto, using(rules::proofs::Places::stands_there, crate::proofs::Places::placed_there, crate::proofs::Places::placed_nowhere))]
 /// A verb with its place from 0, by a word that one of its names spells, or by its place from 1.

@@ -22,13 +22,13 @@ use moo_value::text::Text;
 use moo_value::value::Value;
 use rules::permissions::act::Act;
 use rules::permissions::may::may;
-use view::verb_names::is_same;
 use slot_content::content::Content;
 use std::alloc::{AllocError, Global};
 use view::law::View;
 use view::part::Part;
 use view::readers::{read_defines, read_header, read_slot, write_part};
 use view::slot::Slot;
+use view::verb_names::is_same;
 
 /// `properties`: the names that an object defines, in the order of definition. `E_INVARG` where it is not there, `E_PERM` where the
 /// programmer may not list them.

@@ -17,11 +17,11 @@ use crate::object_match::naming::name_object;
 use moo_value::text::Text;
 use rules::permissions::act::Act;
 use rules::permissions::may::may;
-use view::verb_names::matches;
 use std::alloc::{AllocError, Global};
 use view::law::View;
 use view::readers::read_verbs;
 use view::verb::{Verb, Verbs};
+use view::verb_names::matches;
 
 /// What comes of a `.program` line.
 #[derive(Drop)]

@@ -9,10 +9,10 @@ use crate::object_match::place::location;
 use crate::object_match::reach::with_contents;
 use crate::object_match::tally::NO_MATCHES;
 use moo_value::text::Text;
-use view::verb_names::is_same;
 use std::alloc::{AllocError, Global};
 use view::law::View;
 use view::readers::read_header;
+use view::verb_names::is_same;
 
 /// The object that a player means by a text: its number, `me`, `here`, or a name or alias of what the player holds and of what
 /// is in the room, or the beginning of one. Aliases are read without permission, and case is ignored. -1 for no text, -2 where

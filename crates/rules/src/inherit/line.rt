@@ -60,8 +60,8 @@ fn parent_in(header: &Option<Header>) -> Option<i32>
     }
 }
 
-// No object has a negative number.
-fn not_negative(object: i32) -> Option<i32>
+/// The object of a number, unless that is negative: no object has such a one.
+pub(crate) fn not_negative(object: i32) -> Option<i32>
     ensures { MatchOption result ((n : ℕ) × (object ≡ negsuc n)) (λ o. o ≡ object) }
 {
     if object < 0 {

@@ -1,6 +1,6 @@
 //! Verbs of objects and of their ancestors.
-ghost use Rattle.std.specs.Prelude.{◌≡◌, ◌<◌, ℤ, length, IfOk, IfSome, option_map};
-ghost use Rattle.spec_world.specs.World.{object_at};
+ghost use Rattle.std.specs.Prelude.{◌≡◌, ◌<◌, ℤ, length, Some, IfOk, IfSome, option_map};
+ghost use Rattle.spec_world.specs.World.{World, object_at};
 ghost use Rattle.spec_world.specs.Inherit.{ancestors};
 ghost use Rattle.spec_world.specs.VerbsSought.{find_verb as find_verb_of, find_command_verb as find_command_verb_of, first_on, first_passing, own_first, wants as wants_of, object_fits as object_fits_of, preposition_fits as preposition_fits_of};
 ghost use Rattle.view.specs.Law.{Lasts, Tells};
@@ -8,7 +8,7 @@ ghost use Rattle.view.specs.Parts.{object_part_of, preposition_part_of};
 ghost use Rattle.rules.specs.Lines.{AreAgreeing};
 ghost use Rattle.rules.specs.Sought.{parts_of, passes as passes_of, first_among as first_among_of, placed};
 
-use crate::inherit::line::parent;
+use crate::inherit::line::{not_negative, parent};
 use std::alloc::AllocError;
 use std::marker::Model;
 use view::law::View;
@@ -81,6 +81,25 @@ pub fn find_verb<V: View>(
     ensures left { IfOk result (λ f. Tells V.holds V.now view.old view.new (λ w. find_verb_of w object word.now ≡ f)) }
 {
     find(view, object, word, &Purpose::Call)
+}
+
+/// The verb that a word names on an object when code calls it, with the object that it stands on, lent, if all objects up to that one are at hand.
+#[inline(always)]
+pub fn find_lent<'v, V: View>(view: &'v V, object: i32, word: &str) -> Option<(i32, &'v Verb)>
+    requires home { V.holds view.now (V.home view.now) }
+    requires well_formed { AreAgreeing V.holds V.now view.now }
+    ensures { IfSome result (λ f. (w : World) → V.holds view.now w → find_verb_of (V.now view.now w) object word.now ≡ Some (record { definer = f.0; verb = f.1.now })) }
+{
+    let mut next = Some(object);
+    while let Some(at) = next {
+        let (parent, verbs) = view.kin_at_hand(at)?;
+        let place = first_place(verbs, word, &Purpose::Call);
+        if let Some(place) = place {
+            return Some((at, &verbs.as_slice()[place]));
+        }
+        next = not_negative(parent);
+    }
+    None
 }
 
 /// The verb that a word names on an object in a command: the first one along the ancestors that fits what the command names.

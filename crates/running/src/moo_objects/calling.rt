@@ -1,6 +1,7 @@
 //! Calls of verbs (Programmer's Manual, "Calling Built-in Functions and Other Verbs").
 ghost use Rattle.std.specs.Prelude.{◌≡◌, ◌<◌, ◌+◌, ◌^◌, ◌∷◌, true, drop, codes, IfOk, OnOk, IfSome, IsTrue, None};
 ghost use Rattle.spec_value.specs.Datum.{list, text as text_of, Data, Text as TextOf, same_text};
+ghost use Rattle.spec_world.specs.World.{World};
 ghost use Rattle.spec_moo.specs.Scene.{Scene};
 ghost use Rattle.spec_moo.specs.Calling.{verb_call};
 ghost use Rattle.spec_moo.specs.Effect.{Effect, erring};
@@ -11,10 +12,10 @@ ghost use Rattle.moo_task.specs.Shown.{Around, here};
 ghost use Rattle.rules.specs.Lines.{AreAgreeing};
 ghost use Rattle.rules.specs.Calling.{call_effect};
 ghost use Rattle.view.specs.Law.{Goes, Lasts, Tells};
-ghost use Rattle.running.specs.Called.{items_of, running, effect_of, shown_called, weighed_effect, Calls, HasList, HasCall, IsCalled, IsVerbOf};
+ghost use Rattle.running.specs.Called.{items_of, running, effect_of, shown_called, weighed_effect, Calls, HasList, HasCall, IsCalled, IsVerbOf, callee_of, called_as};
 ghost use Rattle.running.specs.Calls.{AreArguments};
 
-use crate::moo_objects::properties::drop_two;
+use crate::moo_asking::functions::drop_one;
 use moo_program::program::Program;
 use moo_task::moo_machine::call::Call;
 use moo_task::moo_machine::operands::Operands;
@@ -24,10 +25,11 @@ use moo_value::error::MooError;
 use moo_value::text::Text;
 use moo_value::value::{Shown, Value};
 use rules::access::calling::{called_verb, passed_verb};
-use rules::inherit::verb::{FoundVerb, find_verb};
+use rules::inherit::verb::{FoundVerb, find_lent, find_verb};
 use std::alloc::AllocError;
 use step_deeds::calling::callee;
 use view::law::View;
+use view::verb::Verb;
 
 /// What a call of a verb did.
 #[derive(Drop)]
@@ -188,18 +190,58 @@ fn enters_above(call: &Call, found: FoundVerb, arguments: Value) -> Result<Calle
     Ok(Called::Entered(entered, found, arguments))
 }
 
-/// The call of the verb that is named by the two operands below the one on top, with its program, if one is found and a list of arguments is on top.
+/// Who runs a verb that is called, but for its word and its caller.
+#[derive(Clone, Copy)]
+pub struct Callee {
+    /// The object on which it is called.
+    pub this: i32,
+    /// The object on which it was found.
+    pub definer: i32,
+    /// The object with whose permissions it runs.
+    pub programmer: i32,
+    /// Whether its errors are raised.
+    pub debug: bool,
+}
+
+impl Callee {
+    fn of(object: i32, definer: i32, verb: &Verb) -> Callee
+        ensures { result ≡ callee_of object (record { definer = definer; verb = verb.now }) }
+    {
+        Callee {
+            this: object,
+            definer,
+            programmer: verb.owner,
+            debug: verb.debug,
+        }
+    }
+
+    /// Its call by a word, from the verb that runs.
+    #[inline(always)]
+    pub fn called(self, call: &Call, word: Text) -> Call
+        ensures { result ≡ called_as call.now word self }
+    {
+        Call {
+            this: self.this,
+            caller: call.this,
+            definer: self.definer,
+            programmer: self.programmer,
+            verb: word,
+            debug: self.debug,
+        }
+    }
+}
+
+/// Who runs the verb that is named by the two operands below the one on top, with its program, if one is found and a list of arguments is on top.
 #[inline(always)]
 pub fn called_by_three<V: View>(
     view: &mut V,
-    call: &Call,
     operands: &Operands,
-) -> Result<Option<(Call, Program)>, AllocError>
+) -> Result<Option<(Callee, Program)>, AllocError>
     requires home { V.holds view.old (V.home view.old) }
     requires well_formed { AreAgreeing V.holds V.now view.old }
     ensures lasts { Lasts V.holds V.home V.anchor view.old view.new result }
     ensures held { IfOk result (λ o. IfSome o (λ d. HasCall operands.now)) }
-    ensures left { IfOk result (λ o. Tells V.holds V.now view.old view.new (λ w. IfSome o (λ d. IsCalled w call.now operands.now d.0 d.1))) }
+    ensures left { IfOk result (λ o. Tells V.holds V.now view.old view.new (λ w. IfSome o (λ d. IsCalled w operands.now d.0 d.1))) }
 {
     let Some([object, word, arguments]) = operands.top(3) else {
         return Ok(None);
@@ -208,32 +250,68 @@ pub fn called_by_three<V: View>(
         return Ok(None);
     }
     match (object.shown(), word.as_text()) {
-        (Shown::Object(object), Some(word)) => verb_on(view, call, object, word),
+        (Shown::Object(object), Some(word)) => verb_on(view, object, word.as_str()),
         _ => Ok(None),
     }
 }
 
-// The call of the verb that a word names on an object, with its program, if one is found.
+// Who runs the verb that a word names on an object, with its program, if one is found.
 #[inline(always)]
 fn verb_on<V: View>(
     view: &mut V,
-    call: &Call,
     object: i32,
-    word: &Text,
-) -> Result<Option<(Call, Program)>, AllocError>
+    word: &str,
+) -> Result<Option<(Callee, Program)>, AllocError>
     requires home { V.holds view.old (V.home view.old) }
     requires well_formed { AreAgreeing V.holds V.now view.old }
     ensures lasts { Lasts V.holds V.home V.anchor view.old view.new result }
-    ensures left { IfOk result (λ o. Tells V.holds V.now view.old view.new (λ w. IfSome o (λ d. IsVerbOf w call.now object word.now d.0 d.1))) }
+    ensures left { IfOk result (λ o. Tells V.holds V.now view.old view.new (λ w. IfSome o (λ d. IsVerbOf w object word.now d.0 d.1))) }
 {
-    let found = find_verb(view, object, word.as_str())?;
+    let lent = verb_lent(view, object, word)?;
+    if let Some(called) = lent {
+        return Ok(Some(called));
+    }
+    verb_sought(view, object, word)
+}
+
+// The same of a verb that is at hand, with all objects up to it.
+#[inline(always)]
+fn verb_lent<V: View>(
+    view: &V,
+    object: i32,
+    word: &str,
+) -> Result<Option<(Callee, Program)>, AllocError>
+    requires home { V.holds view.now (V.home view.now) }
+    requires well_formed { AreAgreeing V.holds V.now view.now }
+    ensures { IfOk result (λ o. IfSome o (λ d. (w : World) → V.holds view.now w → IsVerbOf (V.now view.now w) object word.now d.0 d.1)) }
+{
+    let Some((definer, verb)) = find_lent(view, object, word) else {
+        return Ok(None);
+    };
+    let program = verb.program.whole()?;
+    let callee = Callee::of(object, definer, verb);
+    Ok(Some((callee, program)))
+}
+
+// The same of any verb.
+#[inline(never)]
+fn verb_sought<V: View>(
+    view: &mut V,
+    object: i32,
+    word: &str,
+) -> Result<Option<(Callee, Program)>, AllocError>
+    requires home { V.holds view.old (V.home view.old) }
+    requires well_formed { AreAgreeing V.holds V.now view.old }
+    ensures lasts { Lasts V.holds V.home V.anchor view.old view.new result }
+    ensures left { IfOk result (λ o. Tells V.holds V.now view.old view.new (λ w. IfSome o (λ d. IsVerbOf w object word.now d.0 d.1))) }
+{
+    let found = find_verb(view, object, word)?;
     let Some(found) = found else {
         return Ok(None);
     };
-    let word = word.clone()?;
-    let entered = callee(call, object, word, &found);
     let program = found.verb().program.whole()?;
-    Ok(Some((entered, program)))
+    let callee = Callee::of(object, found.definer(), found.verb());
+    Ok(Some((callee, program)))
 }
 
 /// Whether a value is a list of arguments that does not weigh too much.
@@ -247,16 +325,22 @@ pub fn are_arguments(arguments: &Value) -> bool
     }
 }
 
-/// Takes the arguments of a call, with the two operands below them.
+/// Takes the word and the arguments of a call, with the object below them.
 #[inline(always)]
-pub fn take_arguments(operands: &mut Operands) -> Value
+pub fn take_call(operands: &mut Operands) -> (Text, Value)
     requires { HasCall operands.old }
-    ensures taken { operands.old ≡ result ∷ drop 1 operands.old }
+    ensures taken { operands.old ≡ result.1 ∷ text_of result.0 ∷ drop 2 operands.old }
     ensures rest { operands.new ≡ drop 3 operands.old }
 {
     let Some(arguments) = operands.pop() else {
         unreachable!();
     };
-    drop_two(operands);
-    arguments
+    let Some(word) = operands.pop() else {
+        unreachable!();
+    };
+    drop_one(operands);
+    match word.into_text() {
+        Ok(word) => (word, arguments),
+        Err(_) => unreachable!(),
+    }
 }

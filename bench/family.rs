@@ -7,6 +7,10 @@ const OBJECTS: i32 = 10_000;
 const VERBS: usize = 30;
 /// The first object of a line of ancestors.
 const TOP: i32 = 10;
+/// The first class of a line of classes, how many they are, and how many verbs each has that nobody calls.
+const CLASSES: i32 = 40;
+const LEVELS: i32 = 6;
+const OTHERS: i32 = 40;
 const WIZARD: i32 = 2;
 
 struct Object {
@@ -45,9 +49,14 @@ impl Family {
                 let value = (number == TOP).then_some(7);
                 slots.insert("p".to_string(), Slot { value, owner: WIZARD, is_readable: true });
             }
-            let parent = if is_in_line && number > TOP { number - 1 } else { 1 };
+            let is_below = is_in_line && number > TOP || (CLASSES + 1..=CLASSES + LEVELS).contains(&number);
+            let parent = if is_below { number - 1 } else { 1 };
             let parent = if number == 1 { -1 } else { parent };
-            let verbs = if number == TOP { verbs() } else { Vec::new() };
+            let verbs = match number {
+                TOP => verbs(),
+                CLASSES.. if number < CLASSES + LEVELS => others(number - CLASSES),
+                _ => Vec::new(),
+            };
             objects.insert(number, Object { parent, is_wizard: number == WIZARD, slots, verbs });
         }
         Family { objects }
@@ -89,6 +98,14 @@ fn verbs() -> Vec<Verb> {
     names.map(|names| Verb { names, is_callable: true, run }).collect()
 }
 
+/// The verbs of a class; the first class has the verb `last` behind them.
+fn others(level: i32) -> Vec<Verb> {
+    let letter = |number: i32| char::from(b'a' + (number % 26) as u8);
+    let names = (0..OTHERS).map(|number| format!("{}{}*method{number} other{number}", letter(number), letter(5 * number + level)));
+    let last = (level == 0).then(|| "last".to_string());
+    names.chain(last).map(|names| Verb { names, is_callable: true, run }).collect()
+}
+
 #[inline(never)]
 fn run(this: i32) -> i64 {
     black_box(this) as i64
@@ -124,4 +141,9 @@ pub fn find(level: i32, word: &str, turns: usize) -> i64 {
         black_box((verb.run)(object));
     }
     turns as i64
+}
+
+/// Calls a verb that the first of several classes has.
+pub fn find_above_classes(turns: usize) -> i64 {
+    find(CLASSES - TOP + LEVELS, "last", turns)
 }

@@ -16,10 +16,11 @@ function Room:fib(n)
     return self:fib(n - 1) + self:fib(n - 2)
 end
 
--- An object that has something from an ancestor so many levels above it.
-local function family(levels, name, value)
+-- An object that has something from an ancestor so many levels above it. Each ancestor has so many others.
+local function family(levels, name, value, others)
     local below = { [name] = value }
-    for _ = 1, levels do
+    for level = 1, levels do
+        for number = 1, others or 0 do below["other" .. level .. "_" .. number] = value end
         below = setmetatable({}, { __index = below })
     end
     return below
@@ -121,9 +122,9 @@ local function inherit(levels)
     end
 end
 
-local function find(levels)
+local function find(levels, others)
     return function(turns)
-        local o = family(levels, "last", function() end)
+        local o = family(levels, "last", function() end, others)
         for i = 1, turns do
             o:last(); o:last(); o:last(); o:last(); o:last(); o:last(); o:last(); o:last(); o:last(); o:last()
         end
@@ -132,7 +133,7 @@ local function find(levels)
 end
 
 loops.inherit1, loops.inherit4, loops.inherit16 = inherit(1), inherit(4), inherit(16)
-loops.find1, loops.find8 = find(1), find(8)
+loops.find1, loops.find8, loops.classes = find(1), find(8), find(6, 40)
 
 local given
 for _ = 1, tonumber(arg[2]) do

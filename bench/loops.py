@@ -19,11 +19,14 @@ class Room:
         return self.fib(n - 1) + self.fib(n - 2)
 
 
-def family(levels, name, value):
-    """An object that has something from an ancestor so many levels above it."""
-    below = type("Top", (), {name: value})
-    for _ in range(levels - 1):
-        below = type("Below", (below,), {})
+def family(levels, name, value, others=0):
+    """An object that has something from an ancestor so many levels above it. Each ancestor has so many others."""
+    def has(level, **more):
+        return {f"other{level}_{number}": value for number in range(others)} | more
+
+    below = type("Top", (), has(0, **{name: value}))
+    for level in range(1, levels):
+        below = type("Below", (below,), has(level))
     return below()
 
 
@@ -110,9 +113,9 @@ def inherit(levels):
     return loop
 
 
-def find(levels):
+def find(levels, others=0):
     def loop(turns):
-        o = family(levels, "last", lambda this: None)
+        o = family(levels, "last", lambda this: None, others)
         for i in range(turns):
             o.last(); o.last(); o.last(); o.last(); o.last(); o.last(); o.last(); o.last(); o.last(); o.last()
         return turns
@@ -120,7 +123,7 @@ def find(levels):
 
 
 LOOPS = {it.__name__: it for it in (nothing, add, count, read, write, append, join, put, call, fib, length)}
-LOOPS |= {"inherit1": inherit(1), "inherit4": inherit(4), "inherit16": inherit(16), "find1": find(1), "find8": find(8)}
+LOOPS |= {"inherit1": inherit(1), "inherit4": inherit(4), "inherit16": inherit(16), "find1": find(1), "find8": find(8), "classes": find(6, 40)}
 
 if __name__ == "__main__":
     given = None

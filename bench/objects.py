@@ -10,6 +10,8 @@ MANY = sized(10000, 200)
 # The first object of a line of ancestors.
 TOP = 10
 VERBS = 30
+# The first class of a line of classes, how many they are, and how many verbs each has that nobody calls.
+CLASSES, LEVELS, OTHERS = 40, 6, 40
 
 
 def line_of(world, levels):
@@ -24,10 +26,21 @@ def line_of(world, levels):
     top.verb("last", [])
 
 
+def classes_of(world):
+    """A line of classes, each with verbs of many names, the first one with the verb `last` behind them; and an object below the last one."""
+    for level in range(LEVELS + 1):
+        thing = world.put(CLASSES + level, Thing("Class", parent=1 if level == 0 else CLASSES + level - 1))
+        if level < LEVELS:
+            for number in range(OTHERS):
+                thing.verb(f"{chr(97 + number % 26)}{chr(97 + (5 * number + level) % 26)}*method{number} other{number}", [])
+    world.things[CLASSES].verb("last", [])
+
+
 def filled(lines):
-    """A world of many objects with a line of 17, whose room has the verb `try`."""
+    """A world of many objects with a line of 17 and one of classes, whose room has the verb `try`."""
     world = World()
     line_of(world, 16)
+    classes_of(world)
     for number in range(len(world.things), MANY):
         world.put(100 + number, Thing("Thing"))
     world.room.verb("try", lines)
@@ -49,6 +62,7 @@ LOOKS = [
     (f"o:last(), the last of its {VERBS} verbs", 0, ":last()", "find1"),
     ("o:long(), of lo*ngest, the last but one of them", 0, ":long()", "starred"),
     ("o:last(), 8 ancestors up", 8, ":last()", "find8"),
+    (f"o:last(), {LEVELS} ancestors up, each with {OTHERS} other verbs", CLASSES - TOP + LEVELS, ":last()", "classes"),
 ]
 
 

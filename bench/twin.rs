@@ -5,7 +5,7 @@
 mod family;
 mod tokens;
 
-use family::{find, inherit};
+use family::{find, find_above_classes, inherit};
 use std::collections::BTreeMap;
 use std::hint::black_box;
 use std::io::{BufRead, BufReader, Write};
@@ -63,6 +63,7 @@ fn run(name: &str, steps: usize, turns: usize) {
         "find1" => |turns| find(0, "last", turns),
         "starred" => |turns| find(0, "long", turns),
         "find8" => |turns| find(8, "last", turns),
+        "classes" => find_above_classes,
         _ => refuse(),
     };
     let mut given = 0;

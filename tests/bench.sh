@@ -21,7 +21,7 @@ group() {
 }
 
 group language 12
-group world 8
+group world 9
 group steps 19
 group parse 71
 group checkpoint 18

@@ -1,0 +1,3 @@
+//! Inheritance.
+pub mod property;
+pub mod verb;

@@ -1,3 +1,0 @@
-//! Inheritance.
-pub mod property;
-pub mod verb;

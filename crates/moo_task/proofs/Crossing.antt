@@ -84,10 +84,10 @@ outer_sync : IsSync outer.the_row
 outer_sync = variants_sync outer.enum ((frame_sync, tt), ((native_sync, tt), tt))
 
 room_send : IsSend room.the_row
-room_send = search (sendable, crosses, operands_send, value_send) depth 60
+room_send = search (sendable, crosses, operands_send, value_send, shared_start_send) depth 60
 
 room_sync : IsSync room.the_row
-room_sync = search (sendable, crosses, operands_sync, value_sync) depth 60
+room_sync = search (sendable, crosses, operands_sync, value_sync, shared_start_sync) depth 60
 
 outers_send : IsSend outers.the_row
 outers_send = search (sendable, crosses, outer_send, room_send) depth 60

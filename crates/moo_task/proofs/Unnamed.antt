@@ -1,5 +1,5 @@
 -- What names nothing.
-use Rattle.std.proofs.Common.{◌≡◌, ℕ, ℤ, negsuc, List, [], ◌∷◌, length, refl, sym, ◌∙◌, arith}
+use Rattle.std.proofs.Common.{◌≡◌, negsuc, [], ◌∷◌, length, ap, refl, sym, ◌∙◌, arith}
 use Rattle.spec_value.specs.Datum.{Text}
 use Rattle.spec_world.specs.World.{Start}
 use Rattle.moo_task.specs.Starts.{start_of}
@@ -19,3 +19,6 @@ unnamed s a d ds p i is =
       iobj = sym i k;
       iobjstr = (argstr ∙ sym (none s.iobjstr is)) k;
     }
+
+pub alike : (s t : Text) → s ≡ t → start_of (Unnamed s) ≡ start_of (Unnamed t)
+alike s t e = ap (λ (x : Text). start_of (Unnamed x)) e

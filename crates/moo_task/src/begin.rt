@@ -6,6 +6,7 @@ ghost use Rattle.moo_task.specs.Frames.{kept_of, begun};
 
 use crate::frame::Frame;
 use crate::moo_machine::call::Call;
+use crate::moo_machine::operands::Operands;
 use crate::moo_machine::verb::State;
 use crate::room::Room;
 use crate::start::SharedStart;
@@ -35,8 +36,9 @@ pub fn begin(
     let Room {
         mut slots,
         mut operands,
+        start: _,
     } = room;
-    operands.clear();
+    let_go(&mut operands);
     start_slots(&mut slots, player, &call, &start, arguments, own)?;
     Ok(Frame {
         call,
@@ -50,6 +52,16 @@ pub fn begin(
             ticks,
         },
     })
+}
+
+// Lets go of the operands, of which there are mostly none.
+#[inline(always)]
+fn let_go(operands: &mut Operands)
+    ensures { operands.new ≡ [] }
+{
+    if !operands.is_empty() {
+        operands.clear();
+    }
 }
 
 // The starting variables by the order of their names, and then the program's own, unset. What stood in their places goes.
@@ -270,7 +282,7 @@ fn is_short_same(a: &Text, b: &Text) -> bool
 // Whether two texts have no characters.
 #[tactic(auto, using(crate::proofs::Beginning::no_characters))]
 #[inline(always)]
-fn are_empty(a: &Text, b: &Text) -> bool
+pub(crate) fn are_empty(a: &Text, b: &Text) -> bool
     ensures { IsTrue result → a.now ≡ b.now }
 {
     a.is_empty() && b.is_empty()

@@ -7,6 +7,7 @@ use crate::frame::{Frame, Outer};
 use crate::moo_machine::operands::Operands;
 use crate::native::Native;
 use crate::room::Room;
+use crate::start::SharedStart;
 use moo_value::value::Value;
 use std::alloc::{AllocError, Global};
 use std::marker::Model;
@@ -92,10 +93,10 @@ impl Outers {
 
     /// The room of a verb that has returned, for one that comes. Where there is no memory for it, it goes.
     #[inline(always)]
-    pub fn leave_room(&mut self, slots: Vec<Option<Value>>, operands: Operands)
+    pub fn leave_room(&mut self, slots: Vec<Option<Value>>, operands: Operands, start: SharedStart)
         ensures { self.new ≡ self.old }
     {
-        let room = Room::left(slots, operands);
+        let room = Room::left(slots, operands, start);
         if self.rooms.len() == self.rooms.capacity() && self.rooms.reserve(1).is_err() {
             return;
         }

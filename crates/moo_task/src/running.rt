@@ -21,6 +21,7 @@ use crate::moo_machine::raising::raised;
 use crate::native::Native;
 use crate::outcome::{End, Outcome};
 use crate::outers::Outers;
+use crate::start::SharedStart;
 use moo_program::program::Program;
 use moo_value::answer::{Answer, limited};
 use moo_value::error::MooError;
@@ -132,9 +133,10 @@ impl Running {
         ensures waits { OnOk result (self.new.outer ≡ verb (kept_of self.old.frame) ∷ self.old.outer) }
         ensures ticks { OnOk result (ticks_of self.new ≡ ticks_of self.old) }
     {
-        let start = self.frame.start.clone()?;
         let ticks = self.frame.state.ticks;
-        let room = self.outer.take_room(alloc);
+        let mut room = self.outer.take_room(alloc);
+        let kept = mem::replace(&mut room.start, None);
+        let start = SharedStart::again(kept, &self.frame.start)?;
         let called = begin(room, self.player, start, call, program, arguments, ticks)?;
         let caller = mem::replace(&mut self.frame, called);
         self.outer.push_verb(caller)?;

@@ -3,6 +3,7 @@ ghost use Rattle.std.specs.Prelude.{◌≡◌, IsTrue, IfOk};
 ghost use Rattle.moo_task.specs.Starts.{start_of};
 ghost use Rattle.moo_task.specs.declared.start.Held.TheVariants.{Unnamed};
 
+use crate::begin::are_empty;
 use crate::moo_machine::call::Start;
 use moo_value::text::Text;
 use std::alloc::{AllocError, Global};
@@ -50,6 +51,32 @@ impl SharedStart {
         Ok(SharedStart {
             held: Held::Named(Arc::new(alloc, start)?),
         })
+    }
+
+    /// Another one again: the one that is kept, where neither of them names anything, so that no owner is counted; else a clone.
+    #[inline(always)]
+    pub fn again(kept: Option<SharedStart>, other: &SharedStart) -> Result<SharedStart, AllocError>
+        ensures { IfOk result (λ s. s ≡ other.now) }
+    {
+        let Some(kept) = kept else {
+            return other.clone();
+        };
+        if kept.is_unnamed_as(other) {
+            return Ok(kept);
+        }
+        other.clone()
+    }
+
+    // Whether neither of them names anything.
+    #[tactic(auto, using(crate::proofs::Unnamed::alike))]
+    #[inline(always)]
+    fn is_unnamed_as(&self, other: &SharedStart) -> bool
+        ensures { IsTrue result → self.now ≡ other.now }
+    {
+        match (&self.held, &other.held) {
+            (Held::Unnamed(text), Held::Unnamed(other)) => are_empty(text, other),
+            _ => false,
+        }
     }
 
     /// What was typed behind the first word.

@@ -73,7 +73,7 @@ fn leave_room(task: &mut Running, left: Frame)
 {
     let Frame {
         call: _call,
-        start: _start,
+        start,
         program: _program,
         further: _further,
         state,
@@ -84,5 +84,5 @@ fn leave_room(task: &mut Running, left: Frame)
         slots,
         ticks: _,
     } = state;
-    task.outer.leave_room(slots, operands);
+    task.outer.leave_room(slots, operands, start);
 }

@@ -82,7 +82,7 @@ fn leave<N: Natives>(natives: &mut N, task: Running) {
     } = task;
     let Frame {
         call: _call,
-        start: _start,
+        start,
         program: _program,
         further: _further,
         state,
@@ -93,7 +93,7 @@ fn leave<N: Natives>(natives: &mut N, task: Running) {
         slots,
         ticks: _,
     } = state;
-    natives.leave_room(Room::left(slots, operands));
+    natives.leave_room(Room::left(slots, operands, start));
 }
 
 // A task that has ended by itself.

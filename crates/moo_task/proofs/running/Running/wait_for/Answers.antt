@@ -9,7 +9,7 @@ pub returns-clause-begins : goal.returns-clause-begins
 returns-clause-begins c args h =
     let player : to_z w32 (of_z w32 c.args.self.now.player) ≡ c.args.self.now.player = search rules in
     ap kept_of c.replace-caller.ensures.after ∙ c.in_ok-called.ensures.frame args h
-    ∙ ap (λ (x : Start). begun (to_z w32 (of_z w32 c.args.self.now.player)) x c.args.call c.args.program args) c.in_ok-start.ensures.cases
+    ∙ ap (λ (x : Start). begun (to_z w32 (of_z w32 c.args.self.now.player)) x c.args.call c.args.program args) c.in_ok-start.ensures
     ∙ ap (λ (z : ℤ). begun z c.args.self.now.frame.start c.args.call c.args.program args) player
 
 pub returns-clause-waits : goal.returns-clause-waits

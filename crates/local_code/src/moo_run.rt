@@ -1,6 +1,6 @@
 //! The loop of the machine as far as it asks nothing of the world: instructions one after another, where a run stops, and the verbs
 //! that are then under way.
-mod ahead;
+pub mod ahead;
 pub mod append;
 pub mod argument;
 pub mod asked;

@@ -255,9 +255,9 @@ pub fn called_by_three<V: View>(
     }
 }
 
-// Who runs the verb that a word names on an object, with its program, if one is found.
+/// Who runs the verb that a word names on an object, with its program, if one is found.
 #[inline(always)]
-fn verb_on<V: View>(
+pub fn verb_on<V: View>(
     view: &mut V,
     object: i32,
     word: &str,

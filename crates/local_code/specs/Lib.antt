@@ -14,3 +14,4 @@ pub mod Items
 pub mod Arguments
 pub mod Numbers
 pub mod Asked
+pub mod NamedCalls

@@ -1,5 +1,6 @@
 -- The lines of the verbs that called another.
 use Rattle.std.proofs.Common.{◌≡◌, ◌∙◌, sym, ap, ℕ, zero, suc, ◌+◌, ◌<◌, ◌≤◌, List, [], ◌∷◌, ◌++◌, length, get_or, drop, refl, arith, add-one, append_assoc, codes}
+use Rattle.std.proofs.lemmas.List.{nil_from_length}
 use Rattle.spec_value.specs.Datum.{Text}
 use Rattle.spec_moo.specs.Leaving.{Traced}
 use Rattle.spec_moo.specs.Telling.{called_from, told, verb_spelled}
@@ -38,12 +39,8 @@ pub told_whole : (whole between first : List Text) (end line why : Text) (vs : L
 told_whole whole between first end line why vs t ts last end_is callers alone line_is verbs =
     last ∙ ap (λ (x : Text). between ++ x ∷ []) end_is ∙ callers ∙ ap (λ (xs : List Text). xs ++ called_from ts) alone ∙ ap (λ (x : Text). x ∷ called_from ts) line_is ∙ ap (told why) (sym verbs)
 
-no_verbs : (vs : List Traced) → length vs ≡ 0 → vs ≡ []
-no_verbs [] e = refl
-no_verbs (t ∷ ts) e = absurd (omega (arith, e))
-
 -- the end alone
 pub told_none : (whole between : List Text) (end why : Text) (vs : List Traced) → whole ≡ between ++ end ∷ [] → end ≡ codes "(End of traceback)" → between ≡ []
     → length vs ≡ 0 → whole ≡ told why vs
 told_none whole between end why vs last end_is none verbs =
-    last ∙ ap (λ (xs : List Text). xs ++ end ∷ []) none ∙ ap (λ (x : Text). x ∷ []) end_is ∙ ap (told why) (sym (no_verbs vs verbs))
+    last ∙ ap (λ (xs : List Text). xs ++ end ∷ []) none ∙ ap (λ (x : Text). x ∷ []) end_is ∙ ap (told why) (sym (nil_from_length vs verbs))

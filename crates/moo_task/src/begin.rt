@@ -37,6 +37,7 @@ pub fn begin(
         mut slots,
         mut operands,
         start: _,
+        word: _,
     } = room;
     let_go(&mut operands);
     start_slots(&mut slots, player, &call, &start, arguments, own)?;
@@ -55,11 +56,12 @@ pub fn begin(
 }
 
 // Lets go of the operands, of which there are mostly none.
+#[tactic(auto, using(std::proofs::lemmas::List::nil_from_length))]
 #[inline(always)]
 fn let_go(operands: &mut Operands)
     ensures { operands.new ≡ [] }
 {
-    if !operands.is_empty() {
+    if operands.len() > 0 {
         operands.clear();
     }
 }
@@ -270,7 +272,7 @@ const SHORT: usize = 32;
 
 // Whether two texts are the same, if they are short.
 #[inline(always)]
-fn is_short_same(a: &Text, b: &Text) -> bool
+pub(crate) fn is_short_same(a: &Text, b: &Text) -> bool
     ensures { IsTrue result → a.now ≡ b.now }
 {
     if b.is_empty() {

@@ -1,16 +1,16 @@
 //! What waits for the verb that runs.
-ghost use Rattle.std.specs.Prelude.{◌≡◌, ◌<◌, OnOk, OnErr, MatchOption, [], ◌∷◌, vec_len, vec_capacity};
+ghost use Rattle.std.specs.Prelude.{◌≡◌, ◌<◌, IfOk, OnOk, OnErr, MatchOption, [], ◌∷◌, vec_len, vec_capacity};
 ghost use Rattle.moo_code.specs.Machine.{verb, native, verbs as verbs_of};
 ghost use Rattle.moo_task.specs.Frames.{native_of, kept_of, outer_of, outers_of};
 
 use crate::frame::{Frame, Outer};
-use crate::moo_machine::operands::Operands;
 use crate::native::Native;
 use crate::room::Room;
-use crate::start::SharedStart;
+use moo_value::text::Text;
 use moo_value::value::Value;
 use std::alloc::{AllocError, Global};
 use std::marker::Model;
+use std::mem;
 
 /// What waits for the verb that runs. Verbs are counted as they come and go.
 #[derive(Drop)]
@@ -91,12 +91,34 @@ impl Outers {
         }
     }
 
-    /// The room of a verb that has returned, for one that comes. Where there is no memory for it, it goes.
+    /// A list that the next room has, perhaps with an item that does not count.
     #[inline(always)]
-    pub fn leave_room(&mut self, slots: Vec<Option<Value>>, operands: Operands, start: SharedStart)
+    pub fn spare_list(&mut self) -> Option<Value>
         ensures { self.new ≡ self.old }
     {
-        let room = Room::left(slots, operands, start);
+        let room = self.rooms.last_mut()?;
+        let arguments = room.slots.first_mut()?;
+        mem::replace(arguments, None)
+    }
+
+    /// The word by which a verb is called, again: the one that the next room has, if it has the same characters, or a clone.
+    #[inline(always)]
+    pub fn word_again(&mut self, word: &Text) -> Result<Text, AllocError>
+        ensures word { IfOk result (λ w. w ≡ word.now) }
+        ensures stays { self.new ≡ self.old }
+    {
+        match self.rooms.last_mut() {
+            Some(room) => room.word_again(word),
+            None => word.clone(),
+        }
+    }
+
+    /// The room of a verb that has returned, for one that comes. Where there is no memory for it, it goes.
+    #[inline(always)]
+    pub fn leave_room(&mut self, left: Frame)
+        ensures { self.new ≡ self.old }
+    {
+        let room = Room::left(left);
         if self.rooms.len() == self.rooms.capacity() && self.rooms.reserve(1).is_err() {
             return;
         }

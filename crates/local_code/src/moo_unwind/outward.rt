@@ -10,7 +10,6 @@ use crate::moo_unwind::offer::Offer;
 use crate::moo_unwind::unwind::leave;
 use moo_task::frame::{Frame, Outer};
 use moo_task::moo_machine::leaving::{Failure, Leaving};
-use moo_task::moo_machine::verb::State;
 use moo_task::outcome::{End, Outcome};
 use moo_task::running::Running;
 use std::alloc::{AllocError, Global};
@@ -63,26 +62,5 @@ pub fn resume(task: &mut Running, frame: Frame)
     let ticks = task.frame.state.ticks;
     let left = mem::replace(&mut task.frame, frame);
     task.frame.state.ticks = ticks;
-    leave_room(task, left);
-}
-
-// A verb that has returned leaves its room.
-#[inline(always)]
-fn leave_room(task: &mut Running, left: Frame)
-    ensures { task.new ≡ task.old }
-{
-    let Frame {
-        call: _call,
-        start,
-        program: _program,
-        further: _further,
-        state,
-    } = left;
-    let State {
-        place: _,
-        operands,
-        slots,
-        ticks: _,
-    } = state;
-    task.outer.leave_room(slots, operands, start);
+    task.outer.leave_room(left);
 }

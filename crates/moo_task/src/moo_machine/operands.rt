@@ -1,5 +1,5 @@
 //! The operands of a verb under way.
-ghost use Rattle.std.specs.Prelude.{◌≡◌, ◌<◌, ◌≤◌, ◌+◌, ◌^◌, [], ◌∷◌, length, drop, take, reverse, map, OnOk, OnErr, MatchOption, IfOk, IsTrue, vec_len, vec_capacity};
+ghost use Rattle.std.specs.Prelude.{◌≡◌, ◌<◌, ◌≤◌, ◌+◌, ◌^◌, [], ◌∷◌, length, drop, take, reverse, map, OnOk, OnErr, MatchOption, IfOk, vec_len, vec_capacity};
 ghost use Rattle.moo_value.specs.Answers.{answer_of};
 ghost use Rattle.spec_moo.specs.Effects.Lists.{first_held, length_in};
 ghost use Rattle.moo_code.specs.Performing.{onto, from_height};
@@ -75,15 +75,8 @@ impl Operands {
         Ok(())
     }
 
-    /// Whether there is none.
-    #[inline(always)]
-    pub fn is_empty(&self) -> bool
-        ensures { IsTrue result → self.now ≡ [] }
-    {
-        self.values.is_empty()
-    }
-
     /// How many there are.
+    #[inline(always)]
     pub fn len(&self) -> usize
         ensures { result ≡ length self.now }
     {

@@ -1,6 +1,8 @@
 //! Calls of verbs (Programmer's Manual, "Calling Built-in Functions and Other Verbs").
 ghost use Rattle.std.specs.Prelude.{◌≡◌, ◌<◌, ◌+◌, ◌^◌, ◌∷◌, true, drop, codes, IfOk, OnOk, IfSome, IsTrue, None};
-ghost use Rattle.spec_value.specs.Datum.{list, text as text_of, Data, Text as TextOf, same_text};
+ghost use Rattle.spec_value.specs.Datum.{list, item, no_data, text as text_of, Data, Text as TextOf, same_text};
+ghost use Rattle.spec_value.specs.Places.{length_of_list};
+ghost use Rattle.local_code.specs.Arguments.{HasArgument};
 ghost use Rattle.spec_world.specs.World.{World};
 ghost use Rattle.spec_moo.specs.Scene.{Scene};
 ghost use Rattle.spec_moo.specs.Calling.{verb_call};
@@ -12,10 +14,11 @@ ghost use Rattle.moo_task.specs.Shown.{Around, here};
 ghost use Rattle.rules.specs.Lines.{AreAgreeing};
 ghost use Rattle.rules.specs.Calling.{call_effect};
 ghost use Rattle.view.specs.Law.{Goes, Lasts, Tells};
-ghost use Rattle.running.specs.Called.{items_of, running, effect_of, shown_called, weighed_effect, Calls, HasList, HasCall, IsCalled, IsVerbOf, callee_of, called_as};
+ghost use Rattle.running.specs.Called.{items_of, running, effect_of, shown_called, weighed_effect, Calls, HasList, HasCall, IsCalled, IsCalledWithOne, IsVerbOf, callee_of, called_as};
 ghost use Rattle.running.specs.Calls.{AreArguments};
 
 use crate::moo_asking::functions::drop_one;
+use local_code::moo_run::top::is_empty_list;
 use moo_program::program::Program;
 use moo_task::moo_machine::call::Call;
 use moo_task::moo_machine::operands::Operands;
@@ -26,7 +29,7 @@ use moo_value::text::Text;
 use moo_value::value::{Shown, Value};
 use rules::access::calling::{called_verb, passed_verb};
 use rules::inherit::verb::{FoundVerb, find_lent, find_verb};
-use std::alloc::AllocError;
+use std::alloc::{AllocError, Global};
 use step_deeds::calling::callee;
 use view::law::View;
 use view::verb::Verb;
@@ -323,6 +326,98 @@ pub fn are_arguments(arguments: &Value) -> bool
         Shown::List(_) => arguments.weight() <= WEIGHT_LIMIT,
         _ => false,
     }
+}
+
+/// Who runs the verb that is named by the object and the word below an empty list, on top of which is its only argument, with its program, if one is found and
+/// the argument is light enough.
+#[inline(always)]
+pub fn called_by_four<V: View>(
+    view: &mut V,
+    operands: &Operands,
+) -> Result<Option<(Callee, Program)>, AllocError>
+    requires home { V.holds view.old (V.home view.old) }
+    requires well_formed { AreAgreeing V.holds V.now view.old }
+    ensures lasts { Lasts V.holds V.home V.anchor view.old view.new result }
+    ensures held { IfOk result (λ o. IfSome o (λ d. HasArgument operands.now)) }
+    ensures left { IfOk result (λ o. Tells V.holds V.now view.old view.new (λ w. IfSome o (λ d. IsCalledWithOne w operands.now d.0 d.1))) }
+{
+    let Some([object, word, arguments, argument]) = operands.top(4) else {
+        return Ok(None);
+    };
+    if argument.weight() >= WEIGHT_LIMIT || !is_empty_list(arguments) {
+        return Ok(None);
+    }
+    match (object.shown(), word.as_text()) {
+        (Shown::Object(object), Some(word)) => verb_on(view, object, word.as_str()),
+        _ => Ok(None),
+    }
+}
+
+/// Takes the word and the only argument of a call, with the empty list between them and the object below.
+#[inline(always)]
+pub fn take_argument(operands: &mut Operands) -> (Text, Value)
+    requires { HasArgument operands.old }
+    ensures taken { operands.old ≡ result.1 ∷ list no_data ∷ text_of result.0 ∷ drop 3 operands.old }
+    ensures rest { operands.new ≡ drop 4 operands.old }
+{
+    let Some(argument) = operands.pop() else {
+        unreachable!();
+    };
+    drop_one(operands);
+    let Some(word) = operands.pop() else {
+        unreachable!();
+    };
+    drop_one(operands);
+    match word.into_text() {
+        Ok(word) => (word, argument),
+        Err(_) => unreachable!(),
+    }
+}
+
+/// A list of one item, in the place of one that is spare, if that has one item too.
+#[inline(always)]
+pub fn list_of_one(alloc: Global, spare: Option<Value>, value: Value) -> Result<Value, AllocError>
+    ensures { IfOk result (λ v. v ≡ list (item value no_data)) }
+{
+    let Some(held) = spare else {
+        return new_list(alloc, value);
+    };
+    if has_one_item(&held) {
+        return with_instead(held, value);
+    }
+    new_list(alloc, value)
+}
+
+// Whether a value is a list of one item.
+#[inline(always)]
+fn has_one_item(value: &Value) -> bool
+    ensures { IsTrue result → length_of_list value.now ≡ 1 }
+{
+    match value.shown() {
+        Shown::List(items) => items.len() == 1,
+        _ => false,
+    }
+}
+
+// A list of one item gets another one in the place of that.
+#[tactic(auto, using(crate::proofs::Entering::one_instead))]
+#[inline(always)]
+fn with_instead(held: Value, value: Value) -> Result<Value, AllocError>
+    requires { length_of_list held ≡ 1 }
+    ensures { IfOk result (λ v. v ≡ list (item value no_data)) }
+{
+    let mut held = held;
+    let _before = held.replace(0, value)?;
+    Ok(held)
+}
+
+#[inline(never)]
+fn new_list(alloc: Global, value: Value) -> Result<Value, AllocError>
+    ensures { IfOk result (λ v. v ≡ list (item value no_data)) }
+{
+    let mut list = Value::list(Vec::new(alloc))?;
+    list.push(value)?;
+    Ok(list)
 }
 
 /// Takes the word and the arguments of a call, with the object below them.

@@ -19,7 +19,6 @@ use moo_task::deeds::Deeds;
 use moo_task::effect::Waiting;
 use moo_task::frame::Frame;
 use moo_task::moo_machine::leaving::{Failure, Traced};
-use moo_task::moo_machine::verb::State;
 use moo_task::outcome::End;
 use moo_task::outers::Outers;
 use moo_task::room::Room;
@@ -80,20 +79,7 @@ fn leave<N: Natives>(natives: &mut N, task: Running) {
         frame,
         outer: _outer,
     } = task;
-    let Frame {
-        call: _call,
-        start,
-        program: _program,
-        further: _further,
-        state,
-    } = frame;
-    let State {
-        place: _,
-        operands,
-        slots,
-        ticks: _,
-    } = state;
-    natives.leave_room(Room::left(slots, operands, start));
+    natives.leave_room(Room::left(frame));
 }
 
 // A task that has ended by itself.

@@ -44,6 +44,7 @@ LOOPS = [
     by_thousands("join", 's = s + "x", texts of up to 1,000', sized(9, 1), ['s = "";', *loop(1000, ['s = s + "x";'])], "length(s)"),
     by_thousands("put", "x[i] = i, a list of 1,000", sized(13, 1), loop(1000, ["x[i] = i;"]), "x[1000]", ["x = this.l;"]),
     repeated("call", "this:leaf(), a verb without statements", sized(2400, 10), 10, "this:leaf();", sized(2400, 10)),
+    repeated("next", "this:next(i), a verb that gives one more", sized(600, 10), 10, "this:next(i);", sized(600, 10)),
     repeated("length", "length(l)", sized(2700, 10), 10, "length(l);", "length(l)", ["l = this.l;"]),
 ]
 FIB = ["n = args[1];", "if (n < 2)", "  return n;", "endif", "return this:fib(n - 1) + this:fib(n - 2);"]
@@ -65,6 +66,7 @@ def world_of(lines, most=0):
     world.room.defines.update(n=0, l=[0] * 1000, most=most)
     world.room.verb("try", lines)
     world.room.verb("leaf", [])
+    world.room.verb("next", ["return args[1] + 1;"])
     world.room.verb("fib", FIB)
     return world.write("world")
 

@@ -11,6 +11,10 @@ end
 function Room:leaf()
 end
 
+function Room:next(n)
+    return n + 1
+end
+
 function Room:fib(n)
     if n < 2 then return n end
     return self:fib(n - 1) + self:fib(n - 2)
@@ -96,6 +100,14 @@ function loops.call(turns)
     local this = Room.new()
     for i = 1, turns do
         this:leaf(); this:leaf(); this:leaf(); this:leaf(); this:leaf(); this:leaf(); this:leaf(); this:leaf(); this:leaf(); this:leaf()
+    end
+    return turns
+end
+
+function loops.next(turns)
+    local this = Room.new()
+    for i = 1, turns do
+        this:next(i); this:next(i); this:next(i); this:next(i); this:next(i); this:next(i); this:next(i); this:next(i); this:next(i); this:next(i)
     end
     return turns
 end

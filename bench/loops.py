@@ -13,6 +13,9 @@ class Room:
     def leaf(self):
         pass
 
+    def next(self, n):
+        return n + 1
+
     def fib(self, n):
         if n < 2:
             return n
@@ -93,6 +96,13 @@ def call(turns):
     return turns
 
 
+def next_of(turns):
+    this = Room()
+    for i in range(turns):
+        this.next(i); this.next(i); this.next(i); this.next(i); this.next(i); this.next(i); this.next(i); this.next(i); this.next(i); this.next(i)
+    return turns
+
+
 def fib(turns):
     return Room().fib(turns)
 
@@ -123,7 +133,7 @@ def find(levels, others=0):
 
 
 LOOPS = {it.__name__: it for it in (nothing, add, count, read, write, append, join, put, call, fib, length)}
-LOOPS |= {"inherit1": inherit(1), "inherit4": inherit(4), "inherit16": inherit(16), "find1": find(1), "find8": find(8), "classes": find(6, 40)}
+LOOPS |= {"next": next_of, "inherit1": inherit(1), "inherit4": inherit(4), "inherit16": inherit(16), "find1": find(1), "find8": find(8), "classes": find(6, 40)}
 
 if __name__ == "__main__":
     given = None

@@ -55,6 +55,7 @@ fn run(name: &str, steps: usize, turns: usize) {
         "join" => join,
         "put" => put,
         "call" => call,
+        "next" => next,
         "fib" => |n| fib(n as i64),
         "length" => length,
         "inherit1" => |turns| inherit(1, turns),
@@ -153,6 +154,21 @@ fn leaf(this: i32) {
 fn call(turns: usize) -> i64 {
     for _ in 0..10 * turns {
         leaf(black_box(3));
+    }
+    turns as i64
+}
+
+#[inline(never)]
+fn next_of(this: i32, number: i64) -> i64 {
+    black_box(this);
+    number + 1
+}
+
+fn next(turns: usize) -> i64 {
+    for i in 0..turns as i64 {
+        for _ in 0..10 {
+            black_box(next_of(black_box(3), black_box(i)));
+        }
     }
     turns as i64
 }

@@ -15,3 +15,4 @@ pub mod Arguments
 pub mod Numbers
 pub mod Asked
 pub mod NamedCalls
+pub mod Constants

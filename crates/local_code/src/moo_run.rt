@@ -6,6 +6,7 @@ pub mod argument;
 pub mod asked;
 pub mod building;
 pub mod calling;
+pub mod constant;
 mod item;
 mod joining;
 mod numbers;

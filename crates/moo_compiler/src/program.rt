@@ -181,6 +181,14 @@ impl Program {
         }
     }
 
+    /// The same program with its code, lent, if it was asked for before.
+    #[inline(always)]
+    pub fn at_hand(&self) -> Option<&Whole>
+        ensures { IfSome result (λ whole. whole.now ≡ self.now) }
+    {
+        self.kept.whole.get()
+    }
+
     // The same program with its code, which is kept, unless another thread keeps it.
     #[cold]
     #[inline(never)]

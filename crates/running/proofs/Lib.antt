@@ -8,3 +8,4 @@ pub mod Arguments
 pub mod Steps
 pub mod AskingOn
 pub mod Named
+pub mod Replies

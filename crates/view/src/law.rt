@@ -5,13 +5,13 @@ ghost use Rattle.spec_world.specs.Inherit.{slot_at};
 ghost use Rattle.spec_world.specs.Questions.{ask, apply, header_at, verbs_at, about_header, about_slot, about_verbs};
 ghost use Rattle.view.specs.Meanings.{question_of, answer_of, change_of};
 ghost use Rattle.view.specs.Law.{Goes, Keeps, Lasts, Tells};
-ghost use Rattle.view.specs.Kin.{IsKin};
+ghost use Rattle.view.specs.Kin.{IsKin, IsCalledVerb, IsCalledAt};
 ghost use Rattle.view.specs.Writing.{IsReadBy, IsWrittenBy};
 
 use crate::change::Change;
 use crate::question::{Answer, Question};
 use crate::slot::Slot;
-use crate::verb::Verbs;
+use crate::verb::{Verb, Verbs};
 use moo_value::text::Text;
 use moo_value::value::Value;
 use std::alloc::AllocError;
@@ -114,6 +114,21 @@ pub trait View {
     {
         None
     }
+
+    /// The verb that a word names on an object when code calls it, and the object that it stands on, lent, if the view keeps that at hand. It takes no question.
+    #[inline(always)]
+    fn verb_at_hand(&self, _object: i32, _word: &Text) -> Option<(i32, &Verb)>
+        ensures { IfSome result (λ f. (w : World) → holds self.now w → IsCalledVerb (now self.now w) _object _word.now f.0 f.1.now) }
+    {
+        None
+    }
+
+    /// A view may keep the verb that a word names on an object when code calls it, by where it stands.
+    #[inline(always)]
+    fn keep_verb(&mut self, _object: i32, _word: &Text, _definer: i32, _place: usize)
+        requires { (w : World) → holds self.old w → IsCalledAt (now self.old w) _object _word.now _definer _place }
+        ensures { self.new ≡ self.old }
+    {}
 
     /// A property's slot on an object gets another value for a programmer, if there is the slot and the programmer owns it or all may write it; whether it
     /// did. Else nothing changes. Case is ignored. A view that has the slot at hand looks for it but once.

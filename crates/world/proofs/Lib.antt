@@ -22,5 +22,6 @@ pub mod LinksKept
 pub mod DueWalks
 pub mod Alike
 pub mod AtHand
+pub mod Calling
 pub mod Written
 pub mod Marked

@@ -1,6 +1,7 @@
 pub mod Besides
 pub mod Late
 pub mod Near
+pub mod Called
 pub mod Listed
 pub mod Seen
 pub mod Sought

@@ -20,7 +20,7 @@ use view::changes::Changes;
 use view::law::View;
 use view::question::{Answer, Question};
 use view::slot::Slot;
-use view::verb::Verbs;
+use view::verb::{Verb, Verbs};
 
 /// A view of a world, which is borrowed and stays as it is. It keeps the changes, and nothing of what was read.
 pub struct Alone<'w> {
@@ -140,6 +140,16 @@ impl<'w> View for Alone<'w> {
     #[inline(always)]
     fn kin_at_hand(&self, object: i32) -> Option<(i32, &Verbs)> {
         self.overlay.kin(object)
+    }
+
+    #[inline(always)]
+    fn verb_at_hand(&self, object: i32, word: &Text) -> Option<(i32, &Verb)> {
+        self.overlay.verb_at_hand(object, word)
+    }
+
+    #[inline(always)]
+    fn keep_verb(&mut self, object: i32, word: &Text, definer: i32, place: usize) {
+        self.overlay.keep_verb(object, word, definer, place)
     }
 
     #[inline(always)]

@@ -11,6 +11,7 @@
 pub mod alone;
 mod answers;
 mod asked;
+mod called;
 mod choice;
 pub mod count;
 pub mod draft;

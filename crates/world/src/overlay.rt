@@ -6,7 +6,7 @@ ghost use Rattle.spec_world.specs.World.{World as Plain};
 ghost use Rattle.spec_world.specs.Inherit.{slot_at};
 ghost use Rattle.spec_world.specs.Questions.{ask, apply, apply_all, header_at, verbs_at};
 ghost use Rattle.view.specs.Facets.{DoesLast};
-ghost use Rattle.view.specs.Kin.{IsKin};
+ghost use Rattle.view.specs.Kin.{IsKin, IsCalledVerb, IsCalledAt};
 ghost use Rattle.view.specs.Meanings.{question_of, answer_of, change_of};
 ghost use Rattle.view.specs.Writing.{MayWrite, GoesFurther, IsReadBy};
 ghost use Rattle.world.specs.Late.{is_light as is_light_change, AllLight};
@@ -15,6 +15,7 @@ ghost use Rattle.world.specs.Amended.{amended_now};
 ghost use Rattle.world.specs.Trace.{AnswersAlike};
 
 use crate::answers::copied;
+use crate::called::CalledVerbs;
 use crate::draft::Draft;
 use crate::late::{answer_after, asked_after, is_light, slot_with};
 use crate::near::{Near, last_place, lent, value_at};
@@ -26,7 +27,7 @@ use view::change::Change;
 use view::changes::Changes;
 use view::question::{Answer, Question};
 use view::slot::Slot;
-use view::verb::Verbs;
+use view::verb::{Verb, Verbs};
 
 // So many changes are asked through, one after another, before records are made of them.
 const FEW: usize = 16;
@@ -41,6 +42,8 @@ pub(crate) struct Overlay<'h> {
     changes: Changes,
     // A slot of the home that was asked for, where no records are made of the changes.
     near: Option<Near<'h>>,
+    // Verbs of the home that were called.
+    called: CalledVerbs<'h>,
     alloc: Global,
 }
 
@@ -53,6 +56,7 @@ impl<'h> Drop for Overlay<'h> {
             seen: _seen,
             changes: _changes,
             near: _,
+            called: _,
             alloc: _alloc,
         } = self;
     }
@@ -63,6 +67,7 @@ impl<'h> Model for Overlay<'h> {
     ghost use Rattle.std.specs.Option.{unwrap_or};
     ghost use Rattle.world.specs.Late.{AllLight};
     ghost use Rattle.world.specs.Near.{IsNear};
+    ghost use Rattle.world.specs.Called.{AreCalled};
     ghost use Rattle.world.specs.Amended.{Amended, amended_code};
     ghost use Rattle.world.specs.Trace.{AnswersAlike};
     ghost use Rattle.spec_world.specs.Questions.{apply_all};
@@ -73,7 +78,7 @@ impl<'h> Model for Overlay<'h> {
 
     ghost view = { λ a. record { home = a.home.now; changes = a.changes } };
 
-    ghost invariant = { λ a. (unwrap_or a.fork (apply_all a.changes a.home.now) ≡ apply_all a.changes a.home.now) × (a.fork ≡ None → AllLight a.changes) × (a.seen ≡ false → AnswersAlike (apply_all a.changes a.home.now) a.home.now) × IfSome a.near (λ n. (a.fork ≡ None) × IsNear a.home.now a.changes n.object n.name.now n.slot.now n.place) };
+    ghost invariant = { λ a. (unwrap_or a.fork (apply_all a.changes a.home.now) ≡ apply_all a.changes a.home.now) × (a.fork ≡ None → AllLight a.changes) × (a.seen ≡ false → AnswersAlike (apply_all a.changes a.home.now) a.home.now) × IfSome a.near (λ n. (a.fork ≡ None) × IsNear a.home.now a.changes n.object n.name.now n.slot.now n.place) × AreCalled a.home.now a.called };
 }
 
 impl<'h> Overlay<'h> {
@@ -89,6 +94,7 @@ impl<'h> Overlay<'h> {
             seen: false,
             changes,
             near: None,
+            called: CalledVerbs::none(),
             alloc,
         }
     }
@@ -105,6 +111,7 @@ impl<'h> Overlay<'h> {
             seen: _,
             changes,
             near: _,
+            called: _,
             alloc: _,
         } = self;
         (changes, fork)
@@ -238,6 +245,30 @@ impl<'h> Overlay<'h> {
                 Some((parent, verbs))
             }
         }
+    }
+
+    /// The verb that a word names on an object when code calls it, with the object that it stands on, lent, if it was kept, unless records are made of the changes.
+    #[inline(always)]
+    pub(crate) fn verb_at_hand(&self, object: i32, word: &Text) -> Option<(i32, &Verb)>
+        ensures { IfSome result (λ f. IsCalledVerb (amended_now self.now) object word.now f.0 f.1.now) }
+    {
+        if self.fork.is_some() {
+            return None;
+        }
+        let found = self.called.get(object, word)?;
+        Some((found.definer, found.verb))
+    }
+
+    /// Keeps the verb that a word names on an object when code calls it, by where it stands, unless records are made of the changes.
+    #[inline(always)]
+    pub(crate) fn keep_verb(&mut self, object: i32, word: &Text, definer: i32, place: usize)
+        requires { IsCalledAt (amended_now self.old) object word.now definer place }
+        ensures { self.new ≡ self.old }
+    {
+        if self.fork.is_some() {
+            return;
+        }
+        self.called = self.called.with(self.home, object, word, definer, place);
     }
 
     /// The answer now to a question, to which the home has this answer.

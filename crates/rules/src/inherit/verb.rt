@@ -4,6 +4,7 @@ ghost use Rattle.spec_world.specs.World.{World, object_at};
 ghost use Rattle.spec_world.specs.Inherit.{ancestors};
 ghost use Rattle.spec_world.specs.VerbsSought.{find_verb as find_verb_of, find_command_verb as find_command_verb_of, first_on, first_passing, own_first, wants as wants_of, object_fits as object_fits_of, preposition_fits as preposition_fits_of};
 ghost use Rattle.view.specs.Law.{Lasts, Tells};
+ghost use Rattle.view.specs.Kin.{IsCalledAt, IsCalledVerb};
 ghost use Rattle.view.specs.Parts.{object_part_of, preposition_part_of};
 ghost use Rattle.rules.specs.Lines.{AreAgreeing};
 ghost use Rattle.rules.specs.Sought.{parts_of, passes as passes_of, first_among as first_among_of, placed};
@@ -83,19 +84,34 @@ pub fn find_verb<V: View>(
     find(view, object, word, &Purpose::Call)
 }
 
-/// The verb that a word names on an object when code calls it, with the object that it stands on, lent, if all objects up to that one are at hand.
+/// A verb that is lent.
+#[derive(Clone, Copy)]
+pub struct LentVerb<'v> {
+    /// The object that it stands on.
+    pub definer: i32,
+    /// Its place among the verbs there.
+    pub place: usize,
+    pub verb: &'v Verb,
+}
+
+/// The verb that a word names on an object when code calls it, lent, if all objects up to the one that it stands on are at hand.
 #[inline(always)]
-pub fn find_lent<'v, V: View>(view: &'v V, object: i32, word: &str) -> Option<(i32, &'v Verb)>
+pub fn find_lent<'v, V: View>(view: &'v V, object: i32, word: &str) -> Option<LentVerb<'v>>
     requires home { V.holds view.now (V.home view.now) }
     requires well_formed { AreAgreeing V.holds V.now view.now }
-    ensures { IfSome result (λ f. (w : World) → V.holds view.now w → find_verb_of (V.now view.now w) object word.now ≡ Some (record { definer = f.0; verb = f.1.now })) }
+    ensures { IfSome result (λ f. (w : World) → V.holds view.now w → IsCalledVerb (V.now view.now w) object word.now f.definer f.verb.now
+        × IsCalledAt (V.now view.now w) object word.now f.definer f.place) }
 {
     let mut next = Some(object);
     while let Some(at) = next {
         let (parent, verbs) = view.kin_at_hand(at)?;
         let place = first_place(verbs, word, &Purpose::Call);
         if let Some(place) = place {
-            return Some((at, &verbs.as_slice()[place]));
+            return Some(LentVerb {
+                definer: at,
+                place,
+                verb: &verbs.as_slice()[place],
+            });
         }
         next = not_negative(parent);
     }

@@ -14,10 +14,13 @@ ghost use Rattle.moo_task.specs.Shown.{Around, here};
 ghost use Rattle.rules.specs.Lines.{AreAgreeing};
 ghost use Rattle.rules.specs.Calling.{call_effect};
 ghost use Rattle.view.specs.Law.{Goes, Lasts, Tells};
-ghost use Rattle.running.specs.Called.{items_of, running, effect_of, shown_called, weighed_effect, Calls, HasList, HasCall, IsCalled, IsCalledWithOne, IsVerbOf, callee_of, called_as};
+ghost use Rattle.local_code.specs.Constants.{IsConstant};
+ghost use Rattle.view.specs.Kin.{IsCalledAt};
+ghost use Rattle.running.specs.Called.{items_of, running, effect_of, shown_called, weighed_effect, Calls, HasList, HasCall, IsAnswered, IsCalled, IsCalledWithOne, IsReply, IsReplyOf, IsVerbOf, callee_of, called_as};
 ghost use Rattle.running.specs.Calls.{AreArguments};
 
 use crate::moo_asking::functions::drop_one;
+use local_code::moo_run::constant::{Constant, constant_of};
 use local_code::moo_run::top::is_empty_list;
 use moo_program::program::Program;
 use moo_task::moo_machine::call::Call;
@@ -253,7 +256,7 @@ pub fn called_by_three<V: View>(
         return Ok(None);
     }
     match (object.shown(), word.as_text()) {
-        (Shown::Object(object), Some(word)) => verb_on(view, object, word.as_str()),
+        (Shown::Object(object), Some(word)) => verb_on(view, object, word),
         _ => Ok(None),
     }
 }
@@ -263,58 +266,167 @@ pub fn called_by_three<V: View>(
 pub fn verb_on<V: View>(
     view: &mut V,
     object: i32,
-    word: &str,
+    word: &Text,
 ) -> Result<Option<(Callee, Program)>, AllocError>
     requires home { V.holds view.old (V.home view.old) }
     requires well_formed { AreAgreeing V.holds V.now view.old }
     ensures lasts { Lasts V.holds V.home V.anchor view.old view.new result }
     ensures left { IfOk result (λ o. Tells V.holds V.now view.old view.new (λ w. IfSome o (λ d. IsVerbOf w object word.now d.0 d.1))) }
 {
-    let lent = verb_lent(view, object, word)?;
-    if let Some(called) = lent {
-        return Ok(Some(called));
+    let reply = reply_on(view, object, word, false)?;
+    match reply {
+        Some(Reply::Runs(callee, program)) => Ok(Some((callee, program))),
+        _ => Ok(None),
     }
-    verb_sought(view, object, word)
+}
+
+/// What a call of a verb comes to.
+#[derive(Drop)]
+pub enum Reply {
+    /// The verb only gives a value.
+    Gives(Constant),
+    /// It runs.
+    Runs(Callee, Program),
+}
+
+/// What a call of the verb comes to that a word names on an object, if one is found. That it only gives a value is told where that is wanted and at once known.
+#[inline(always)]
+pub fn reply_on<V: View>(
+    view: &mut V,
+    object: i32,
+    word: &Text,
+    gives: bool,
+) -> Result<Option<Reply>, AllocError>
+    requires home { V.holds view.old (V.home view.old) }
+    requires well_formed { AreAgreeing V.holds V.now view.old }
+    ensures lasts { Lasts V.holds V.home V.anchor view.old view.new result }
+    ensures left { IfOk result (λ o. IsAnswered V.holds V.now view.old view.new object word.now o) }
+{
+    let at_hand = reply_at_hand(view, object, word, gives)?;
+    if let Some(reply) = at_hand {
+        return Ok(Some(reply));
+    }
+    reply_sought(view, object, word, gives)
+}
+
+// The same of a verb that the view keeps at hand.
+#[inline(always)]
+fn reply_at_hand<V: View>(
+    view: &V,
+    object: i32,
+    word: &Text,
+    gives: bool,
+) -> Result<Option<Reply>, AllocError>
+    ensures { IfOk result (λ o. IfSome o (IsReply V.holds V.now view.now view.now object word.now)) }
+{
+    let Some((definer, verb)) = view.verb_at_hand(object, word) else {
+        return Ok(None);
+    };
+    let reply = reply_of(object, definer, verb, gives)?;
+    Ok(Some(reply))
+}
+
+// The same of any verb. One that can be lent is then kept at hand.
+#[inline(never)]
+fn reply_sought<V: View>(
+    view: &mut V,
+    object: i32,
+    word: &Text,
+    gives: bool,
+) -> Result<Option<Reply>, AllocError>
+    requires home { V.holds view.old (V.home view.old) }
+    requires well_formed { AreAgreeing V.holds V.now view.old }
+    ensures lasts { Lasts V.holds V.home V.anchor view.old view.new result }
+    ensures left { IfOk result (λ o. IsAnswered V.holds V.now view.old view.new object word.now o) }
+{
+    let lent = reply_lent(view, object, word, gives)?;
+    match lent {
+        Some(lent) => {
+            view.keep_verb(object, word, lent.definer, lent.place);
+            Ok(Some(lent.reply))
+        }
+        None => reply_asked(view, object, word, gives),
+    }
+}
+
+// What a call comes to of a verb that is lent, and where that stands.
+#[derive(Drop)]
+struct LentReply {
+    reply: Reply,
+    definer: i32,
+    place: usize,
 }
 
 // The same of a verb that is at hand, with all objects up to it.
 #[inline(always)]
-fn verb_lent<V: View>(
+fn reply_lent<V: View>(
     view: &V,
     object: i32,
-    word: &str,
-) -> Result<Option<(Callee, Program)>, AllocError>
+    word: &Text,
+    gives: bool,
+) -> Result<Option<LentReply>, AllocError>
     requires home { V.holds view.now (V.home view.now) }
     requires well_formed { AreAgreeing V.holds V.now view.now }
-    ensures { IfOk result (λ o. IfSome o (λ d. (w : World) → V.holds view.now w → IsVerbOf (V.now view.now w) object word.now d.0 d.1)) }
+    ensures reply { IfOk result (λ o. IfSome o (λ l. IsReply V.holds V.now view.now view.now object word.now l.reply)) }
+    ensures place { IfOk result (λ o. IfSome o (λ l. (w : World) → V.holds view.now w → IsCalledAt (V.now view.now w) object word.now l.definer l.place)) }
 {
-    let Some((definer, verb)) = find_lent(view, object, word) else {
+    let Some(lent) = find_lent(view, object, word.as_str()) else {
         return Ok(None);
     };
-    let program = verb.program.whole()?;
-    let callee = Callee::of(object, definer, verb);
-    Ok(Some((callee, program)))
+    let reply = reply_of(object, lent.definer, lent.verb, gives)?;
+    Ok(Some(LentReply {
+        reply,
+        definer: lent.definer,
+        place: lent.place,
+    }))
 }
 
-// The same of any verb.
+// The same of any verb, which is asked for.
 #[inline(never)]
-fn verb_sought<V: View>(
+fn reply_asked<V: View>(
     view: &mut V,
     object: i32,
-    word: &str,
-) -> Result<Option<(Callee, Program)>, AllocError>
+    word: &Text,
+    gives: bool,
+) -> Result<Option<Reply>, AllocError>
     requires home { V.holds view.old (V.home view.old) }
     requires well_formed { AreAgreeing V.holds V.now view.old }
     ensures lasts { Lasts V.holds V.home V.anchor view.old view.new result }
-    ensures left { IfOk result (λ o. Tells V.holds V.now view.old view.new (λ w. IfSome o (λ d. IsVerbOf w object word.now d.0 d.1))) }
+    ensures left { IfOk result (λ o. IsAnswered V.holds V.now view.old view.new object word.now o) }
 {
-    let found = find_verb(view, object, word)?;
+    let found = find_verb(view, object, word.as_str())?;
     let Some(found) = found else {
         return Ok(None);
     };
-    let program = found.verb().program.whole()?;
-    let callee = Callee::of(object, found.definer(), found.verb());
-    Ok(Some((callee, program)))
+    let reply = reply_of(object, found.definer(), found.verb(), gives)?;
+    Ok(Some(reply))
+}
+
+// What a call on an object comes to of a verb that stands on an object.
+#[inline(always)]
+fn reply_of(object: i32, definer: i32, verb: &Verb, gives: bool) -> Result<Reply, AllocError>
+    ensures { IfOk result (λ r. IsReplyOf r (callee_of object (record { definer = definer; verb = verb.now })) verb.now.program) }
+{
+    if gives {
+        let constant = constant_at_hand(verb)?;
+        if let Some(constant) = constant {
+            return Ok(Reply::Gives(constant));
+        }
+    }
+    let program = verb.program.whole()?;
+    let callee = Callee::of(object, definer, verb);
+    Ok(Reply::Runs(callee, program))
+}
+
+// What a verb gives that does nothing else, if its code is at hand.
+#[inline(always)]
+fn constant_at_hand(verb: &Verb) -> Result<Option<Constant>, AllocError>
+    ensures { IfOk result (λ o. IfSome o (λ g. IsConstant verb.now.program g.value g.ticks)) }
+{
+    match verb.program.at_hand() {
+        Some(program) => constant_of(program),
+        None => Ok(None),
+    }
 }
 
 /// Whether a value is a list of arguments that does not weigh too much.
@@ -348,7 +460,7 @@ pub fn called_by_four<V: View>(
         return Ok(None);
     }
     match (object.shown(), word.as_text()) {
-        (Shown::Object(object), Some(word)) => verb_on(view, object, word.as_str()),
+        (Shown::Object(object), Some(word)) => verb_on(view, object, word),
         _ => Ok(None),
     }
 }

@@ -1,6 +1,7 @@
-use Rattle.std.proofs.Common.{◌≡◌, rules, w32, to_z, of_z}
+use Rattle.std.proofs.Common.{◌≡◌, ℤ, sym, subst, rules, w32, to_z, of_z}
 use Rattle.std.proofs.lemmas.Int.{to_z-of_z}
-use Rattle.rules.proofs.Lent.{lent_found, lent_above, lent_nearer}
+use Rattle.view.specs.Kin.{IsCalledAt, IsCalledVerb}
+use Rattle.rules.proofs.Lent.{lent_at, lent_above, lent_nearer}
 use Rattle.rules.proofs.inherit.verb.find_lent.Goals as goal
 
 pub returns-in-Some-place : goal.returns-in-Some-place
@@ -11,7 +12,13 @@ returns-in-Some-place g c = λ w is.
     let kin = (rw at at c.in_ok-parent.ensures) w is in
     let so = (rw (c.in-Some.is, object) at c.loop-next.invariant) w is in
     let first = c.in-Some-place.ensures.found c.in-Some.at in
-    rw at (lent_found (view.now c.args.view.now w) c.args.word.now c.in-Some.at c.in_ok-parent.parent c.in_ok-parent.verbs.now (c.requires.well_formed w is).objects kin c.args.object c.in-Some-place.place c.index-as_slice-place.result so first c.in-Some-place.ensures.inside (rw c.as_slice.ensures at c.index-as_slice-place.is))
+    let now = view.now c.args.view.now w in
+    let word = c.args.word.now in
+    let verb = c.index-as_slice-place.result in
+    let place = c.in-Some-place.place in
+    subst (λ (o : ℤ). IsCalledVerb now c.args.object word o verb × IsCalledAt now c.args.object word o place) (sym at)
+    (lent_at now word c.in-Some.at c.in_ok-parent.parent c.in_ok-parent.verbs.now (c.requires.well_formed w is).objects kin c.args.object place verb so first c.in-Some-place.ensures.inside
+    (rw c.as_slice.ensures at c.index-as_slice-place.is))
 
 pub loop-next-smaller : goal.loop-next-smaller
 loop-next-smaller g c =

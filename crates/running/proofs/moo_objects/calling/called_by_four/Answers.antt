@@ -39,4 +39,4 @@ returns-in-Object-Some-clause-left g c =
     let four : o ∷ word ∷ args ∷ v ∷ [] ≡ reverse (take 4 c.args.operands.now) = search rules in
     let held = has_argument c.args.operands.now o word args v c.in-Object-Some.object c.in-Object-Some.word.now (four_on_top c.args.operands.now o word args v four) c.in-Object-Some.ensures
     c.in-Object-Some.ensures'.some (c.is_empty_list.ensures c.if-not-is_empty_list.false) (small_alone v (omega arith)) in
-    argument_on_top view.holds view.now c.args.view.now c.verb_on.new.view c.args.operands.now held c.verb_on.result (rw (at, c.as_str.ensures) at c.verb_on.ensures.left)
+    argument_on_top view.holds view.now c.args.view.now c.verb_on.new.view c.args.operands.now held c.verb_on.result (rw at at c.verb_on.ensures.left)

@@ -39,4 +39,4 @@ returns-in-Object-Some-clause-left g c =
     let three : o ∷ word ∷ args ∷ [] ≡ reverse (take 3 c.args.operands.now) = search rules in
     let held = has_call c.args.operands.now o word args c.in-Object-Some.object c.in-Object-Some.word.now (three_on_top c.args.operands.now o word args three) c.in-Object-Some.ensures
     c.in-Object-Some.ensures'.some (c.are_arguments.ensures (search rules)) in
-    called_on_top view.holds view.now c.args.view.now c.verb_on.new.view c.args.operands.now held c.verb_on.result (rw (at, c.as_str.ensures) at c.verb_on.ensures.left)
+    called_on_top view.holds view.now c.args.view.now c.verb_on.new.view c.args.operands.now held c.verb_on.result (rw at at c.verb_on.ensures.left)

@@ -20,6 +20,7 @@ invariant_of-self c =
       λ _. revalued_light c.args.value cs ds c.args.place (c.self.invariant.1 none) r,
       λ e. absurd (true≢false e),
       if_some_as _ _ (λ n h. (h.0, revalued_near c.args.value cs ds c.args.place home n.object n.name.now n.slot.now n.place r h.1)) c.self.inside.near c.self.invariant.3,
+      c.self.invariant.4,
     )
 
 pub returns-then-done-clause-done : goal.returns-then-done-clause-done

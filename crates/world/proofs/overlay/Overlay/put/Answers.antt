@@ -18,4 +18,5 @@ invariant_of-self-2 c =
       λ none. let both = c.in_ok-put_on.ensures.light none in light (ap is_some none) both.0 both.1,
       unseen,
       tt,
+      c.self.invariant.4,
     )

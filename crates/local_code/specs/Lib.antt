@@ -16,3 +16,4 @@ pub mod Numbers
 pub mod Asked
 pub mod NamedCalls
 pub mod Constants
+pub mod Aside

@@ -3,6 +3,7 @@
 pub mod ahead;
 pub mod append;
 pub mod argument;
+pub mod aside;
 pub mod asked;
 pub mod building;
 pub mod calling;

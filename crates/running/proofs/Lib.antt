@@ -9,3 +9,4 @@ pub mod Steps
 pub mod AskingOn
 pub mod Named
 pub mod Replies
+pub mod Aside

@@ -3,3 +3,4 @@ pub mod Called
 pub mod Parts
 pub mod Asking
 pub mod Calls
+pub mod Aside

@@ -1,5 +1,6 @@
 -- What a read of a property answers, from what was asked.
 use Rattle.std.proofs.Common.{◌≡◌, ℤ, Bool, true, false, ◌||◌, Option, Some, None, refl, sym, ap, ◌∙◌, if◌then◌else◌}
+use Rattle.std.specs.Prelude.{IfSome}
 use Rattle.spec_value.specs.Datum.{Datum, object, text, Text, ErrorCode, permission_denied}
 use Rattle.spec_value.specs.Answer.{gives, raises}
 use Rattle.spec_world.specs.World.{World, Object, Slot, object_at}
@@ -76,3 +77,14 @@ read_by w who o p v agree r =
     or_true : (b : Bool) → (b || true) ≡ true
     or_true true = refl
     or_true false = refl
+
+-- ---- what is lent
+
+module _ {V B : Type 0} (holds : V → World → Type 0) (now : V → World → World) (view : V) (value : B → Datum) (who o : ℤ) (p : Text) where
+  -- the value of a property that is no built-in one
+  pub lent_read : (r : Option B) → built_in p ≡ None → ((w : World) → holds view w → ObjectsAgree (now view w))
+      → IfSome r (λ v. (w : World) → holds view w → IsReadBy who o p (value v) (now view w))
+      → IfSome r (λ v. (w : World) → holds view w → read_object (now view w) who o p (object_at (now view w) o) ≡ gives (value v))
+  lent_read None plain agree told = told
+  lent_read (Some v) plain agree told = λ w is.
+      of_own (now view w) who o p plain ∙ read_by (now view w) who o p (value v) (agree w is) (told w is)

@@ -130,6 +130,18 @@ pub trait View {
         ensures { self.new ≡ self.old }
     {}
 
+    /// Whether the verb that a word names on an object, which the view keeps at hand, was marked by who called it.
+    #[inline(always)]
+    fn is_marked(&self, _object: i32, _word: &Text) -> bool {
+        false
+    }
+
+    /// The verb that a word names on an object is marked, if the view keeps it at hand. A view may forget that.
+    #[inline(always)]
+    fn mark_verb(&mut self, _object: i32, _word: &Text)
+        ensures { self.new ≡ self.old }
+    {}
+
     /// A property's slot on an object gets another value for a programmer, if there is the slot and the programmer owns it or all may write it; whether it
     /// did. Else nothing changes. Case is ignored. A view that has the slot at hand looks for it but once.
     #[inline(always)]

@@ -153,6 +153,16 @@ impl<'w> View for Alone<'w> {
     }
 
     #[inline(always)]
+    fn is_marked(&self, object: i32, word: &Text) -> bool {
+        self.overlay.is_marked(object, word)
+    }
+
+    #[inline(always)]
+    fn mark_verb(&mut self, object: i32, word: &Text) {
+        self.overlay.mark_verb(object, word)
+    }
+
+    #[inline(always)]
     fn write(
         &mut self,
         programmer: i32,

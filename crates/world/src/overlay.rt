@@ -271,6 +271,20 @@ impl<'h> Overlay<'h> {
         self.called = self.called.with(self.home, object, word, definer, place);
     }
 
+    /// Whether the verb that a word names on an object was marked, if it is kept.
+    #[inline(always)]
+    pub(crate) fn is_marked(&self, object: i32, word: &Text) -> bool {
+        self.called.is_marked(object, word)
+    }
+
+    /// The verb that a word names on an object is marked, if it is kept.
+    #[inline(always)]
+    pub(crate) fn mark_verb(&mut self, object: i32, word: &Text)
+        ensures { self.new ≡ self.old }
+    {
+        self.called = self.called.marked(object, word);
+    }
+
     /// The answer now to a question, to which the home has this answer.
     #[inline(always)]
     pub(crate) fn answer(&self, question: &Question, home: &Answer) -> Result<Answer, AllocError>

@@ -1,6 +1,7 @@
 //! Properties read by programs.
 ghost use Rattle.std.specs.Prelude.{◌≡◌, IfOk, IfSome, OnOk};
 ghost use Rattle.spec_world.specs.World.{World, object_at};
+ghost use Rattle.spec_value.specs.Answer.{gives};
 ghost use Rattle.spec_moo.specs.Properties.{read, read_object, found as found_of};
 ghost use Rattle.moo_value.specs.Answers.{answer_of};
 ghost use Rattle.moo_value.specs.Errors.{code_of};
@@ -65,6 +66,25 @@ pub fn read_by_name<V: View>(
     match property {
         Some(property) => read_built_in(alloc, view, object, property),
         None => read_plain(view, programmer, object, name),
+    }
+}
+
+/// The same, lent, if the view has it at hand, the programmer owns it or all may read it, and it is no built-in one.
+#[inline(always)]
+pub fn lent_by_name<'v, V: View>(
+    view: &'v V,
+    programmer: i32,
+    object: i32,
+    name: &Text,
+) -> Option<&'v Value>
+    requires well_formed { AreAgreeing V.holds V.now view.now }
+    ensures { IfSome result (λ v. (w : World) → V.holds view.now w →
+        read_object (V.now view.now w) programmer object name.now (object_at (V.now view.now w) object) ≡ gives v.now) }
+{
+    let property = named(name.as_str());
+    match property {
+        Some(_) => None,
+        None => view.value_at_hand(programmer, object, name),
     }
 }
 

@@ -40,6 +40,7 @@ LOOPS = [
     counted(sized(7000, 50)),
     repeated("read", "this.n", sized(2700, 10), 10, "this.n;", "this.n", ["this.n = 0;"]),
     repeated("write", "this.n = i", sized(2700, 10), 10, "this.n = i;", "this.n"),
+    repeated("update", "this.n = this.n + 1", sized(900, 10), 10, "this.n = this.n + 1;", "this.n", ["this.n = 0;"]),
     repeated("append", "l = {@l, i}", sized(9000, 100), 1, "l = {@l, i};", "length(l)", ["l = {};"]),
     by_thousands("join", 's = s + "x", texts of up to 1,000', sized(9, 1), ['s = "";', *loop(1000, ['s = s + "x";'])], "length(s)"),
     by_thousands("put", "x[i] = i, a list of 1,000", sized(13, 1), loop(1000, ["x[i] = i;"]), "x[1000]", ["x = this.l;"]),

@@ -73,6 +73,15 @@ function loops.write(turns)
     return this.n
 end
 
+function loops.update(turns)
+    local this = Room.new()
+    for i = 1, turns do
+        this.n = this.n + 1; this.n = this.n + 1; this.n = this.n + 1; this.n = this.n + 1; this.n = this.n + 1
+        this.n = this.n + 1; this.n = this.n + 1; this.n = this.n + 1; this.n = this.n + 1; this.n = this.n + 1
+    end
+    return this.n
+end
+
 function loops.append(turns)
     local l = {}
     for i = 1, turns do l[#l + 1] = i end

@@ -66,6 +66,14 @@ def write(turns):
     return this.n
 
 
+def update(turns):
+    this = Room()
+    for i in range(turns):
+        this.n = this.n + 1; this.n = this.n + 1; this.n = this.n + 1; this.n = this.n + 1; this.n = this.n + 1
+        this.n = this.n + 1; this.n = this.n + 1; this.n = this.n + 1; this.n = this.n + 1; this.n = this.n + 1
+    return this.n
+
+
 def append(turns):
     l = []
     for i in range(1, turns + 1):
@@ -132,7 +140,7 @@ def find(levels, others=0):
     return loop
 
 
-LOOPS = {it.__name__: it for it in (nothing, add, count, read, write, append, join, put, call, fib, length)}
+LOOPS = {it.__name__: it for it in (nothing, add, count, read, write, update, append, join, put, call, fib, length)}
 LOOPS |= {"next": next_of, "inherit1": inherit(1), "inherit4": inherit(4), "inherit16": inherit(16), "find1": find(1), "find8": find(8), "classes": find(6, 40)}
 
 if __name__ == "__main__":

@@ -51,6 +51,7 @@ fn run(name: &str, steps: usize, turns: usize) {
         "count" => count,
         "read" => read,
         "write" => write,
+        "update" => update,
         "append" => append,
         "join" => join,
         "put" => put,
@@ -113,6 +114,14 @@ fn write(turns: usize) -> i64 {
     let mut world = world();
     for i in 0..10 * turns {
         *property(black_box(&mut world), black_box(3), black_box("n")) = (i / 10 + 1) as i64;
+    }
+    *property(&mut world, 3, "n")
+}
+
+fn update(turns: usize) -> i64 {
+    let mut world = world();
+    for _ in 0..10 * turns {
+        *property(black_box(&mut world), black_box(3), black_box("n")) += 1;
     }
     *property(&mut world, 3, "n")
 }

@@ -1,5 +1,5 @@
 -- The built-in properties of the definitions.
-use Rattle.std.specs.Prelude.{ℕ, ◌==◌, ◌||◌, Bool, Option, Some, None}
+use Rattle.std.specs.Prelude.{ℕ, ◌==◌, ◌+◌, ◌||◌, Bool, Option, Some, None}
 use Rattle.spec_value.specs.Datum.{invalid_indirection}
 use Rattle.spec_value.specs.Answer.{Answer, gives, raises}
 use Rattle.spec_world.specs.World.{Object}
@@ -33,10 +33,14 @@ abbrev pub built_in_at : Option Object → BuiltInProperty → Answer
 built_in_at None b = raises invalid_indirection
 built_in_at (Some x) b = gives (built_in_value x b)
 
--- the letters that are the name of a bit, in lower case
+-- a letter, by its upper case, or its lower case
+abbrev pub is_either : ℕ → ℕ → Bool
+is_either x upper = (x == upper) || (x == upper + 32)
+
+-- the letters that are the name of a bit
 abbrev pub is_bit_letter : ℕ → Bool
-is_bit_letter x = (x == 114) || ((x == 119) || (x == 102))
+is_bit_letter x = is_either x 82 || (is_either x 87 || is_either x 70)
 
 -- with which the longer names begin
 abbrev pub begins_one : ℕ → Bool
-begins_one x = (x == 110) || ((x == 111) || ((x == 108) || ((x == 99) || ((x == 112) || (x == 119)))))
+begins_one x = is_either x 78 || (is_either x 79 || (is_either x 76 || (is_either x 67 || (is_either x 80 || is_either x 87))))

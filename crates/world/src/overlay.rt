@@ -18,7 +18,7 @@ use crate::answers::copied;
 use crate::called::CalledVerbs;
 use crate::draft::Draft;
 use crate::late::{answer_after, asked_after, is_light, slot_with};
-use crate::near::{Near, last_place, lent, value_at};
+use crate::near::{Near, NearSlots, last_place, lent, value_at};
 use moo_value::text::Text;
 use moo_value::value::Value;
 use std::alloc::{AllocError, Global};
@@ -40,8 +40,8 @@ pub(crate) struct Overlay<'h> {
     // Whether a question may see that there are changes.
     seen: bool,
     changes: Changes,
-    // A slot of the home that was asked for, where no records are made of the changes.
-    near: Option<Near<'h>>,
+    // Slots of the home that were asked for, where no records are made of the changes.
+    near: NearSlots<'h>,
     // Verbs of the home that were called.
     called: CalledVerbs<'h>,
     alloc: Global,
@@ -63,10 +63,10 @@ impl<'h> Drop for Overlay<'h> {
 }
 
 impl<'h> Model for Overlay<'h> {
-    ghost use Rattle.std.specs.Prelude.{◌≡◌, false, None, IfSome};
+    ghost use Rattle.std.specs.Prelude.{◌≡◌, false, None};
     ghost use Rattle.std.specs.Option.{unwrap_or};
     ghost use Rattle.world.specs.Late.{AllLight};
-    ghost use Rattle.world.specs.Near.{IsNear};
+    ghost use Rattle.world.specs.Near.{AreNear};
     ghost use Rattle.world.specs.Called.{AreCalled};
     ghost use Rattle.world.specs.Amended.{Amended, amended_code};
     ghost use Rattle.world.specs.Trace.{AnswersAlike};
@@ -78,7 +78,7 @@ impl<'h> Model for Overlay<'h> {
 
     ghost view = { λ a. record { home = a.home.now; changes = a.changes } };
 
-    ghost invariant = { λ a. (unwrap_or a.fork (apply_all a.changes a.home.now) ≡ apply_all a.changes a.home.now) × (a.fork ≡ None → AllLight a.changes) × (a.seen ≡ false → AnswersAlike (apply_all a.changes a.home.now) a.home.now) × IfSome a.near (λ n. (a.fork ≡ None) × IsNear a.home.now a.changes n.object n.name.now n.slot.now n.place) × AreCalled a.home.now a.called };
+    ghost invariant = { λ a. (unwrap_or a.fork (apply_all a.changes a.home.now) ≡ apply_all a.changes a.home.now) × (a.fork ≡ None → AllLight a.changes) × (a.seen ≡ false → AnswersAlike (apply_all a.changes a.home.now) a.home.now) × AreNear a.fork a.home.now a.changes a.near × AreCalled a.home.now a.called };
 }
 
 impl<'h> Overlay<'h> {
@@ -93,7 +93,7 @@ impl<'h> Overlay<'h> {
             fork: None,
             seen: false,
             changes,
-            near: None,
+            near: NearSlots::none(),
             called: CalledVerbs::none(),
             alloc,
         }
@@ -148,11 +148,11 @@ impl<'h> Overlay<'h> {
         if let Some(draft) = &self.fork {
             return draft.own_slot(object, name);
         }
-        self.near = self.nearest(object, name);
-        let Some(near) = &self.near else {
+        let Some(near) = self.nearest(object, name) else {
             return Ok(None);
         };
-        let slot = slot_with(near.slot, value_later(near, self.changes.as_slice()))?;
+        self.near.keep(object, name, near);
+        let slot = slot_with(near.slot, value_later(&near, self.changes.as_slice()))?;
         Ok(Some(slot))
     }
 
@@ -162,7 +162,7 @@ impl<'h> Overlay<'h> {
         ensures { MatchOption result (slot_at self.now.home object name.now ≡ None)
             (λ n. (n.object ≡ object) × (fold_case name.now ≡ n.name.now) × IsNear self.now.home self.now.changes n.object n.name.now n.slot.now n.place) }
     {
-        if let Some(near) = &self.near
+        if let Some(near) = self.near.row(object, name)
             && near.is_of(object, name)
         {
             return Some(*near);
@@ -175,7 +175,7 @@ impl<'h> Overlay<'h> {
     pub(crate) fn value_at_hand(&self, programmer: i32, object: i32, name: &Text) -> Option<&Value>
         ensures { IfSome result (λ v. IsReadBy programmer object name.now v.now (amended_now self.now)) }
     {
-        let near = self.near.as_ref()?;
+        let near = self.near.row(object, name)?;
         let slot = near.slot;
         if !near.is_of(object, name) || !slot.is_read_by(programmer) {
             return None;
@@ -192,7 +192,7 @@ impl<'h> Overlay<'h> {
         ensures { IfSome result (λ n. MayWrite programmer object name.now (amended_now self.now)
             × (last_given object (fold_case name.now) self.now.changes ≡ Some n)) }
     {
-        let near = self.near.as_ref()?;
+        let near = self.near.row(object, name)?;
         if !near.is_of(object, name) || !near.slot.is_written_by(programmer) {
             return None;
         }
@@ -396,7 +396,7 @@ impl<'h> Overlay<'h> {
         ensures changes { OnOk result (DoesLast (change_of change) self.old.changes self.new.changes) }
     {
         put_on(self.home, &mut self.fork, &self.changes, &change)?;
-        self.near = None;
+        self.near = NearSlots::none();
         let seen = self.seen || is_seen(&change);
         let is_forked = self.fork.is_some();
         if add(&mut self.changes, change, is_forked).is_err() {

@@ -1,12 +1,12 @@
 //! The properties that every object has.
-ghost use Rattle.std.specs.Prelude.{◌≡◌, map, None, option_map, IfOk, IsTrue, OnOk};
+ghost use Rattle.std.specs.Prelude.{◌≡◌, ◌<◌, ◌+◌, ◌^◌, map, None, option_map, IfOk, IsTrue, OnOk};
 ghost use Rattle.spec_value.specs.Datum.{fold_case, list, of_list};
 ghost use Rattle.spec_value.specs.Answer.{truth};
 ghost use Rattle.spec_world.specs.World.{Object, object_at};
 ghost use Rattle.spec_moo.specs.Properties.{own_contents, own_location, built_in, row_of, built_in_value, objects_listed};
 ghost use Rattle.moo_value.specs.Answers.{answer_of};
 ghost use Rattle.view.specs.Law.{Lasts, Tells};
-ghost use Rattle.rules.specs.BuiltIn.{property_of, attribute_of, flag_of, built_in_at, is_bit_letter as is_bit_letter_of, begins_one as begins_one_of};
+ghost use Rattle.rules.specs.BuiltIn.{property_of, attribute_of, flag_of, built_in_at, is_either as is_either_of, is_bit_letter as is_bit_letter_of, begins_one as begins_one_of};
 
 use crate::verb_match::words::is_word;
 use moo_value::answer::Answer;
@@ -86,30 +86,40 @@ fn is_other(name: &[u8]) -> bool
     let Some(first) = name.get(0) else {
         return false;
     };
-    let letter = first.to_ascii_lowercase();
     if name.len() == 1 {
-        !is_bit_letter(letter)
+        !is_bit_letter(*first)
     } else {
-        !begins_one(letter)
+        !begins_one(*first)
     }
 }
 
-// Whether a letter in lower case is the name of a bit.
+// Whether a letter is the name of a bit. Case is ignored.
 #[inline(always)]
 fn is_bit_letter(letter: u8) -> bool
     ensures { result ≡ is_bit_letter_of letter }
 {
-    letter == b'r' || (letter == b'w' || letter == b'f')
+    is_either(letter, b'R') || (is_either(letter, b'W') || is_either(letter, b'F'))
 }
 
-// Whether a longer name begins with a letter in lower case.
+// Whether a longer name begins with a letter. Case is ignored.
 #[inline(always)]
 fn begins_one(letter: u8) -> bool
     ensures { result ≡ begins_one_of letter }
 {
-    letter == b'n'
-        || (letter == b'o'
-            || (letter == b'l' || (letter == b'c' || (letter == b'p' || letter == b'w'))))
+    is_either(letter, b'N')
+        || (is_either(letter, b'O')
+            || (is_either(letter, b'L')
+                || (is_either(letter, b'C')
+                    || (is_either(letter, b'P') || is_either(letter, b'W')))))
+}
+
+// Whether a letter is another one, which is given in upper case, or its lower case.
+#[inline(always)]
+fn is_either(letter: u8, upper: u8) -> bool
+    requires { upper + 32 < 2 ^ 8 }
+    ensures { result ≡ is_either_of letter upper }
+{
+    letter == upper || letter == upper + 32
 }
 
 // The first of several rows with a name.

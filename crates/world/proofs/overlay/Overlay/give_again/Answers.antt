@@ -6,7 +6,7 @@ use Rattle.spec_world.specs.Questions.{Change, apply_all}
 use Rattle.view.specs.Writing.{GoesFurther, AreRevalued}
 use Rattle.world.specs.Amended.{Amended}
 use Rattle.world.specs.Near.{last_given}
-use Rattle.world.proofs.AtHand.{revalued_further, revalued_light, revalued_near, if_some_as}
+use Rattle.world.proofs.AtHand.{revalued_further, revalued_light, revalued_near, rows_as}
 use Rattle.world.proofs.overlay.Overlay.give_again.Goals as goal
 
 pub invariant_of-self : goal.invariant_of-self
@@ -19,7 +19,8 @@ invariant_of-self c =
       subst (λ (f : Option World). unwrap_or f (apply_all ds home) ≡ apply_all ds home) (sym none) refl,
       λ _. revalued_light c.args.value cs ds c.args.place (c.self.invariant.1 none) r,
       λ e. absurd (true≢false e),
-      if_some_as _ _ (λ n h. (h.0, revalued_near c.args.value cs ds c.args.place home n.object n.name.now n.slot.now n.place r h.1)) c.self.inside.near c.self.invariant.3,
+      rows_as c.self.inside.fork home cs ds (λ n h. (h.0, revalued_near c.args.value cs ds c.args.place home n.object n.name.now n.slot.now n.place r h.1)) c.self.inside.near
+          c.self.invariant.3,
       c.self.invariant.4,
     )
 

@@ -17,6 +17,6 @@ invariant_of-self-2 c =
       subst (λ (v : World). unwrap_or c.put_on.new.fork v ≡ v) (sym (last home)) c.in_ok-put_on.ensures.ok,
       λ none. let both = c.in_ok-put_on.ensures.light none in light (ap is_some none) both.0 both.1,
       unseen,
-      tt,
+      c.none-self-inside.ensures c.put_on.new.fork home c.add.new.changes,
       c.self.invariant.4,
     )

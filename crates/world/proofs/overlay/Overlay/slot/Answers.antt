@@ -8,15 +8,15 @@ use Rattle.world.specs.Near.{value_given, IsNear}
 use Rattle.world.proofs.AtHand.{none_near, slot_near}
 use Rattle.world.proofs.overlay.Overlay.slot.Goals as goal
 
-pub returns-in_default-near-clause-slot : goal.returns-in_default-near-clause-slot
-returns-in_default-near-clause-slot c =
+pub returns-in_default-nearest-clause-slot : goal.returns-in_default-nearest-clause-slot
+returns-in_default-nearest-clause-slot c =
     let light : AllLight c.self.inside.changes = c.self.invariant.1 c.in_default.is in
     let gone : slot_at c.self.inside.home.now c.args.object c.args.name.now ≡ None = search rules in
     sym (ap (λ (a : Amended). slot_at (amended_now a) c.args.object c.args.name.now) (sym c.self.view_is) ∙ none_near c.self.inside.changes c.self.inside.home.now c.args.object c.args.name.now light gone)
 
 pub returns-clause-slot : goal.returns-clause-slot
 returns-clause-slot c =
-    let n = c.in-Some-near.near in
+    let n = c.in-Some-nearest.near in
     let a : Amended = record { home = c.self.inside.home.now; changes = c.self.inside.changes } in
     let light : AllLight c.self.inside.changes = c.self.invariant.1 c.in_default.is in
     let number : to_z w32 (of_z w32 c.args.object) ≡ c.args.object = search rules in

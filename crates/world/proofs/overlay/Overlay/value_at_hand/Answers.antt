@@ -11,8 +11,7 @@ use Rattle.world.proofs.overlay.Overlay.value_at_hand.Goals as goal
 pub returns-in-Some : goal.returns-in-Some
 returns-in-Some c =
     let n = c.in_ok-near.near.now in
-    let there : c.self.inside.near ≡ Some n = search rules in
-    let near = subst (λ m. IfSome m (λ x. (c.self.inside.fork ≡ None) × IsNear c.self.inside.home.now c.self.inside.changes x.object x.name.now x.slot.now x.place)) there c.self.invariant.3 in
+    let near = c.in_ok-near.ensures c.self.inside.fork c.self.inside.home.now c.self.inside.changes c.self.invariant.3 in
     let number : to_z w32 (of_z w32 c.args.object) ≡ c.args.object = search rules in
     let who : to_z w32 (of_z w32 c.args.programmer) ≡ c.args.programmer = search rules in
     let met = c.is_of.ensures c.if-not-is_of.false in
@@ -28,8 +27,7 @@ returns-in-Some c =
 pub returns-in-None : goal.returns-in-None
 returns-in-None c =
     let n = c.in_ok-near.near.now in
-    let there : c.self.inside.near ≡ Some n = search rules in
-    let near = subst (λ m. IfSome m (λ x. (c.self.inside.fork ≡ None) × IsNear c.self.inside.home.now c.self.inside.changes x.object x.name.now x.slot.now x.place)) there c.self.invariant.3 in
+    let near = c.in_ok-near.ensures c.self.inside.fork c.self.inside.home.now c.self.inside.changes c.self.invariant.3 in
     let number : to_z w32 (of_z w32 c.args.object) ≡ c.args.object = search rules in
     let who : to_z w32 (of_z w32 c.args.programmer) ≡ c.args.programmer = search rules in
     let met = c.is_of.ensures c.if-not-is_of.false in

@@ -2,7 +2,7 @@
 verb that does nothing."""
 from typing import NamedTuple
 
-from runs import IS_SHORT, Failure, Figure, beyond, play, sized, values_of
+from runs import IS_SHORT, PLAY, Failure, Figure, beyond, play, run, script, sized, values_of
 from worlds import World, loop
 
 # A step has 30,000 ticks.
@@ -72,14 +72,23 @@ def world_of(lines, most=0):
     return world.write("world")
 
 
+def once(lines, tries):
+    """A run of a script over a world whose room has the verb `try` of these lines."""
+    world, path = world_of(lines), script("script", tries)
+    return lambda: run(PLAY, world, path)
+
+
+def last(played):
+    """What the last step of a run gave."""
+    return values_of(played)[-1][0]
+
+
 def figures(peers):
     tries = ["line 1 try"] * STEPS
     idle = play(world_of([]), tries)
     for it in LOOPS:
-        played = play(world_of(it.lines), tries)
-        given = values_of(played)
-        count = sum(ticks for _, ticks in given) if it.is_by_ticks else STEPS * it.turns * it.each
-        taken = peers.loop(it.name, STEPS, it.turns, given[-1][0])
+        played, taken = peers.beside(once(it.lines, tries), it.name, STEPS, it.turns, last)
+        count = sum(ticks for _, ticks in values_of(played)) if it.is_by_ticks else STEPS * it.turns * it.each
         each = STEPS * it.turns * it.each
         yield Figure(it.what, "ns", beyond(played, idle) / count, {who: seconds / each for who, seconds in taken.items()})
     yield fibonacci(peers, tries, idle)
@@ -89,8 +98,7 @@ def figures(peers):
 def fibonacci(peers, tries, idle):
     """A call of a verb that calls itself twice, by the count of its calls."""
     number, calls = sized((16, 3193), (5, 15))
-    played = play(world_of([f"return this:fib({number});"]), tries)
-    taken = peers.loop("fib", STEPS, number, values_of(played)[-1][0])
+    played, taken = peers.beside(once([f"return this:fib({number});"], tries), "fib", STEPS, number, last)
     count = calls * STEPS
     return Figure("a call of fib, by calls of verbs", "ns", beyond(played, idle) / count, {who: seconds / count for who, seconds in taken.items()})
 

@@ -4,7 +4,7 @@ import shutil
 import subprocess
 import sys
 
-from runs import ROOT, Failure, least, run
+from runs import ROOT, Failure, in_turn, least, run
 
 TWIN = f"{ROOT}/bench/out/twin"
 # The peers' loops are run more often, since most take a few nanoseconds, and Python takes long to start.
@@ -47,9 +47,13 @@ class Peers:
         self.here = found()
         self.idle = {who: self.timed(who, "nothing", 1, 1)[0] for who in self.here}
 
-    def timed(self, who, name, steps, turns):
+    def measure(self, who, name, steps, turns):
+        """A run of a loop by one of them."""
         words, times = self.here[who]
-        done = least(lambda: run(*words, name, str(steps * times), str(turns)))
+        return lambda: run(*words, name, str(steps * times), str(turns))
+
+    def timed(self, who, name, steps, turns):
+        done = least(self.measure(who, name, steps, turns))
         return done.processor, done.output.strip()
 
     def tokens(self, path):
@@ -61,12 +65,18 @@ class Peers:
 
     def loop(self, name, steps, turns, given, without=()):
         """Processor seconds of each for the same steps of a loop. The last step gives what the product's did."""
-        taken = {}
-        for who, (_, times) in self.here.items():
-            if who in without:
-                continue
-            processor, value = self.timed(who, name, steps, turns)
-            if value != given:
-                raise Failure(f"the loop {name} gives {value} by {who}, and {given} here")
-            taken[who] = max(processor - self.idle[who], 1e-9) / times
-        return taken
+        they = [who for who in self.here if who not in without]
+        return self.taken(name, given, they, in_turn([self.measure(who, name, steps, turns) for who in they]))
+
+    def beside(self, measure, name, steps, turns, given):
+        """A run of the product, and processor seconds of each for the same steps of a loop, all measured in turn. The last step gives what the product's did, which
+        `given` tells."""
+        they = [*self.here]
+        ours, *theirs = in_turn([measure, *(self.measure(who, name, steps, turns) for who in they)])
+        return ours, self.taken(name, given(ours), they, theirs)
+
+    def taken(self, name, given, they, runs):
+        for who, done in zip(they, runs):
+            if done.output.strip() != given:
+                raise Failure(f"the loop {name} gives {done.output.strip()} by {who}, and {given} here")
+        return {who: max(done.processor - self.idle[who], 1e-9) / self.here[who][1] for who, done in zip(they, runs)}

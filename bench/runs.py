@@ -79,10 +79,16 @@ def run(*words, status=0, given=os.devnull):
         return Run(seconds, usage.ru_utime + usage.ru_stime, usage.ru_maxrss * 1024, output.read().decode("latin-1"))
 
 
+def in_turn(measures):
+    """The least that the rounds took of each of these: the clock, the processors, memory. They are measured in turn, so that a machine that is slower for a
+    while is so for all of them."""
+    rounds = [[measure() for measure in measures] for _ in range(ROUNDS)]
+    return [Run(min(it.seconds for it in runs), min(it.processor for it in runs), min(it.memory for it in runs), runs[0].output) for runs in zip(*rounds)]
+
+
 def least(measure):
-    """The least that the rounds took of each: the clock, the processors, memory."""
-    runs = [measure() for _ in range(ROUNDS)]
-    return Run(min(it.seconds for it in runs), min(it.processor for it in runs), min(it.memory for it in runs), runs[0].output)
+    """The same of one."""
+    return in_turn([measure])[0]
 
 
 def by_one(measure):

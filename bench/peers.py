@@ -53,6 +53,7 @@ class Peers:
         return lambda: run(*words, name, str(steps * times), str(turns))
 
     def timed(self, who, name, steps, turns):
+        """Processor seconds of the least of such runs, and what the last step gave."""
         done = least(self.measure(who, name, steps, turns))
         return done.processor, done.output.strip()
 
@@ -76,6 +77,7 @@ class Peers:
         return ours, self.taken(name, given(ours), they, theirs)
 
     def taken(self, name, given, they, runs):
+        """Processor seconds of each in its run of a loop, of which the last step has to give this."""
         for who, done in zip(they, runs):
             if done.output.strip() != given:
                 raise Failure(f"the loop {name} gives {done.output.strip()} by {who}, and {given} here")

@@ -1,2 +1,3 @@
+pub mod AlikeIntegers
 pub mod Finding
 pub mod Parts

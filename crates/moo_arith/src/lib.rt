@@ -6,4 +6,5 @@
 pub mod arithmetic;
 pub mod binary;
 pub mod index;
+pub mod integers;
 pub mod scatter;

@@ -11,9 +11,9 @@ pub mod Anyone
 pub mod OneByOne
 pub mod ReadRules
 pub mod WriteRules
+pub mod UpdateRules
 pub mod CallRules
 pub mod StaysSound
 pub mod WritesKeep
-pub mod Others
 pub mod Passing
 pub mod Lent

@@ -82,9 +82,9 @@ read_by w who o p v agree r =
 
 module _ {V B : Type 0} (holds : V → World → Type 0) (now : V → World → World) (view : V) (value : B → Datum) (who o : ℤ) (p : Text) where
   -- the value of a property that is no built-in one
-  pub lent_read : (r : Option B) → built_in p ≡ None → ((w : World) → holds view w → ObjectsAgree (now view w))
+  pub lent_read : (r : Option B) → ((w : World) → holds view w → ObjectsAgree (now view w))
       → IfSome r (λ v. (w : World) → holds view w → IsReadBy who o p (value v) (now view w))
       → IfSome r (λ v. (w : World) → holds view w → read_object (now view w) who o p (object_at (now view w) o) ≡ gives (value v))
-  lent_read None plain agree told = told
-  lent_read (Some v) plain agree told = λ w is.
-      of_own (now view w) who o p plain ∙ read_by (now view w) who o p (value v) (agree w is) (told w is)
+  lent_read None agree told = told
+  lent_read (Some v) agree told = λ w is.
+      of_own (now view w) who o p (told w is).plain ∙ read_by (now view w) who o p (value v) (agree w is) (told w is)

@@ -12,13 +12,13 @@ use Rattle.spec_moo.specs.Properties.{BuiltInProperty, own_contents, own_locatio
 use Rattle.moo_value.specs.Errors.{code_of}
 use Rattle.moo_value.specs.declared.error.MooError.{MooError}
 use Rattle.view.specs.Law.{Goes, Tells}
-use Rattle.rules.specs.BuiltIn.{attribute_of}
+use Rattle.view.specs.BuiltIn.{attribute_of}
 use Rattle.rules.specs.Reading.{missing_error}
 use Rattle.view.specs.Writing.{MayWrite, IsWrittenBy}
 use Rattle.rules.specs.Writing.{IsWritten, IsSimplyWritten, write_named, built_in_written, place_error, owner_may}
-use Rattle.rules.specs.declared.access.built_in.Attribute.{Attribute}
-use Rattle.rules.specs.declared.access.built_in.Attribute.TheVariants.{Name, Owner, Flag as FlagOf}
-use Rattle.rules.specs.declared.access.built_in.Flag.TheVariants.{Programmer, Wizard, Readable, Writable, Fertile}
+use Rattle.view.specs.declared.built_in.Attribute.{Attribute}
+use Rattle.view.specs.declared.built_in.Attribute.TheVariants.{Name, Owner, Flag as FlagOf}
+use Rattle.view.specs.declared.built_in.Flag.TheVariants.{Programmer, Wizard, Readable, Writable, Fertile}
 
 -- ---- what several calls do to a view
 

@@ -1,11 +1,13 @@
 -- What is written to an object that may not be there, and what an answer says of it.
 use Rattle.std.specs.Prelude.{◌≡◌, ℤ, Bool, true, false, ◌&&◌, not, Result, Ok, Err, Option, Some, None}
 use Rattle.std.specs.Ordering.{int_eq}
-use Rattle.spec_value.specs.Datum.{Datum, Text, ErrorCode, invalid_indirection, permission_denied}
-use Rattle.spec_world.specs.World.{World, Object, Header}
+use Rattle.spec_value.specs.Answer.{gives}
+use Rattle.spec_value.specs.Datum.{Datum, Text, ErrorCode, integer, object, text, invalid_indirection, permission_denied}
+use Rattle.spec_value.specs.Operators.{BinaryOperator, binary_value}
+use Rattle.spec_world.specs.World.{World, Object, Header, object_at}
 use Rattle.spec_world.specs.Inherit.{slot_at}
 use Rattle.spec_world.specs.Permissions.{may}
-use Rattle.spec_moo.specs.Properties.{BuiltInProperty, own_name, r_bit, w_bit, f_bit, Written, wrote, refused, writing, with_built_in, write_slot, write_built_in, write}
+use Rattle.spec_moo.specs.Properties.{BuiltInProperty, own_name, r_bit, w_bit, f_bit, Written, wrote, refused, writing, with_built_in, write_slot, write_built_in, write, read_object}
 use Rattle.moo_value.specs.Errors.{code_of}
 use Rattle.moo_value.specs.declared.error.MooError.{MooError}
 
@@ -18,6 +20,18 @@ IsWritten before after written (Err e) = (written ≡ refused (code_of e)) × (a
 abbrev pub IsSimplyWritten : Bool → ℤ → Datum → Datum → Datum → World → World → Type 0
 IsSimplyWritten true who o p v before after = write before who o p v ≡ wrote after
 IsSimplyWritten false who o p v before after = after ≡ before
+
+-- a property that has an integer is written what an operator gives of that and another one
+pub record IsReckonedOf (who o : ℤ) (p : Text) (operator : BinaryOperator) (second number : ℤ) (before after : World) : Type 0 where
+  pub first : ℤ
+  pub read : read_object before who o p (object_at before o) ≡ gives (integer first)
+  pub answer : binary_value operator (integer first) (integer second) ≡ gives (integer number)
+  pub written : write before who (object o) (text p) (integer number) ≡ wrote after
+
+-- it is, where there is such an integer, and else nothing is
+abbrev pub IsSimplyUpdated : ℤ → ℤ → Text → BinaryOperator → ℤ → Option ℤ → World → World → Type 0
+IsSimplyUpdated who o p operator second (Some number) before after = IsReckonedOf who o p operator second number before after
+IsSimplyUpdated who o p operator second None before after = after ≡ before
 
 -- a property that is no built-in one
 abbrev pub write_named : World → ℤ → ℤ → Text → Datum → Option Object → Written

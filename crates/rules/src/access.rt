@@ -7,4 +7,5 @@
 pub mod built_in;
 pub mod calling;
 pub mod reading;
+pub mod updating;
 pub mod writing;

@@ -15,3 +15,4 @@ pub mod Again
 pub mod Spelling
 pub mod Reach
 pub mod Passed
+pub mod Others

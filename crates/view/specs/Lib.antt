@@ -1,3 +1,4 @@
+pub mod BuiltIn
 pub mod Facets
 pub mod Keeping
 pub mod Kin

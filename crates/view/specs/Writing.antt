@@ -1,8 +1,11 @@
 -- Slots that programmers write.
-use Rattle.std.specs.Prelude.{◌≡◌, ℕ, ℤ, Bool, true, false, List, Some, option_map, slice_get, slice_set}
-use Rattle.spec_value.specs.Datum.{Datum, Text, fold_case}
+use Rattle.std.specs.Prelude.{◌≡◌, ℕ, ℤ, Bool, true, false, List, Option, Some, None, option_map, slice_get, slice_set}
+use Rattle.spec_value.specs.Answer.{gives}
+use Rattle.spec_value.specs.Datum.{Datum, Text, fold_case, integer}
+use Rattle.spec_value.specs.Operators.{BinaryOperator, binary_value}
 use Rattle.spec_value.specs.Table.{Named, named, with_name}
 use Rattle.spec_world.specs.World.{World, Object, Slot}
+use Rattle.spec_moo.specs.Properties.{built_in}
 use Rattle.spec_world.specs.Inherit.{slot_at}
 use Rattle.spec_world.specs.Permissions.{owns_or}
 use Rattle.spec_world.specs.Questions.{Change, apply, apply_all, new_value}
@@ -18,12 +21,25 @@ abbrev pub IsWrittenBy : ℤ → ℤ → Text → Datum → Bool → World → W
 IsWrittenBy programmer object name value true before after = MayWrite programmer object name before × (after ≡ apply (new_value object name value) before)
 IsWrittenBy programmer object name value false before after = after ≡ before
 
--- a programmer owns a slot that there is and that holds this value, or all may read it
+-- a programmer owns a slot that there is and that holds this value, or all may read it, and no property that every object has hides it
 pub record IsReadBy (programmer : ℤ) (object : ℤ) (name : Text) (value : Datum) (w : World) : Type 0 where
   pub slot : Slot
   pub there : slot_at w object name ≡ Some slot
   pub allowed : owns_or programmer slot.owner slot.readable ≡ true
   pub held : slot.content ≡ Some value
+  pub plain : built_in name ≡ None
+
+-- a slot that a programmer may read holds an integer, and one that the programmer may write gets what an operator gives of that and another one
+pub record IsReckoned (programmer : ℤ) (object : ℤ) (name : Text) (operator : BinaryOperator) (second number : ℤ) (before after : World) : Type 0 where
+  pub first : ℤ
+  pub read : IsReadBy programmer object name (integer first) before
+  pub answer : binary_value operator (integer first) (integer second) ≡ gives (integer number)
+  pub written : IsWrittenBy programmer object name (integer number) true before after
+
+-- it got that, or nothing changed
+abbrev pub IsUpdatedBy : ℤ → ℤ → Text → BinaryOperator → ℤ → Option ℤ → World → World → Type 0
+IsUpdatedBy programmer object name operator second (Some number) before after = IsReckoned programmer object name operator second number before after
+IsUpdatedBy programmer object name operator second None before after = after ≡ before
 
 -- slots of which a programmer gave one another value
 pub record AreRewritten (programmer : ℤ) (name : Text) (value : Datum) (old new : Named Slot) : Type 0 where

@@ -6,12 +6,14 @@ ghost use Rattle.spec_world.specs.Questions.{ask, apply, header_at, verbs_at, ab
 ghost use Rattle.view.specs.Meanings.{question_of, answer_of, change_of};
 ghost use Rattle.view.specs.Law.{Goes, Keeps, Lasts, Tells};
 ghost use Rattle.view.specs.Kin.{IsKin, IsCalledVerb, IsCalledAt};
-ghost use Rattle.view.specs.Writing.{IsReadBy, IsWrittenBy};
+ghost use Rattle.view.specs.Writing.{IsReadBy, IsWrittenBy, IsUpdatedBy};
+ghost use Rattle.moo_value.specs.Operators.{binary_of};
 
 use crate::change::Change;
 use crate::question::{Answer, Question};
 use crate::slot::Slot;
 use crate::verb::{Verb, Verbs};
+use moo_value::operator::BinaryOperator;
 use moo_value::text::Text;
 use moo_value::value::Value;
 use std::alloc::AllocError;
@@ -64,7 +66,8 @@ pub trait View {
         }
     }
 
-    /// The value of a slot that a programmer owns or that all may read, if the view has it at hand, lent. It takes no question. Case is ignored.
+    /// The value of a slot that a programmer owns or that all may read, and that no property that every object has hides, if the view has it at hand, lent. It takes
+    /// no question. Case is ignored.
     #[inline(always)]
     fn value_at_hand(&self, _programmer: i32, _object: i32, _name: &Text) -> Option<&Value>
         ensures { IfSome result (λ v. (w : World) → holds self.now w → IsReadBy _programmer _object _name.now v.now (now self.now w)) }
@@ -171,6 +174,24 @@ pub trait View {
         let value = value.clone()?;
         self.put(Change::Value(object, name, value))?;
         Ok(true)
+    }
+
+    /// The integer that a property's slot on an object holds becomes what an operator gives of it and another one, if the view has the slot at hand, the programmer
+    /// owns it or all may read and write it, no property that every object has hides it, and the operator gives an integer of the two; which one. Else nothing changes. It takes no question. Case is ignored.
+    #[inline(always)]
+    fn update_at_hand(
+        &mut self,
+        _programmer: i32,
+        _object: i32,
+        _name: &Text,
+        _operator: BinaryOperator,
+        _second: i32,
+    ) -> Result<Option<i32>, AllocError>
+        requires { holds self.old (home self.old) }
+        ensures lasts { Lasts holds home anchor self.old self.new result }
+        ensures left { IfOk result (λ n. Goes holds now self.old self.new (IsUpdatedBy _programmer _object _name.now (binary_of _operator) _second n)) }
+    {
+        Ok(None)
     }
 
     /// A change. After an `Err` the view is only to be dropped or undone.

@@ -4,6 +4,7 @@
 //! for every world that could have given the same answers.
 #![tactic(auto)]
 
+pub mod built_in;
 pub mod change;
 pub mod changes;
 pub mod header;
@@ -21,3 +22,4 @@ pub mod slots;
 pub mod verb;
 pub mod verb_names;
 mod verb_reach;
+pub mod words;

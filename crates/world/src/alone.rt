@@ -11,6 +11,7 @@ ghost use Rattle.world.specs.Amended.{amended_now};
 use crate::draft::Draft;
 use crate::overlay::Overlay;
 use crate::worlds::World;
+use moo_value::operator::BinaryOperator;
 use moo_value::text::Text;
 use moo_value::value::Value;
 use std::alloc::{AllocError, Global};
@@ -175,6 +176,21 @@ impl<'w> View for Alone<'w> {
             return Ok(true);
         }
         self.write_anew(programmer, object, name, value)
+    }
+
+    #[inline(always)]
+    fn update_at_hand(
+        &mut self,
+        programmer: i32,
+        object: i32,
+        name: &Text,
+        operator: BinaryOperator,
+        second: i32,
+    ) -> Result<Option<i32>, AllocError> {
+        Ok(
+            self.overlay
+                .update(programmer, object, name, operator, second),
+        )
     }
 
     fn parent(&mut self, object: i32) -> Result<Option<i32>, AllocError> {

@@ -1,6 +1,7 @@
 //! Changes over records that stay as they are.
 ghost use Rattle.std.specs.Prelude.{◌≡◌, ℤ, [], true, false, Some, None, map, option_map, IsTrue, IsFalse, IfOk, IfSome, MatchOption, OnOk, OnErr};
-ghost use Rattle.spec_value.specs.Datum.{Text as Characters, fold_case};
+ghost use Rattle.spec_value.specs.Datum.{Text as Characters, fold_case, integer};
+ghost use Rattle.moo_value.specs.Operators.{binary_of};
 ghost use Rattle.std.specs.Option.{unwrap_or};
 ghost use Rattle.spec_world.specs.World.{World as Plain};
 ghost use Rattle.spec_world.specs.Inherit.{slot_at};
@@ -8,7 +9,7 @@ ghost use Rattle.spec_world.specs.Questions.{ask, apply, apply_all, header_at, v
 ghost use Rattle.view.specs.Facets.{DoesLast};
 ghost use Rattle.view.specs.Kin.{IsKin, IsCalledVerb, IsCalledAt};
 ghost use Rattle.view.specs.Meanings.{question_of, answer_of, change_of};
-ghost use Rattle.view.specs.Writing.{MayWrite, GoesFurther, IsReadBy};
+ghost use Rattle.view.specs.Writing.{MayWrite, GoesFurther, IsReadBy, IsUpdatedBy};
 ghost use Rattle.world.specs.Late.{is_light as is_light_change, AllLight};
 ghost use Rattle.world.specs.Near.{last_given, value_given, IsNear};
 ghost use Rattle.world.specs.Amended.{amended_now};
@@ -18,7 +19,9 @@ use crate::answers::copied;
 use crate::called::CalledVerbs;
 use crate::draft::Draft;
 use crate::late::{answer_after, asked_after, is_light, slot_with};
-use crate::near::{Near, NearSlots, last_place, lent, value_at};
+use crate::near::{Near, NearSlots, integer_at, last_place, lent, value_at};
+use moo_arith::integers::of_integers;
+use moo_value::operator::BinaryOperator;
 use moo_value::text::Text;
 use moo_value::value::Value;
 use std::alloc::{AllocError, Global};
@@ -341,6 +344,45 @@ impl<'h> Overlay<'h> {
         let value = value.clone()?;
         let done = self.give_again(place, value);
         Ok(done)
+    }
+
+    /// The integer of a slot becomes what an operator gives of it and another one, in the change that gave the slot its value, if the slot is at hand, a programmer
+    /// owns it or all may read and write it, and the operator gives an integer of the two; which one. Else nothing changes.
+    #[inline(always)]
+    pub(crate) fn update(
+        &mut self,
+        programmer: i32,
+        object: i32,
+        name: &Text,
+        operator: BinaryOperator,
+        second: i32,
+    ) -> Option<i32>
+        ensures home { self.new.home ≡ self.old.home }
+        ensures updated { IsUpdatedBy programmer object name.now (binary_of operator) second result (amended_now self.old) (amended_now self.new) }
+    {
+        let (place, first) = self.integer_at_hand(programmer, object, name)?;
+        let number = of_integers(operator, first, second)?;
+        let done = self.give_again(place, Value::integer(number));
+        if done { Some(number) } else { None }
+    }
+
+    // Where the change stands that gave a slot its value, and that, if it is an integer, the slot is at hand and a programmer owns it or all may read and write it.
+    #[inline(always)]
+    fn integer_at_hand(&self, programmer: i32, object: i32, name: &Text) -> Option<(usize, i32)>
+        ensures read { IfSome result (λ p. IsReadBy programmer object name.now (integer p.1) (amended_now self.now)) }
+        ensures place { IfSome result (λ p. MayWrite programmer object name.now (amended_now self.now) × (last_given object (fold_case name.now) self.now.changes ≡ Some p.0)) }
+    {
+        let near = self.near.row(object, name)?;
+        let slot = near.slot;
+        if !near.is_of(object, name)
+            || !slot.is_read_by(programmer)
+            || !slot.is_written_by(programmer)
+        {
+            return None;
+        }
+        let place = near.place?;
+        let first = integer_at(self.changes.as_slice(), place)?;
+        Some((place, first))
     }
 
     // A slot to which the change at a place gave its value gets another one by that change, unless records are made of the changes; whether it does.

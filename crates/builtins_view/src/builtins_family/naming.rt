@@ -10,8 +10,8 @@ ghost use Rattle.spec_world.specs.Questions.{defines_at};
 
 use crate::builtins_world::properties::has_name;
 use moo_value::text::Text;
-use rules::access::built_in::named;
 use std::alloc::AllocError;
+use view::built_in::named;
 use view::law::View;
 use view::readers::{read_defines, read_slot};
 

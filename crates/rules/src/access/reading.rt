@@ -10,7 +10,7 @@ ghost use Rattle.view.specs.Law.{Lasts, StaysSound, Tells};
 ghost use Rattle.view.specs.Writing.{IsReadBy};
 ghost use Rattle.rules.specs.Reading.{missing_error, read_named};
 
-use crate::access::built_in::{named, read_built_in};
+use crate::access::built_in::read_built_in;
 use crate::inherit::property::inherited;
 use crate::permissions::may::owns_or_is_wizard;
 use moo_value::answer::Answer;
@@ -18,6 +18,7 @@ use moo_value::error::MooError;
 use moo_value::text::Text;
 use moo_value::value::{Shown, Value};
 use std::alloc::{AllocError, Global};
+use view::built_in::named;
 use view::law::View;
 use view::readers::{read_header, read_slot};
 use view::slot::Slot;
@@ -81,11 +82,7 @@ pub fn lent_by_name<'v, V: View>(
     ensures { IfSome result (λ v. (w : World) → V.holds view.now w →
         read_object (V.now view.now w) programmer object name.now (object_at (V.now view.now w) object) ≡ gives v.now) }
 {
-    let property = named(name.as_str());
-    match property {
-        Some(_) => None,
-        None => view.value_at_hand(programmer, object, name),
-    }
+    view.value_at_hand(programmer, object, name)
 }
 
 // Of a property that is no built-in one. What the view has at hand is not asked for.

@@ -7,16 +7,16 @@ ghost use Rattle.spec_moo.specs.Properties.{own_name, own_owner, write, write_ob
 ghost use Rattle.moo_value.specs.Errors.{code_of};
 ghost use Rattle.rules.specs.Lines.{AreAgreeing};
 ghost use Rattle.view.specs.Law.{Goes, Lasts, Tells};
-ghost use Rattle.rules.specs.BuiltIn.{attribute_of, flag_of, property_of};
+ghost use Rattle.view.specs.BuiltIn.{attribute_of, flag_of, property_of};
 ghost use Rattle.rules.specs.Writing.{IsWritten, IsSimplyWritten, write_named as write_named_of, built_in_written, place_error, owner_may as owner_may_of, is_bit as is_bit_of};
 
-use crate::access::built_in::{Attribute, BuiltIn, Flag, named};
 use crate::access::reading::missing;
 use crate::permissions::may::{is_wizard, owns_or_is_wizard};
 use moo_value::error::MooError;
 use moo_value::text::Text;
 use moo_value::value::{Shown, Value};
 use std::alloc::{AllocError, Global};
+use view::built_in::{Attribute, BuiltIn, Flag, named};
 use view::header::Header;
 use view::law::View;
 use view::part::Part;

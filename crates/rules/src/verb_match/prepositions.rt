@@ -3,8 +3,8 @@ ghost use Rattle.std.specs.Prelude.{◌≡◌, option_map, map, ℕ};
 ghost use Rattle.spec_world.specs.Prepositions.{find_preposition as find_preposition_of, longest as longest_of, among as among_of, stands_first as stands_first_of, from_set, either_longer};
 ghost use Rattle.rules.specs.VerbMatchMeant.{preposition_of, begun_of};
 
-use crate::verb_match::words::is_word;
 use moo_value::text::Text;
+use view::words::is_word;
 
 /// A preposition that stands among words.
 #[derive(Clone, Copy, PartialEq, Eq, Debug)]

@@ -4,7 +4,7 @@ use Rattle.spec_world.specs.World.{object_at}
 use Rattle.spec_world.specs.Permissions.{is_wizard}
 use Rattle.spec_world.specs.Questions.{header_at, new_part, new_header}
 use Rattle.moo_value.specs.declared.error.MooError.TheVariants.{PermissionDenied}
-use Rattle.rules.specs.BuiltIn.{attribute_of}
+use Rattle.view.specs.BuiltIn.{attribute_of}
 use Rattle.rules.specs.Writing.{built_in_written, owner_may}
 use Rattle.rules.proofs.WriteRules.{told_both, told_so, refused_told, written_told, barred, changed}
 use Rattle.rules.proofs.access.writing.write_attribute.Goals as goal

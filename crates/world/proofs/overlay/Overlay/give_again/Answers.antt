@@ -19,7 +19,7 @@ invariant_of-self c =
       subst (λ (f : Option World). unwrap_or f (apply_all ds home) ≡ apply_all ds home) (sym none) refl,
       λ _. revalued_light c.args.value cs ds c.args.place (c.self.invariant.1 none) r,
       λ e. absurd (true≢false e),
-      rows_as c.self.inside.fork home cs ds (λ n h. (h.0, revalued_near c.args.value cs ds c.args.place home n.object n.name.now n.slot.now n.place r h.1)) c.self.inside.near
+      rows_as c.self.inside.fork home cs ds (λ n h. (h.0, revalued_near c.args.value cs ds c.args.place home n.object n.name.now n.slot.now n.place r h.1, h.2)) c.self.inside.near
           c.self.invariant.3,
       c.self.invariant.4,
     )

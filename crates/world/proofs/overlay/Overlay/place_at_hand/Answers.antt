@@ -1,10 +1,10 @@
-use Rattle.std.proofs.Common.{◌≡◌, ◌∙◌, ℤ, Some, None, true, sym, ap, subst, rules, w32, to_z, of_z}
+use Rattle.std.proofs.Common.{◌≡◌, ◌∙◌, ℤ, Some, true, sym, ap, subst, rules, w32, to_z, of_z}
 use Rattle.std.specs.Prelude.{IfSome}
 use Rattle.spec_value.specs.Datum.{fold_case}
 use Rattle.spec_world.specs.Permissions.{owns_or}
 use Rattle.view.specs.Writing.{MayWrite}
 use Rattle.world.specs.Amended.{Amended, amended_now}
-use Rattle.world.specs.Near.{last_given, IsNear}
+use Rattle.world.specs.Near.{last_given}
 use Rattle.world.proofs.AtHand.{place_near}
 use Rattle.world.proofs.overlay.Overlay.place_at_hand.Goals as goal
 

@@ -1,4 +1,4 @@
-use Rattle.std.proofs.Common.{◌≡◌, ◌∙◌, ℤ, Some, None, option_map, true, sym, ap, subst, rules, w32, to_z, of_z}
+use Rattle.std.proofs.Common.{◌≡◌, ◌∙◌, ℤ, Some, option_map, true, sym, ap, subst, rules, w32, to_z, of_z}
 use Rattle.std.specs.Prelude.{IfSome}
 use Rattle.spec_world.specs.Permissions.{owns_or}
 use Rattle.spec_world.specs.World.{Slot}
@@ -22,7 +22,7 @@ returns-in-Some c =
     (if_mapped (λ v. v.now) (λ x. IsReadBy c.args.programmer c.args.object c.args.name.now x (amended_now a)) c.value_at.result
     (given_near a c.args.object n.object c.args.name.now n.name.now n.slot.now (c.self.invariant.1 near.0) (met.0 ∙ number) met.1 c.args.programmer c.in-Some.place
     (option_map (λ v. v.now) c.value_at.result)
-    (subst (λ m. IsNear c.self.inside.home.now c.self.inside.changes n.object n.name.now n.slot.now m) c.in-Some.is near.1) allowed value))
+    (subst (λ m. IsNear c.self.inside.home.now c.self.inside.changes n.object n.name.now n.slot.now m) c.in-Some.is near.1) allowed value near.2))
 
 pub returns-in-None : goal.returns-in-None
 returns-in-None c =
@@ -39,4 +39,4 @@ returns-in-None c =
     (own_near a c.args.object n.object c.args.name.now n.name.now n.slot.now (c.self.invariant.1 near.0) (met.0 ∙ number) met.1 c.args.programmer
     (option_map (λ v. v.now) c.lent.result)
     (subst (λ m. IsNear c.self.inside.home.now c.self.inside.changes n.object n.name.now n.slot.now m) c.in-None.is near.1) allowed
-    (mapped_if (λ v. v.now) (λ x. n.slot.now.content ≡ Some x) c.lent.result (subst (λ k. IfSome c.lent.result (λ v. k ≡ Some v.now)) content c.lent.ensures))))
+    (mapped_if (λ v. v.now) (λ x. n.slot.now.content ≡ Some x) c.lent.result (subst (λ k. IfSome c.lent.result (λ v. k ≡ Some v.now)) content c.lent.ensures)) near.2))

@@ -5,7 +5,7 @@ use Rattle.std.specs.Char.{to_ascii_lowercase}
 use Rattle.std.proofs.lemmas.Bool.{ne_eqb, eqb-false, or_parts}
 use Rattle.spec_value.specs.Datum.{Text, same_text, fold_case}
 use Rattle.spec_moo.specs.Properties.{property_rows, built_in, row_of}
-use Rattle.rules.specs.BuiltIn.{is_either, is_bit_letter, begins_one}
+use Rattle.view.specs.BuiltIn.{is_either, is_bit_letter, begins_one}
 
 -- the name stands in no row
 abbrev Apart : {X : Type 0} → List (Text × X) → Text → Type 0

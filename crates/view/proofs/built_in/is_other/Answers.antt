@@ -1,9 +1,9 @@
 use Rattle.std.proofs.Common.{◌≡◌, ◌∙◌, Some, false, length, sym, ap, arith}
 use Rattle.std.proofs.lemmas.Option.{slice_get-get_or}
 use Rattle.std.specs.Prelude.{ℕ, slice_get}
-use Rattle.rules.specs.BuiltIn.{is_bit_letter, begins_one}
-use Rattle.rules.proofs.Others.{single, longer, unmet}
-use Rattle.rules.proofs.access.built_in.is_other.Goals as goal
+use Rattle.view.specs.BuiltIn.{is_bit_letter, begins_one}
+use Rattle.view.proofs.Others.{single, longer, unmet}
+use Rattle.view.proofs.built_in.is_other.Goals as goal
 
 pub returns-then-name-eq1 : goal.returns-then-name-eq1
 returns-then-name-eq1 c = λ h.

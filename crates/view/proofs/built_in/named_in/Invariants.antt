@@ -1,8 +1,8 @@
 use Rattle.std.proofs.Common.{◌≡◌, drop, map}
 use Rattle.spec_value.specs.Datum.{fold_case}
 use Rattle.spec_moo.specs.Properties.{row_of}
-use Rattle.rules.specs.BuiltIn.{property_of}
-use Rattle.rules.proofs.access.built_in.named_in.Given as goal
+use Rattle.view.specs.BuiltIn.{property_of}
+use Rattle.view.proofs.built_in.named_in.Given as goal
 
 abbrev pub invariant-loop-word : goal.invariant-loop-word
 invariant-loop-word l =

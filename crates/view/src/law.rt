@@ -177,7 +177,8 @@ pub trait View {
     }
 
     /// The integer that a property's slot on an object holds becomes what an operator gives of it and another one, if the view has the slot at hand, the programmer
-    /// owns it or all may read and write it, no property that every object has hides it, and the operator gives an integer of the two; which one. Else nothing changes. It takes no question. Case is ignored.
+    /// owns it or all may read and write it, no property that every object has hides it, and the operator gives an integer of the two; which one. Else nothing
+    /// changes. It takes no question. Case is ignored.
     #[inline(always)]
     fn update_at_hand(
         &mut self,

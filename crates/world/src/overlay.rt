@@ -160,6 +160,7 @@ impl<'h> Overlay<'h> {
     }
 
     // The slot of a property on an object of the home, if there are both, as it comes to hand or is there.
+    #[tactic(auto, using(crate::proofs::AtHand::near_folded))]
     #[inline(always)]
     fn nearest(&self, object: i32, name: &Text) -> Option<Near<'h>>
         ensures { MatchOption result (slot_at self.now.home object name.now ≡ None)

@@ -25,3 +25,4 @@ pub mod Asked
 pub mod NamedCalls
 pub mod Constants
 pub mod Aside
+pub mod Reckoning

@@ -13,6 +13,7 @@ mod joining;
 pub mod numbers;
 pub mod onward;
 pub mod parts;
+pub mod reckoning;
 mod returning;
 pub mod simple;
 pub mod stopped;

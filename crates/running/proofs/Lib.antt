@@ -8,5 +8,6 @@ pub mod Arguments
 pub mod Steps
 pub mod AskingOn
 pub mod Named
+pub mod Reckoning
 pub mod Replies
 pub mod Aside

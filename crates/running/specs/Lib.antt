@@ -4,3 +4,4 @@ pub mod Parts
 pub mod Asking
 pub mod Calls
 pub mod Aside
+pub mod Reckoning
